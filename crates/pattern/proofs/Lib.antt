@@ -1,0 +1,6 @@
+pub mod Decided
+pub mod Exclusive
+pub mod Forms
+pub mod Once
+pub mod PatternBack
+pub mod Unique

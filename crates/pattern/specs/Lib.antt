@@ -1,0 +1,11 @@
+pub mod Ambiguous
+pub mod Decide
+pub mod Limits
+pub mod Linear
+pub mod Match
+pub mod Pattern
+pub mod Places
+pub mod Read
+pub mod Takes
+pub mod Weight
+pub mod WellFormed

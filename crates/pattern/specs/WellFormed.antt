@@ -1,0 +1,32 @@
+-- WellFormed.
+use mathlib.Core.Path.{_≡_}
+use mathlib.Core.List.{List, [], _∷_}
+use mathlib.Core.Option.{some}
+use Prim.Native.Nat.{ℕ, _<_, _≤_}
+use lib.ListN.{length}
+use Rattle.signature.specs.Signature.{arguments-at, Signature}
+use Rattle.pattern.specs.Limits.{pattern-limit, variable-count}
+use Rattle.pattern.specs.Pattern.{Pattern, Patterns, head, and, or, neg, wild, absurd-pat, var, pnil, pcons, pattern-code}
+
+-- facts about reading
+module _ (sig : Signature) where
+  mutual
+    pub data WellFormed : ℕ → Pattern → Type 0 where
+      well-head : {k c : ℕ} {ks : List ℕ} {ps : Patterns} → c < 256 → arguments-at sig k c ≡ some ks → AllWellFormed ks ps → WellFormed k (head c ps)
+      well-and : {k : ℕ} {p q : Pattern} → WellFormed k p → WellFormed k q → WellFormed k (and p q)
+      well-or : {k : ℕ} {p q : Pattern} → WellFormed k p → WellFormed k q → WellFormed k (or p q)
+      well-not : {k : ℕ} {p : Pattern} → WellFormed k p → WellFormed k (neg p)
+      well-wild : {k : ℕ} → WellFormed k wild
+      well-absurd : {k : ℕ} → WellFormed k absurd-pat
+      well-var : {k x : ℕ} → x < variable-count → WellFormed k (var x)
+
+    pub data AllWellFormed : List ℕ → Patterns → Type 0 where
+      well-nil : AllWellFormed [] pnil
+      well-cons : {k : ℕ} {ks : List ℕ} {p : Pattern} {ps : Patterns} → WellFormed k p → AllWellFormed ks ps → AllWellFormed (k ∷ ks) (pcons p ps)
+
+module _ (sig : Signature) where
+  -- 01, Patterns: what a pattern's words are, said without reading
+  pub record PatternWords (ws : List ℕ) (p : Pattern) : Type 0 where
+    pub well-formed : WellFormed sig 0 p
+    pub is-code : pattern-code p ≡ ws
+    pub at-most : length ws ≤ pattern-limit

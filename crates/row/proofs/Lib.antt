@@ -1,0 +1,9 @@
+pub mod AdmittedFacts
+pub mod Exists
+pub mod OverlapFacts
+pub mod Places
+pub mod RowBinds
+pub mod RowCount
+pub mod RowMeet
+pub mod RowTheorem
+pub mod Symmetric

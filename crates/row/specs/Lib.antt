@@ -1,0 +1,5 @@
+pub mod Admitted
+pub mod Limits
+pub mod Overlap
+pub mod Row
+pub mod RowFits

@@ -1,0 +1,57 @@
+-- RowFits.
+use mathlib.Core.List.{List}
+use mathlib.Core.Option.{Option, none, some}
+use mathlib.Core.Bool.{Bool, _&&_, true, false}
+use Prim.Native.Nat.{ℕ, suc, _+_}
+use lib.Dec.{eqb}
+use Rattle.signature.specs.Lists.{memb, any, _or-else_}
+use Rattle.signature.specs.Value.{Value, con, Values, vnil, vcons, size}
+use Rattle.row.specs.Row.{Row, named, free, Rows, rnil, rcons}
+
+abbrev mutual
+  pub place-count : Row → ℕ
+  place-count (named xs c rs) = suc (places-count rs)
+  place-count (free xs cs) = 1
+
+  pub places-count : Rows → ℕ
+  places-count rnil = 0
+  places-count (rcons r rs) = place-count r + places-count rs
+
+-- a row fits a value
+abbrev mutual
+  pub row-fits : Row → Value → Bool
+  row-fits (named xs c rs) (con d vs) = eqb c d && rows-fit rs vs
+  row-fits (free xs cs) (con d vs) = memb d cs
+
+  pub rows-fit : Rows → Values → Bool
+  rows-fit rnil vnil = true
+  rows-fit rnil (vcons v vs) = false
+  rows-fit (rcons r rs) vnil = false
+  rows-fit (rcons r rs) (vcons v vs) = row-fits r v && rows-fit rs vs
+
+-- a row that is not dropped fits a value
+abbrev pub kept-fits : Option Row → Value → Bool
+kept-fits none v = false
+kept-fits (some r) v = row-fits r v
+
+abbrev pub kept-fit : Option Rows → Values → Bool
+kept-fit none vs = false
+kept-fit (some rs) vs = rows-fit rs vs
+
+-- some row of a list fits
+abbrev pub fits-some : List Row → Value → Bool
+fits-some rs v = any (λ r. row-fits r v) rs
+
+abbrev pub fits-somes : List Rows → Values → Bool
+fits-somes rss vs = any (λ rs. rows-fit rs vs) rss
+
+-- a row binds x at place j, on a value at place i
+abbrev mutual
+  pub row-binds : Row → Value → ℕ → ℕ → ℕ → Bool
+  row-binds (named xs c rs) (con d vs) i x j = (memb x xs && eqb j i) or-else rows-bind rs vs (suc i) x j
+  row-binds (free xs cs) v i x j = memb x xs && eqb j i
+
+  pub rows-bind : Rows → Values → ℕ → ℕ → ℕ → Bool
+  rows-bind rnil vs i x j = false
+  rows-bind (rcons r rs) vnil i x j = false
+  rows-bind (rcons r rs) (vcons v vs) i x j = row-binds r v i x j or-else rows-bind rs vs (i + size v) x j

@@ -1,0 +1,149 @@
+-- Least.
+use mathlib.Core.Path.{_≡_, subst, refl, sym, _∙_, ap}
+use mathlib.Core.List.{List, [], _∷_}
+use mathlib.Core.Option.{some, Option, none}
+use mathlib.Core.Bool.{true, Bool, false}
+use Prim.Native.Nat.{ℕ, _≤_, zero, suc, _+_, min, _<_, _-_}
+use native.Mathlib.Decide.{decLe}
+use native.Mathlib.Nat.{suc-add, add-suc, add-zero, zero-add}
+use native.Mathlib.Omega.{arith}
+use lib.Dec.{leb, leb→le, eqb}
+use lib.ListN.{length}
+use Rattle.signature.specs.Lawful.{OfKind, OfKinds, of-kinds-nil, of-kinds-cons, of-kind, EveryKindSmall}
+use Rattle.signature.specs.Limits.{small-size, over-small, argument-limit}
+use Rattle.signature.specs.Lists.{All, none-left, require, split, also, at, all}
+use Rattle.signature.specs.Read.{read-constructors, total, best, least}
+use Rattle.signature.specs.Signature.{Signature, Constructor, arguments-at}
+use Rattle.signature.specs.Value.{Value, size, Values, sizes, vnil, vcons, con, depth, depths}
+use Rattle.signature.proofs.Heads.{Small, constructor-of}
+use Rattle.signature.proofs.ListFacts.{length-split, at-count-is, at-count, test-at, all-first, all-count-map}
+use Rattle.signature.proofs.Tests.{some-inj, none≢some, bind-some, T-of, require-some, true≢false, leb-yes}
+use Rattle.signature.proofs.Values.{depth-size}
+
+pub few-args : (n : ℕ) (ws : List ℕ) (sig : Signature) → read-constructors n ws ≡ some sig → All (λ c. length (c .args) ≤ argument-limit) sig
+few-args zero [] sig e = subst (λ z. All (λ c. length (c .args) ≤ argument-limit) z) (some-inj [] sig e) none-left
+few-args zero (w ∷ ws) sig e = none≢some e
+few-args (suc n) [] sig e = none≢some e
+few-args (suc n) (k ∷ []) sig e = none≢some e
+few-args (suc n) (k ∷ (m ∷ ws)) sig e =
+    let (u, e₁, f₁) = bind-some (require (leb m argument-limit)) _ sig e in
+    let (r, e₂, f₂) = bind-some (split m ws) _ sig f₁ in
+    let (cs, e₃, f₃) = bind-some (read-constructors n (r .1)) _ sig f₂ in
+    let l : m ≤ argument-limit = leb→le m argument-limit (T-of (leb m argument-limit) (require-some (leb m argument-limit) u e₁)) in
+    let q : length (r .0) ≡ m = length-split m ws r e₂ in
+    let g : length (r .0) ≤ argument-limit = omega arith in
+    subst (λ z. All (λ c. length (c .args) ≤ argument-limit) z) (some-inj (record { kind = k; args = r .0 } ∷ cs) sig f₃) (also (record { kind = k; args = r .0 }) g (few-args n (r .1) cs e₃))
+
+module _ (sig : Signature) where
+  abbrev Value≤ : ℕ → ℕ → Type 0
+  Value≤ k m = (v : Value) × OfKind sig k v × (size v ≤ m)
+
+  abbrev Least≤ : List ℕ → Type 0
+  Least≤ table = (k m : ℕ) → at table k ≡ some m → m ≤ small-size → Value≤ k m
+
+  total-small : (table : List ℕ) → Least≤ table → (js : List ℕ) → total table js ≤ small-size → (vs : Values) × OfKinds sig js vs × (sizes vs ≤ total table js)
+  total-small table f [] l = (vnil, of-kinds-nil, omega arith)
+  total-small table f (j ∷ js) l = go (at table j) refl (total-small table f js)
+    where
+      go : (o : Option ℕ) → at table j ≡ o → (total table js ≤ small-size → (vs : Values) × OfKinds sig js vs × (sizes vs ≤ total table js)) → (vs : Values) × OfKinds sig (j ∷ js) vs × (sizes vs ≤ total table (j ∷ js))
+      go none e g = absurd (let z : over-small ≤ small-size = rw e at l in omega arith)
+      go (some n) e g =
+          let l′ : n + total table js ≤ small-size = rw e at l in
+          let (v, h, a) = f j n e (omega arith) in
+          let (vs, h′, b) = g (omega arith) in
+          rw e (vcons v vs, of-kinds-cons h h′, omega arith)
+
+  -- the constructor by which a kind has its least value
+  abbrev By : List ℕ → ℕ → ℕ → Type 0
+  By table k m = (i : ℕ) × (c : Constructor) × (at sig i ≡ some c) × (eqb (c .kind) k ≡ true) × (suc (total table (c .args)) ≤ m)
+
+  best-by : (table : List ℕ) (k : ℕ) (cs : Signature) (n : ℕ) → ((i : ℕ) (c : Constructor) → at cs i ≡ some c → at sig (n + i) ≡ some c) → best cs table k ≤ small-size → By table k (best cs table k)
+  best-by table k [] n f l = absurd (omega arith)
+  best-by table k (c ∷ cs) n f l = go (eqb (c .kind) k) (decLe (suc (total table (c .args))) (best cs table k)) refl (best-by table k cs (suc n) (λ i d e. rw (suc-add n i, ← add-suc n i) (f (suc i) d e)))
+    where
+      first-one : at sig n ≡ some c
+      first-one = rw (add-zero n) at (f 0 c refl)
+
+      go : (b : Bool) → Dec (suc (total table (c .args)) ≤ best cs table k) → eqb (c .kind) k ≡ b → (best cs table k ≤ small-size → By table k (best cs table k)) → By table k (best (c ∷ cs) table k)
+      go true (yes h) q g = rw q (n, c, first-one, q, omega arith)
+      go true (no h) q g =
+          let l′ : min (suc (total table (c .args))) (best cs table k) ≤ small-size = rw q at l in
+          let (i, d, e, r, a) = g (omega arith) in
+          rw q (i, d, e, r, omega arith)
+      go false z q g = rw q (g (rw q at l))
+
+  value-by : (table : List ℕ) → Least≤ table → (k m : ℕ) → m ≤ small-size → By table k m → Value≤ k m
+  value-by table f k m l (i, c, e, q, a) =
+      let (vs, h, b) = total-small table f (c .args) (omega arith) in
+      let w : arguments-at sig k i ≡ some (c .args) = rw (e, q) in
+      (con i vs, of-kind w h, omega arith)
+
+  pub least-small : (n d : ℕ) → Least≤ (least d sig n)
+  least-small n zero k m e l = absurd (let z : over-small ≡ m = at-count-is (λ j. over-small) 0 n k m e in omega arith)
+  least-small n (suc d) k m e l =
+      let z : min over-small (best sig (least d sig n) k) ≡ m = rw (zero-add k) at (at-count-is (λ j. min over-small (best sig (least d sig n) j)) 0 n k m e) in
+      let (v, h, a) = value-by (least d sig n) (least-small n d) k (best sig (least d sig n) k) (omega arith) (best-by (least d sig n) k sig 0 (λ i c q. rw (zero-add i) q) (omega arith)) in
+      (v, h, omega arith)
+
+  -- every kind has a value of at most 6 words
+  pub kinds-small : (n : ℕ) → all (λ m. leb m small-size) (least small-size sig n) ≡ true → (k : ℕ) → k < n → Small sig k
+  kinds-small n h k l =
+      let e : at (least small-size sig n) k ≡ some (min over-small (best sig (least (small-size - 1) sig n) (0 + k))) = at-count (λ j. min over-small (best sig (least (small-size - 1) sig n) j)) 0 n k l in
+      let m : ℕ = min over-small (best sig (least (small-size - 1) sig n) (0 + k)) in
+      let q : m ≤ small-size = leb→le m small-size (T-of (leb m small-size) (test-at (λ j. leb j small-size) (least small-size sig n) k m h e)) in
+      let (v, g, b) = least-small n small-size k m e q in
+      (v, g, omega arith)
+
+-- the best of a kind is at most what any of its constructors gives
+best-most : (table : List ℕ) (k i : ℕ) (cs : Signature) (d : Constructor) → at cs i ≡ some d → eqb (d .kind) k ≡ true → best cs table k ≤ suc (total table (d .args))
+best-most table k i [] d a q = none≢some a
+best-most table k i (c ∷ cs) d a q = go (eqb (c .kind) k) refl i a (λ j b. best-most table k j cs d b q)
+  where
+    go : (b : Bool) → eqb (c .kind) k ≡ b → (i : ℕ) → at (c ∷ cs) i ≡ some d → ((j : ℕ) → at cs j ≡ some d → best cs table k ≤ suc (total table (d .args))) → best (c ∷ cs) table k ≤ suc (total table (d .args))
+    go true r zero a′ f = rw (r, some-inj c d a′) (omega arith)
+    go true r (suc j) a′ f = rw r (omega (arith, f j a′))
+    go false r zero a′ f = true≢false (sym q ∙ ap (λ x. eqb (x .kind) k) (sym (some-inj c d a′)) ∙ r)
+    go false r (suc j) a′ f = rw r (f j a′)
+
+-- 01, Signature: every kind has a value of at most 6 words, said as existence, and as it is decided
+module _ (sig : Signature) (n : ℕ) where
+  at-least : (d k : ℕ) → k < n → (m : ℕ) × (at (least d sig n) k ≡ some m)
+  at-least zero k l = (over-small, at-count (λ j. over-small) 0 n k l)
+  at-least (suc d) k l = (min over-small (best sig (least d sig n) (0 + k)), at-count (λ j. min over-small (best sig (least d sig n) j)) 0 n k l)
+
+module _ (sig : Signature) (n : ℕ) where
+  module _ (exist : (k c : ℕ) (js : List ℕ) → arguments-at sig k c ≡ some js → All (λ j. j < n) js) where
+    mutual
+      least-most : {k : ℕ} {v : Value} → OfKind sig k v → (d : ℕ) → k < n → depth v ≤ d → (m : ℕ) → at (least d sig n) k ≡ some m → m ≤ size v
+      least-most (of-kind e h) zero l g m a = absurd (omega arith)
+      least-most (of-kind {k = k} {c = c} {ks = js} {vs = vs} e h) (suc d) l g m a =
+          let (b, e₁, q, z) = constructor-of sig k c js e in
+          let r : at (least (suc d) sig n) k ≡ some (min over-small (best sig (least d sig n) (0 + k))) = at-count (λ j. min over-small (best sig (least d sig n) j)) 0 n k l in
+          let w : min over-small (best sig (least d sig n) k) ≡ m = rw (zero-add k) at (some-inj (min over-small (best sig (least d sig n) (0 + k))) m (sym r ∙ a)) in
+          let x : best sig (least d sig n) k ≤ suc (total (least d sig n) (b .args)) = best-most (least d sig n) k c sig b e₁ q in
+          let y : total (least d sig n) js ≤ sizes vs = total-most h d (exist k c js e) (omega arith) in
+          let y′ : total (least d sig n) (b .args) ≤ sizes vs = rw z y in
+          omega arith
+
+      total-most : {js : List ℕ} {vs : Values} → OfKinds sig js vs → (d : ℕ) → All (λ j. j < n) js → depths vs ≤ d → total (least d sig n) js ≤ sizes vs
+      total-most of-kinds-nil d ls g = omega arith
+      total-most (of-kinds-cons {k = j} {v = v} {vs = vs} h hs) d ls g =
+          let (l, ls′) = all-first ls in
+          let (m, a) = at-least sig n d j l in
+          let x : m ≤ size v = least-most h d l (omega arith) m a in
+          let y = total-most hs d ls′ (omega arith) in
+          rw a (omega arith)
+
+    pub small-least : EveryKindSmall sig n → all (λ m. leb m small-size) (least small-size sig n) ≡ true
+    small-least h = all-count-map (λ m. leb m small-size) (λ k. min over-small (best sig (least (small-size - 1) sig n) k)) 0 n each-one
+      where
+        each-one : (j : ℕ) → j < n → leb (min over-small (best sig (least (small-size - 1) sig n) (0 + j))) small-size ≡ true
+        each-one j l =
+            let (v, a, b) = h j l in
+            let x : min over-small (best sig (least (small-size - 1) sig n) (0 + j)) ≤ size v = least-most a small-size l (omega (arith, depth-size v)) (min over-small (best sig (least (small-size - 1) sig n) (0 + j))) (at-count (λ k. min over-small (best sig (least (small-size - 1) sig n) k)) 0 n j l) in
+            leb-yes (min over-small (best sig (least (small-size - 1) sig n) (0 + j))) small-size (omega arith)
+
+-- 01, Signature: every kind has a value of at most 6 words, said as existence, and as it is decided
+module _ (sig : Signature) (n : ℕ) where
+  pub least-exists : all (λ m. leb m small-size) (least small-size sig n) ≡ true → EveryKindSmall sig n
+  least-exists h k l = kinds-small sig n h k l

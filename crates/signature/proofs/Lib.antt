@@ -1,0 +1,10 @@
+pub mod Booleans
+pub mod Heads
+pub mod LawfulFacts
+pub mod Least
+pub mod ListFacts
+pub mod Members
+pub mod PartFacts
+pub mod SignatureBack
+pub mod Tests
+pub mod Values

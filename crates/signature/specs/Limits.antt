@@ -1,0 +1,34 @@
+-- The limits of signatures and bookings.
+use Prim.Native.Nat.{ℕ, suc}
+
+-- "the constructor count n (1 to 256)"
+abbrev pub constructor-limit : ℕ
+constructor-limit = 256
+
+-- "its number of arguments (0 to 4)"
+abbrev pub argument-limit : ℕ
+argument-limit = 4
+
+-- "at most 32 kinds"
+abbrev pub kind-limit : ℕ
+kind-limit = 32
+
+-- "at most 64 constructors a kind"
+abbrev pub heads-limit : ℕ
+heads-limit = 64
+
+-- "Every kind has a value of at most 6 words"
+abbrev pub small-size : ℕ
+small-size = 6
+
+-- what stands for the size of a kind that has no such value
+abbrev pub over-small : ℕ
+over-small = suc small-size
+
+-- "A lawful booking is one value of kind 0, 1 to 4,096 words"
+abbrev pub booking-limit : ℕ
+booking-limit = 4096
+
+-- "nested at most 256 deep"
+abbrev pub depth-limit : ℕ
+depth-limit = 256

@@ -1,0 +1,92 @@
+-- Lists.
+use mathlib.Core.List.{List, [], _∷_, _++_}
+use mathlib.Core.Option.{Option, none, some}
+use mathlib.Core.Bool.{Bool, true, false, _&&_, cond}
+use Prim.Native.Nat.{ℕ, zero, suc}
+use lib.Dec.{eqb}
+
+infixl 20 _>>=_
+abbrev pub _>>=_ : {A B : Type 0} → Option A → (A → Option B) → Option B
+none >>= f = none
+some a >>= f = f a
+
+-- `require b` goes on only where the test b passes
+abbrev pub require : Bool → Option (Unit {0})
+require true = some tt
+require false = none
+
+infixl 30 _or-else_
+abbrev pub _or-else_ : Bool → Bool → Bool
+true or-else b = true
+false or-else b = b
+
+abbrev pub memb : ℕ → List ℕ → Bool
+memb x [] = false
+memb x (y ∷ ys) = eqb x y or-else memb x ys
+
+module _ {A : Type 0} where
+  abbrev pub all : (A → Bool) → List A → Bool
+  all f [] = true
+  all f (x ∷ xs) = f x && all f xs
+
+  abbrev pub any : (A → Bool) → List A → Bool
+  any f [] = false
+  any f (x ∷ xs) = f x or-else any f xs
+
+  abbrev pub at : List A → ℕ → Option A
+  at [] i = none
+  at (x ∷ xs) zero = some x
+  at (x ∷ xs) (suc i) = at xs i
+
+  -- the first n elements and the others, where there are n
+  abbrev pub split : ℕ → List A → Option (List A × List A)
+  split zero xs = some ([], xs)
+  split (suc n) [] = none
+  split (suc n) (x ∷ xs) = split n xs >>= λ r. some (x ∷ r .0, r .1)
+
+abbrev pub is-some : {A : Type 0} → Option A → Bool
+is-some none = false
+is-some (some a) = true
+
+abbrev pub is-empty : {A : Type 0} → List A → Bool
+is-empty [] = true
+is-empty (x ∷ xs) = false
+
+abbrev pub concat : {A : Type 0} → List (List A) → List A
+concat [] = []
+concat (xs ∷ xss) = xs ++ concat xss
+
+-- those that are there
+abbrev pub somes : {A : Type 0} → List (Option A) → List A
+somes [] = []
+somes (none ∷ os) = somes os
+somes (some a ∷ os) = a ∷ somes os
+
+abbrev pub keep : {A : Type 0} → (A → Bool) → List A → List A
+keep f [] = []
+keep f (x ∷ xs) = cond (f x) (x ∷ keep f xs) (keep f xs)
+
+-- 0, 1, .. n - 1
+abbrev pub count-up : ℕ → ℕ → List ℕ
+count-up i zero = []
+count-up i (suc n) = i ∷ count-up (suc i) n
+
+abbrev pub whole : {A : Type 0} → A × List ℕ → Option A
+whole r = elim (r .1) [ [] ↦ some (r .0) | w ∷ ws ↦ none ]
+
+abbrev pub first : List ℕ → ℕ
+first [] = 0
+first (c ∷ cs) = c
+
+pub data All {A : Type 0} (P : A → Type 0) : List A → Type 0 where
+  none-left : All P []
+  also : (x : A) {xs : List A} → P x → All P xs → All P (x ∷ xs)
+
+-- one of a list
+pub data In {A : Type 0} (x : A) : List A → Type 0 where
+  in-here : {xs : List A} → In x (x ∷ xs)
+  in-there : {y : A} {xs : List A} → In x xs → In x (y ∷ xs)
+
+-- both ways
+abbrev pub Iff : Type 0 → Type 0 → Type 0
+Iff A B = (A → B) × (B → A)

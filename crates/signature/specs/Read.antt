@@ -1,0 +1,92 @@
+-- Read.
+use mathlib.Core.Path.{_≡_}
+use mathlib.Core.List.{List, [], _∷_, map}
+use mathlib.Core.Option.{Option, some, none}
+use mathlib.Core.Bool.{cond, Bool, false, _&&_}
+use Prim.Native.Nat.{ℕ, zero, suc, _+_, min}
+use lib.Dec.{leb, eqb, ltb}
+use lib.ListN.{length}
+use Rattle.signature.specs.Limits.{booking-limit, depth-limit, constructor-limit, kind-limit, heads-limit, small-size, over-small, argument-limit}
+use Rattle.signature.specs.Lists.{_>>=_, require, split, at, count-up, all, whole}
+use Rattle.signature.specs.Signature.{Signature, heads, arguments-at}
+use Rattle.signature.specs.Value.{Value, Values, vnil, vcons, con}
+
+-- n constructors, and nothing behind them
+abbrev pub read-constructors : ℕ → List ℕ → Option Signature
+read-constructors zero [] = some []
+read-constructors zero (w ∷ ws) = none
+read-constructors (suc n) [] = none
+read-constructors (suc n) (k ∷ []) = none
+read-constructors (suc n) (k ∷ (m ∷ ws)) = do
+  _ ← require (leb m argument-limit)
+  r ← split m ws
+  cs ← read-constructors n (r .1)
+  some (record { kind = k; args = r .0 } ∷ cs)
+
+-- kinds start at 0, each equal to the previous or one more: the count of kinds, from the last kind seen
+abbrev pub kinds-from : ℕ → Signature → Option ℕ
+kinds-from k [] = some (suc k)
+kinds-from k (c ∷ cs) = cond (eqb (c .kind) k) (kinds-from k cs) (require (eqb (c .kind) (suc k)) >>= λ u. kinds-from (suc k) cs)
+
+abbrev pub count-kinds : Signature → Option ℕ
+count-kinds [] = none
+count-kinds (c ∷ cs) = require (eqb (c .kind) 0) >>= λ u. kinds-from 0 cs
+
+-- the fewest words of a value of each kind, 7 for none of at most 6; a value nested at most d deep counts
+abbrev pub with-arg : Option ℕ → ℕ → ℕ
+with-arg none t = over-small
+with-arg (some n) t = n + t
+
+abbrev pub total : List ℕ → List ℕ → ℕ
+total least [] = 0
+total least (k ∷ ks) = with-arg (at least k) (total least ks)
+
+abbrev pub best : Signature → List ℕ → ℕ → ℕ
+best [] least k = over-small
+best (c ∷ cs) least k = cond (eqb (c .kind) k) (min (suc (total least (c .args))) (best cs least k)) (best cs least k)
+
+abbrev pub least : ℕ → Signature → ℕ → List ℕ
+least zero sig n = map (λ k. over-small) (count-up 0 n)
+least (suc d) sig n = let before = least d sig n in map (λ k. min over-small (best sig before k)) (count-up 0 n)
+
+abbrev pub lawful-kinds : Signature → Option ℕ → Bool
+lawful-kinds sig none = false
+lawful-kinds sig (some n) = leb 1 (length sig) && leb (length sig) constructor-limit && leb n kind-limit && all (λ k. leb (length (heads sig k)) heads-limit) (count-up 0 n) && all (λ c. all (λ k. ltb k n) (c .args)) sig && all (λ m. leb m small-size) (least small-size sig n)
+
+abbrev pub lawful : Signature → Bool
+lawful sig = lawful-kinds sig (count-kinds sig)
+
+-- the signature that the words are, if they are a lawful one
+abbrev pub read-signature : List ℕ → Option Signature
+read-signature [] = none
+read-signature (n ∷ ws) = do
+  sig ← read-constructors n ws
+  _ ← require (lawful sig)
+  some sig
+
+-- one value for each kind, by a reader of one value
+abbrev pub read-values : (ℕ → List ℕ → Option (Value × List ℕ)) → List ℕ → List ℕ → Option (Values × List ℕ)
+read-values one [] ws = some (vnil, ws)
+read-values one (k ∷ ks) ws = do
+  r ← one k ws
+  s ← read-values one ks (r .1)
+  some (vcons (r .0) (s .0), s .1)
+
+-- a value of kind k nested at most d deep at the start of the words, and the words behind it
+abbrev pub read-value : Signature → ℕ → ℕ → List ℕ → Option (Value × List ℕ)
+read-value sig zero k ws = none
+read-value sig (suc d) k [] = none
+read-value sig (suc d) k (c ∷ ws) = do
+  ks ← arguments-at sig k c
+  r ← read-values (λ j us. read-value sig d j us) ks ws
+  some (con c (r .0), r .1)
+
+abbrev pub read-booking : Signature → List ℕ → Option Value
+read-booking sig ws = do
+  _ ← require (leb (length ws) booking-limit)
+  r ← read-value sig depth-limit 0 ws
+  whole r
+
+-- sig is what some words say, and lawful
+abbrev pub Signed : Signature → Type 0
+Signed sig = (ws : List ℕ) × (read-signature ws ≡ some sig)

@@ -1,0 +1,9 @@
+pub mod CallFacts
+pub mod Demand2Facts
+pub mod Demand3Facts
+pub mod RunDirect
+pub mod SameTrees
+pub mod SoundFacts
+pub mod TableFacts
+pub mod TreeCompiled
+pub mod TreeLeaves

@@ -1,0 +1,139 @@
+-- Calls.
+use mathlib.Core.Path.{_≡_}
+use mathlib.Core.List.{List, [], _++_}
+use mathlib.Core.Option.{Option, none, some}
+use mathlib.Core.Bool.{Bool, cond, _&&_}
+use Prim.Native.Nat.{ℕ, _<_}
+use lib.Dec.{leb, eqb, ltb}
+use lib.ListN.{length, drop}
+use Rattle.signature.specs.Lists.{In, _or-else_}
+use Rattle.signature.specs.Read.{read-signature, read-booking}
+use Rattle.signature.specs.Signature.{Signature}
+use Rattle.signature.specs.Value.{Value}
+use Rattle.pattern.specs.Match.{Binds}
+use Rattle.pattern.specs.Takes.{Takes}
+use Rattle.row.specs.Overlap.{SharesBooking}
+use Rattle.tree.specs.Answer.{Answer}
+use Rattle.tree.specs.Limits.{tree-limit, default-plan}
+use Rattle.tree.specs.RunCall.{refusal}
+use Rattle.table.specs.Decide.{direct}
+use Rattle.table.specs.Limits.{table-length, witness-length}
+use Rattle.table.specs.Matrix.{tree-words}
+use Rattle.table.specs.Refusals.{entry-refusal, withdrawal-refusal}
+use Rattle.table.specs.Rule.{Rule, stored, add-rule, take-out}
+use Rattle.table.specs.Sound.{sound}
+
+-- 01, refusals 1 to 3, in their order: the first that applies, or the signature and the rules in force
+pub data Start : Type 0 where
+  refused : ℕ → Start
+  begin : Signature → List Rule → Start
+
+-- 3: the table is not sound
+abbrev pub on-sound : Signature → Option (List Rule) → Start
+on-sound sig none = refused 3
+on-sound sig (some rs) = begin sig rs
+
+-- 1: the signature is unlawful; 2: a lent table or witness buffer is too short
+abbrev pub on-signature : Option Signature → Bool → List ℕ → Start
+on-signature none long table = refused 1
+on-signature (some sig) long table = cond long (on-sound sig (sound sig table)) (refused 2)
+
+abbrev pub start : List ℕ → Bool → List ℕ → Start
+start ss long table = on-signature (read-signature ss) long table
+
+-- 2: at least 4,289 words of table
+abbrev pub long-table : List ℕ → Bool
+long-table table = leb table-length (length table)
+
+-- 2: at least 4,096 words of witness buffer
+abbrev pub long-witness : List ℕ → Bool
+long-witness witness = leb witness-length (length witness)
+
+-- empty: 2; on success the rule count 0 and zeros up to 4,289, the rest untouched
+pub record Empty (before : List ℕ) (number : ℕ) (after : List ℕ) : Type 0 where
+  pub number-is : number ≡ cond (long-table before) 0 2
+  pub table-is : after ≡ cond (long-table before) (stored [] before) before
+
+-- enter: 1 to 5 and 7 to 12. Its number, the number of the rule that shares a booking, and that booking's length
+pub record Entered : Type 0 where
+  pub number : ℕ
+  pub sharer : ℕ
+  pub shown : ℕ
+
+abbrev pub enter-number : Start → ℕ → List ℕ → ℕ
+enter-number (refused m) n ws = m
+enter-number (begin sig rs) n ws = entry-refusal sig n ws rs
+
+abbrev pub enter-table : Start → ℕ → ℕ → List ℕ → List ℕ → List ℕ
+enter-table (refused m) n plan ws before = before
+enter-table (begin sig rs) n plan ws before = cond (eqb (entry-refusal sig n ws rs) 0) (stored (add-rule (record { number = n; plan = plan; pattern = ws }) rs) before) before
+
+-- 12: the lowest such number and the booking's length are returned, the booking is written first in the witness buffer, the rest untouched.
+-- Which shared booking is open: it is lawful and taken by both
+pub record Shows (sig : Signature) (rs : List Rule) (ws : List ℕ) (witness : List ℕ) (e : Entered) (witness′ : List ℕ) : Type 0 where
+  pub rule : Rule
+  pub held : In rule rs
+  pub named : e .sharer ≡ rule .number
+  pub lowest : (s : Rule) → In s rs → s .number < rule .number → SharesBooking sig ws (s .pattern) → ⊥
+  pub booking : List ℕ
+  pub binds : Binds
+  pub binds′ : Binds
+  pub taken : Takes sig ws booking binds
+  pub taken′ : Takes sig (rule .pattern) booking binds′
+  pub length-is : e .shown ≡ length booking
+  pub witness-is : witness′ ≡ booking ++ drop (length booking) witness
+
+abbrev pub enter-start : List ℕ → List ℕ → List ℕ → Start
+enter-start ss before witness = start ss (long-table before && long-witness witness) before
+
+pub record Enter (ss : List ℕ) (n plan : ℕ) (ws before witness : List ℕ) (e : Entered) (after witness′ : List ℕ) : Type 0 where
+  pub number-is : e .number ≡ enter-number (enter-start ss before witness) n ws
+  pub table-is : after ≡ enter-table (enter-start ss before witness) n plan ws before
+  pub not-12 : (e .number ≡ 12 → ⊥) → (e .sharer ≡ 0) × (e .shown ≡ 0) × (witness′ ≡ witness)
+  pub on-12 : (sig : Signature) (rs : List Rule) → enter-start ss before witness ≡ begin sig rs → e .number ≡ 12 → Shows sig rs ws witness e witness′
+
+-- withdraw: 1 to 4 and 6
+abbrev pub withdraw-number : Start → ℕ → ℕ
+withdraw-number (refused m) n = m
+withdraw-number (begin sig rs) n = withdrawal-refusal n rs
+
+abbrev pub withdraw-table : Start → ℕ → List ℕ → List ℕ
+withdraw-table (refused m) n before = before
+withdraw-table (begin sig rs) n before = cond (eqb (withdrawal-refusal n rs) 0) (stored (take-out n rs) before) before
+
+pub record Withdraw (ss : List ℕ) (n : ℕ) (before : List ℕ) (number : ℕ) (after : List ℕ) : Type 0 where
+  pub number-is : number ≡ withdraw-number (start ss (long-table before) before) n
+  pub table-is : after ≡ withdraw-table (start ss (long-table before) before) n before
+
+-- compile: 1 to 3 and 14. Its number, the tree's length in words, and the lent space, whose other words stay untouched
+abbrev pub too-large : List ℕ → List ℕ → Bool
+too-large tree space = ltb (length space) (length tree) or-else ltb tree-limit (length tree)
+
+abbrev pub compile-number : Start → List ℕ → ℕ
+compile-number (refused m) space = m
+compile-number (begin sig rs) space = cond (too-large (tree-words default-plan sig rs) space) 14 0
+
+abbrev pub compile-length : Start → List ℕ → ℕ
+compile-length (refused m) space = 0
+compile-length (begin sig rs) space = cond (too-large (tree-words default-plan sig rs) space) 0 (length (tree-words default-plan sig rs))
+
+abbrev pub compile-space : Start → List ℕ → List ℕ
+compile-space (refused m) space = space
+compile-space (begin sig rs) space = cond (too-large (tree-words default-plan sig rs) space) space (tree-words default-plan sig rs ++ drop (length (tree-words default-plan sig rs)) space)
+
+pub record Compile (ss table space : List ℕ) (number len : ℕ) (space′ : List ℕ) : Type 0 where
+  pub number-is : number ≡ compile-number (start ss (long-table table) table) space
+  pub length-is : len ≡ compile-length (start ss (long-table table) table) space
+  pub space-is : space′ ≡ compile-space (start ss (long-table table) table) space
+
+-- decide: 1 to 3 and 13
+abbrev pub decide-booking : Signature → List Rule → Option Value → ℕ × Answer
+decide-booking sig rs none = refusal 13
+decide-booking sig rs (some v) = (0, direct default-plan sig rs v)
+
+abbrev pub decide-from : Start → List ℕ → ℕ × Answer
+decide-from (refused m) bs = refusal m
+decide-from (begin sig rs) bs = decide-booking sig rs (read-booking sig bs)
+
+pub record DecideCall (ss table bs : List ℕ) (number : ℕ) (a : Answer) : Type 0 where
+  pub result-is : (number, a) ≡ decide-from (start ss (long-table table) table) bs

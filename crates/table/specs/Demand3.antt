@@ -1,0 +1,70 @@
+-- Demand3.
+use mathlib.Core.Path.{_≡_}
+use mathlib.Core.List.{List, [], _++_}
+use mathlib.Core.Option.{some}
+use mathlib.Core.Bool.{false}
+use Prim.Native.Nat.{ℕ, _≤_, _<_, _+_}
+use lib.ListN.{length, take, drop}
+use Rattle.signature.specs.Lists.{In, All}
+use Rattle.signature.specs.Read.{read-booking}
+use Rattle.signature.specs.Signature.{Signature}
+use Rattle.signature.specs.Value.{Value}
+use Rattle.pattern.specs.Weight.{weight}
+use Rattle.row.specs.Admitted.{refusal-of-pattern}
+use Rattle.row.specs.Overlap.{SharesBooking}
+use Rattle.tree.specs.Answer.{Answer}
+use Rattle.tree.specs.Limits.{last-number, tree-limit, default-plan}
+use Rattle.tree.specs.RunCall.{RunCall}
+use Rattle.table.specs.Calls.{Entered, Enter, Compile, DecideCall, Empty}
+use Rattle.table.specs.Decide.{Answered}
+use Rattle.table.specs.Limits.{table-length, witness-length, weight-limit, rule-limit}
+use Rattle.table.specs.ListsOfCalls.{ListCall, numbers-reckoned, rules-left, Calls}
+use Rattle.table.specs.Matrix.{tree-words}
+use Rattle.table.specs.Rule.{Rule, held, total-weight, table-words, SameRules}
+use Rattle.table.specs.Sound.{sound}
+
+-- the checks of an entry before 12
+pub record Earlier (sig : Signature) (n : ℕ) (ws witness : List ℕ) (rs : List Rule) : Type 0 where
+  pub witness-long : witness-length ≤ length witness
+  pub low : 1 ≤ n
+  pub high : n ≤ last-number
+  pub new : held n rs ≡ false
+  pub good : refusal-of-pattern sig ws ≡ 0
+  pub room : length rs < rule-limit
+  pub light : weight sig ws + total-weight sig rs ≤ weight-limit
+
+-- a rule in force and a lawful booking that it and the pattern both take
+pub record SharesHeld (sig : Signature) (ws : List ℕ) (rs : List Rule) : Type 0 where
+  pub rule : Rule
+  pub held : In rule rs
+  pub shared : SharesBooking sig ws (rule .pattern)
+
+-- what a list of calls from a table just emptied gives and leaves
+pub record AfterList (ss : List ℕ) (sig : Signature) (lent : List ℕ) (cs : List ListCall) (ns last : List ℕ) : Type 0 where
+  -- "Every call of a list gives the number so reckoned, never 3"
+  pub numbers-are : ns ≡ numbers-reckoned sig cs []
+  pub never-3 : All (λ n. n ≡ 3 → ⊥) ns
+  -- "after every list the table holds exactly the rules left"; the words behind 4,289 are untouched
+  pub table-is : take table-length last ≡ table-words (rules-left sig cs [])
+  pub rest-is : drop table-length last ≡ drop table-length lent
+  pub in-force : sound sig last ≡ some (rules-left sig cs [])
+  -- an entry next gives 12 exactly where the earlier checks pass and a lawful booking is shared with a rule in force
+  pub twelve : (n plan : ℕ) (ws witness after witness′ : List ℕ) (e : Entered) → Enter ss n plan ws last witness e after witness′ → e .number ≡ 12 → Earlier sig n ws witness (rules-left sig cs []) × SharesHeld sig ws (rules-left sig cs [])
+  pub twelve-if : (n plan : ℕ) (ws witness after witness′ : List ℕ) (e : Entered) → Enter ss n plan ws last witness e after witness′ → Earlier sig n ws witness (rules-left sig cs []) → SharesHeld sig ws (rules-left sig cs []) → e .number ≡ 12
+  -- compile gives 0, or 14 exactly where the tree exceeds the lent slice or 32,768 words
+  pub compiles : (space space′ : List ℕ) (number len : ℕ) → Compile ss last space number len space′ → length (tree-words default-plan sig (rules-left sig cs [])) ≤ length space → length (tree-words default-plan sig (rules-left sig cs [])) ≤ tree-limit → number ≡ 0
+  -- "A run of a lawful booking over a tree compiled after a list gives 0, and answers by the rules that this list left"
+  pub runs : (space space′ behind bs : List ℕ) (len number : ℕ) (v : Value) (a : Answer) → Compile ss last space 0 len space′ → read-booking sig bs ≡ some v → RunCall ss (take len space′ ++ behind) bs number a → (number ≡ 0) × Answered default-plan sig (rules-left sig cs []) bs a
+  -- deciding from the table answers so too
+  pub decides : (bs : List ℕ) (number : ℕ) (v : Value) (a : Answer) → read-booking sig bs ≡ some v → DecideCall ss last bs number a → (number ≡ 0) × Answered default-plan sig (rules-left sig cs []) bs a
+
+-- what two lists give and leave
+pub record AfterBoth (ss : List ℕ) (sig : Signature) (lent lent′ : List ℕ) (cs ds : List ListCall) (ns ms last last′ : List ℕ) : Type 0 where
+  pub one : AfterList ss sig lent cs ns last
+  pub other : AfterList ss sig lent′ ds ms last′
+  pub same-table : SameRules (rules-left sig cs []) (rules-left sig ds []) → take table-length last ≡ take table-length last′
+  -- "into spaces of equal length, the same number and, on 0, the same length and that many equal words"
+  pub same-tree : SameRules (rules-left sig cs []) (rules-left sig ds []) → (space space′ out out′ : List ℕ) (n n′ len len′ : ℕ) → length space ≡ length space′ → Compile ss last space n len out → Compile ss last′ space′ n′ len′ out′ → (n ≡ n′) × (len ≡ len′) × (n ≡ 0 → take len out ≡ take len′ out′)
+
+abbrev pub Demand3 : List ℕ → Signature → Type 0
+Demand3 ss sig = (cs ds : List ListCall) (lent lent′ emptied emptied′ last last′ ns ms : List ℕ) → Empty lent 0 emptied → Empty lent′ 0 emptied′ → Calls ss emptied cs ns last → Calls ss emptied′ ds ms last′ → AfterBoth ss sig lent lent′ cs ds ns ms last last′

@@ -1,0 +1,9 @@
+pub mod Calls
+pub mod Decide
+pub mod Demand3
+pub mod Limits
+pub mod ListsOfCalls
+pub mod Matrix
+pub mod Refusals
+pub mod Rule
+pub mod Sound

@@ -1,0 +1,42 @@
+-- ListsOfCalls.
+use mathlib.Core.List.{List, [], _∷_}
+use mathlib.Core.Bool.{cond}
+use Prim.Native.Nat.{ℕ}
+use lib.Dec.{eqb}
+use Rattle.signature.specs.Signature.{Signature}
+use Rattle.table.specs.Calls.{Entered, Enter, Withdraw, long-witness}
+use Rattle.table.specs.Refusals.{entry-refusal, withdrawal-refusal}
+use Rattle.table.specs.Rule.{Rule, add-rule, take-out}
+
+-- 01, Table: a list has entries and withdrawals, any number in any order; an entry's arguments are its rule number, plan, pattern words and witness buffer
+pub data ListCall : Type 0 where
+  enter : ℕ → ℕ → List ℕ → List ℕ → ListCall
+  withdraw : ℕ → ListCall
+
+-- "Each call gets the table as the last one left it": from a table through the calls, giving these numbers, to a table
+pub data Calls (ss : List ℕ) : List ℕ → List ListCall → List ℕ → List ℕ → Type 0 where
+  no-call : {table : List ℕ} → Calls ss table [] [] table
+  then-enter : {n plan : ℕ} {ws before witness after witness′ last : List ℕ} {e : Entered} {cs : List ListCall} {ns : List ℕ} → Enter ss n plan ws before witness e after witness′ → Calls ss after cs ns last → Calls ss before (enter n plan ws witness ∷ cs) (e .number ∷ ns) last
+  then-withdraw : {n number : ℕ} {before after last : List ℕ} {cs : List ListCall} {ns : List ℕ} → Withdraw ss n before number after → Calls ss after cs ns last → Calls ss before (withdraw n ∷ cs) (number ∷ ns) last
+
+-- the reckoning, from the calls' arguments: "if one of its refusals other than 3 applies .. the number reckoned is the first of these .. Otherwise it is 0"
+abbrev pub reckon-number : Signature → ListCall → List Rule → ℕ
+reckon-number sig (enter n plan ws witness) rs = cond (long-witness witness) (entry-refusal sig n ws rs) 2
+reckon-number sig (withdraw n) rs = withdrawal-refusal n rs
+
+-- "the call's rule number, plan and pattern are added as a rule"; "the held rule with the call's rule number is taken out"
+abbrev pub changed : ListCall → List Rule → List Rule
+changed (enter n plan ws witness) rs = add-rule (record { number = n; plan = plan; pattern = ws }) rs
+changed (withdraw n) rs = take-out n rs
+
+abbrev pub reckon-rules : Signature → ListCall → List Rule → List Rule
+reckon-rules sig c rs = cond (eqb (reckon-number sig c rs) 0) (changed c rs) rs
+
+-- "At the start no rule is held": the rules that a list leaves, and the numbers reckoned
+abbrev pub rules-left : Signature → List ListCall → List Rule → List Rule
+rules-left sig [] rs = rs
+rules-left sig (c ∷ cs) rs = rules-left sig cs (reckon-rules sig c rs)
+
+abbrev pub numbers-reckoned : Signature → List ListCall → List Rule → List ℕ
+numbers-reckoned sig [] rs = []
+numbers-reckoned sig (c ∷ cs) rs = reckon-number sig c rs ∷ numbers-reckoned sig cs (reckon-rules sig c rs)

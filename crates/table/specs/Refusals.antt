@@ -1,0 +1,32 @@
+-- Refusals.
+use mathlib.Core.List.{List, [], _∷_}
+use mathlib.Core.Bool.{cond, not, _&&_}
+use Prim.Native.Nat.{ℕ, _+_}
+use lib.Dec.{leb, eqb, ltb}
+use lib.ListN.{length}
+use Rattle.signature.specs.Lists.{_or-else_, any}
+use Rattle.signature.specs.Signature.{Signature}
+use Rattle.pattern.specs.Weight.{weight}
+use Rattle.row.specs.Admitted.{refusal-of-pattern}
+use Rattle.row.specs.Overlap.{shares}
+use Rattle.tree.specs.Limits.{last-number}
+use Rattle.table.specs.Limits.{weight-limit, rule-limit}
+use Rattle.table.specs.Rule.{Rule, held, total-weight}
+
+-- the refusals of an entry other than 1, 2 and 3, in their order; 0 for none
+abbrev pub entry-refusal : Signature → ℕ → List ℕ → List Rule → ℕ
+entry-refusal sig n ws rs =
+    cond (not (leb 1 n && leb n last-number)) 4
+    (cond (held n rs) 5
+    (let q = refusal-of-pattern sig ws in
+    cond (not (eqb q 0)) q
+    (cond (leb rule-limit (length rs) or-else ltb weight-limit (weight sig ws + total-weight sig rs)) 11
+    (cond (any (λ r. shares sig ws (r .pattern)) rs) 12 0))))
+
+-- the lowest number of a held rule that shares a booking
+abbrev pub sharer : Signature → List ℕ → List Rule → ℕ
+sharer sig ws [] = 0
+sharer sig ws (r ∷ rs) = cond (shares sig ws (r .pattern)) (r .number) (sharer sig ws rs)
+
+abbrev pub withdrawal-refusal : ℕ → List Rule → ℕ
+withdrawal-refusal n rs = cond (not (leb 1 n && leb n last-number)) 4 (cond (not (held n rs)) 6 0)

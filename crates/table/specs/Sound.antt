@@ -1,0 +1,56 @@
+-- Sound.
+use mathlib.Core.Path.{_≡_}
+use mathlib.Core.List.{List, [], _∷_}
+use mathlib.Core.Option.{Option, some, none}
+use mathlib.Core.Bool.{_&&_, Bool, true, not}
+use Prim.Native.Nat.{ℕ, zero, suc, _≤_}
+use lib.Dec.{eqb, ltb, leb}
+use lib.ListN.{length, take}
+use Rattle.signature.specs.Lists.{require, all, _>>=_, split, In}
+use Rattle.signature.specs.Signature.{Signature}
+use Rattle.row.specs.Admitted.{refusal-of-pattern, Passed}
+use Rattle.row.specs.Overlap.{shares, SharesBooking}
+use Rattle.tree.specs.Limits.{last-number}
+use Rattle.table.specs.Limits.{table-length, rules-length, weight-limit, rule-limit}
+use Rattle.table.specs.Rule.{Rule, total-weight, table-words, Rises}
+
+-- the table's rules, read back: n rules, the last number seen being m
+abbrev pub read-rules : ℕ → ℕ → List ℕ → Option (List Rule)
+read-rules zero m ws = require (all (λ w. eqb w 0) ws) >>= λ u. some []
+read-rules (suc n) m [] = none
+read-rules (suc n) m (a ∷ []) = none
+read-rules (suc n) m (a ∷ (b ∷ [])) = none
+read-rules (suc n) m (a ∷ (b ∷ (l ∷ ws))) = do
+  _ ← require (ltb m a && leb a last-number)
+  s ← split l ws
+  rs ← read-rules n a (s .1)
+  some (record { number = a; plan = b; pattern = s .0 } ∷ rs)
+
+abbrev pub no-shared : Signature → List Rule → Bool
+no-shared sig [] = true
+no-shared sig (r ∷ rs) = all (λ s. not (shares sig (r .pattern) (s .pattern))) rs && no-shared sig rs
+
+-- the rules of a sound table
+abbrev pub sound : Signature → List ℕ → Option (List Rule)
+sound sig [] = none
+sound sig (n ∷ ws) = do
+  _ ← require (leb rules-length (length ws) && leb n rule-limit)
+  rs ← read-rules n 0 (take rules-length ws)
+  _ ← require (all (λ r. eqb (refusal-of-pattern sig (r .pattern)) 0) rs && leb (total-weight sig rs) weight-limit && no-shared sig rs)
+  some rs
+
+module _ (sig : Signature) where
+  -- "no two taking one lawful booking"
+  pub data Apart : List Rule → Type 0 where
+    apart-nil : Apart []
+    apart-cons : {r : Rule} {rs : List Rule} → ((s : Rule) → In s rs → SharesBooking sig (r .pattern) (s .pattern) → ⊥) → Apart rs → Apart (r ∷ rs)
+
+  -- 01, Table, "Sound": that layout, every rule numbered 1 to 999 and past refusals 7 to 10, at most 64 rules weighing at most 256 in all, no two taking one lawful booking
+  pub record SoundTable (table : List ℕ) (rs : List Rule) : Type 0 where
+    pub long : table-length ≤ length table
+    pub layout : take table-length table ≡ table-words rs
+    pub rises : Rises 0 rs
+    pub passed : (r : Rule) → In r rs → Passed sig (r .pattern)
+    pub few : length rs ≤ rule-limit
+    pub light : total-weight sig rs ≤ weight-limit
+    pub apart : Apart rs

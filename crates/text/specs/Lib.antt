@@ -1,0 +1,4 @@
+pub mod Format
+pub mod Lawful
+pub mod Limits
+pub mod Print

@@ -1,0 +1,15 @@
+-- The limits of the text.
+use Prim.Native.Nat.{ℕ}
+use Rattle.signature.specs.Limits.{booking-limit}
+
+-- "at most 65,535"
+abbrev pub last-word : ℕ
+last-word = 65535
+
+-- "1 to 4,096 a list"
+abbrev pub list-limit : ℕ
+list-limit = 4096
+
+-- "at most 32,768 bytes"
+abbrev pub text-limit : ℕ
+text-limit = 32768

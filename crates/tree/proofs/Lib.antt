@@ -1,0 +1,7 @@
+pub mod Agree
+pub mod CompiledFacts
+pub mod RowPlaces
+pub mod RunFacts
+pub mod RunFuel
+pub mod TreeFacts
+pub mod TreeRuns

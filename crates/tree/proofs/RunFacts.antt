@@ -1,0 +1,154 @@
+-- RunFacts.
+use mathlib.Core.Path.{_≡_, refl, ap, _∙_, subst, sym}
+use mathlib.Core.List.{List, [], _∷_, _++_, append-assoc}
+use mathlib.Core.Option.{some, Option, none}
+use mathlib.Core.Bool.{true}
+use Prim.Native.Nat.{ℕ, _*_, suc, _+_, _≤_, zero, _-_, _<_}
+use native.Mathlib.Nat.{add-zero}
+use native.Mathlib.Numerals.{add-one}
+use native.Mathlib.Omega.{arith}
+use lib.Dec.{eqb}
+use lib.ListN.{length, length-append, set, getD, drop}
+use lib.Seq.{drop-drop, drop-append-seam}
+use Rattle.signature.specs.Lawful.{OfKinds, of-kinds-nil, of-kinds-cons, of-kind}
+use Rattle.signature.specs.Lists.{first, at}
+use Rattle.signature.specs.Signature.{heads, arguments, Signature, arguments-at, Constructor}
+use Rattle.signature.specs.Value.{Values, vnil, vcons, con, size}
+use Rattle.signature.proofs.Heads.{constructor-of, args-same, Dense}
+use Rattle.signature.proofs.ListFacts.{at-getD, at-drop, at-left}
+use Rattle.signature.proofs.Tests.{leb-yes, none≢some, some-inj, eqb-self, ltb-yes, eqb-eq}
+use Rattle.pattern.specs.Limits.{last-variable}
+use Rattle.pattern.specs.Places.{bind-all, unbound}
+use Rattle.tree.specs.Answer.{Answer, no-rule}
+use Rattle.tree.specs.Leaf.{Rising, rising-nil, rising-cons}
+use Rattle.tree.specs.Limits.{last-number}
+use Rattle.tree.specs.Run.{bound, run, at-hit, at-test, vjoin}
+use Rattle.tree.specs.Tree.{Trees, tnil, tcons, Tree, default, hit, test, skip}
+use Rattle.tree.specs.Words.{pairs, links, count, words, layout, layout-all, words-all}
+use Rattle.tree.proofs.TreeFacts.{placed, Hit, walk-nth, walk, more, kindeds-join}
+
+-- a tree's words are as many as it says
+length-pairs : (bs : List (ℕ × ℕ)) → length (pairs bs) ≡ 2 * length bs
+length-pairs [] = refl
+length-pairs (b ∷ bs) = omega (arith, length-pairs bs)
+
+length-links : (ts : Trees) (i : ℕ) → length (links ts i) ≡ count ts
+length-links tnil i = refl
+length-links (tcons t ts) i = ap suc (length-links ts (i + words t))
+
+mutual
+  pub length-layout : (t : Tree) (i : ℕ) → length (layout t i) ≡ words t
+  length-layout (default d) i = refl
+  length-layout (hit r p bs) i = omega (arith, length-pairs bs)
+  length-layout (test c ts) i = simp length-append (omega (arith, length-links ts (i + 3 + count ts), length-layouts ts (i + 3 + count ts)))
+  length-layout (skip t) i = ap suc (length-layout t (suc i))
+
+  pub length-layouts : (ts : Trees) (i : ℕ) → length (layout-all ts i) ≡ words-all ts
+  length-layouts tnil i = refl
+  length-layouts (tcons t ts) i = simp length-append (omega (arith, length-layout t i, length-layouts ts (i + words t)))
+
+pub some-word : (t : Tree) → 1 ≤ words t
+some-word (default d) = omega arith
+some-word (hit r p bs) = omega arith
+some-word (test c ts) = omega arith
+some-word (skip t) = omega arith
+
+bound-pairs : {m : ℕ} {bs : List (ℕ × ℕ)} (visits tail places : List ℕ) → Rising m (length visits) bs → bound (length bs) m (pairs bs ++ tail) visits places ≡ some (bind-all (placed visits bs) places)
+bound-pairs visits tail places rising-nil = refl
+bound-pairs visits tail places (rising-cons {m = m} {x = x} {u = u} a b c h) = rw (leb-yes m x a, leb-yes x last-variable b, at-getD visits u c) (bound-pairs visits tail (set places x (getD visits u 0)) h)
+
+module _ (sig : Signature) where
+  -- a tree for columns of these kinds, after t visits
+  mutual
+    pub data Treed : List ℕ → ℕ → Tree → Type 0 where
+      treed-default : {ks : List ℕ} {t d : ℕ} → Treed ks t (default d)
+      treed-hit : {t r p : ℕ} {bs : List (ℕ × ℕ)} → 1 ≤ r → r ≤ last-number → Rising 0 t bs → Treed [] t (hit r p bs)
+      treed-test : {k t f : ℕ} {ks : List ℕ} {ts : Trees} → f ≡ first (heads sig k) → Treeds ks t (heads sig k) ts → Treed (k ∷ ks) t (test f ts)
+      treed-skip : {k t : ℕ} {ks : List ℕ} {tr : Tree} → Treed ks (suc t) tr → Treed (k ∷ ks) t (skip tr)
+
+    pub data Treeds : List ℕ → ℕ → List ℕ → Trees → Type 0 where
+      treeds-nil : {ks : List ℕ} {t : ℕ} → Treeds ks t [] tnil
+      treeds-cons : {ks cs : List ℕ} {t c : ℕ} {tr : Tree} {ts : Trees} → Treed (arguments sig c ++ ks) (suc t) tr → Treeds ks t cs ts → Treeds ks t (c ∷ cs) (tcons tr ts)
+
+  treeds-count : {ks : List ℕ} {t : ℕ} {cs : List ℕ} {ts : Trees} → Treeds ks t cs ts → count ts ≡ length cs
+  treeds-count treeds-nil = refl
+  treeds-count (treeds-cons h g) = ap suc (treeds-count g)
+
+module _ (dft : ℕ) where
+  abbrev pub to-answer : Option Hit → Answer
+  to-answer none = no-rule dft
+  to-answer (some h) = record { rule = h .0; plan = h .1; places = bind-all (h .2) unbound }
+
+module _ (sig : Signature) (tree : List ℕ) where
+  -- t's words stand at index i
+  abbrev pub Stands : Tree → ℕ → Type 0
+  Stands t i = (tail : List ℕ) × (drop i tree ≡ layout t i ++ tail)
+
+  abbrev pub StandAll : Trees → ℕ → Type 0
+  StandAll ts i = (tail : List ℕ) × (drop i tree ≡ layout-all ts i ++ tail)
+
+  -- the child of a constructor
+  pub record Child (ts : Trees) (base idx c t : ℕ) (ks : List ℕ) : Type 0 where
+    pub child : Tree
+    pub link : ℕ
+    pub linked : at (links ts base) idx ≡ some link
+    pub above : base ≤ link
+    pub stands : Stands child link
+    pub treed : Treed sig (arguments sig c ++ ks) (suc t) child
+    pub within : words child ≤ words-all ts
+    pub walks : (vs : Values) (j : ℕ) (visits : List ℕ) → walk-nth ts idx vs j visits ≡ walk child vs j visits
+
+  child-of : {ks cs : List ℕ} {t : ℕ} {ts : Trees} (base idx c : ℕ) → Treeds sig ks t cs ts → at cs idx ≡ some c → StandAll ts base → Child ts base idx c t ks
+  child-of base idx c treeds-nil e s = none≢some e
+  child-of {ks} {t = t} base zero c (treeds-cons {c = d} {tr = tr} {ts = ts} h g) e (tail, s) =
+      record { child = tr; link = base; linked = refl; above = omega arith; stands = (layout-all ts (base + words tr) ++ tail, s ∙ append-assoc (layout tr base) (layout-all ts (base + words tr)) tail); treed = subst (λ x. Treed sig (arguments sig x ++ ks) (suc t) tr) (some-inj d c e) h; within = omega arith; walks = λ vs j visits. refl }
+  child-of base (suc idx) c (treeds-cons {c = d} {tr = tr} {ts = ts} h g) e (tail, s) =
+      let below : drop (base + words tr) tree ≡ layout-all ts (base + words tr) ++ tail = sym (drop-drop (words tr) base tree) ∙ ap (drop (words tr)) (s ∙ append-assoc (layout tr base) (layout-all ts (base + words tr)) tail) ∙ rw (← length-layout tr base) (drop-append-seam (layout tr base) (layout-all ts (base + length (layout tr base)) ++ tail)) in
+      let r = child-of (base + words tr) idx c g e (tail, below) in
+      record { child = r .child; link = r .link; linked = r .linked; above = omega arith; stands = r .stands; treed = r .treed; within = omega (arith, r .within); walks = r .walks }
+
+  -- the m-th word of a tree that stands at i
+  word : (i m : ℕ) (ws : List ℕ) → drop i tree ≡ ws → at tree (i + m) ≡ at ws m
+  word i m ws s = at-drop tree i m ∙ ap (λ l. at l m) s
+
+  word-0 : (i : ℕ) (ws : List ℕ) → drop i tree ≡ ws → at tree i ≡ at ws 0
+  word-0 i ws s = ap (at tree) (sym (add-zero i)) ∙ word i 0 ws s
+
+module _ (dft : ℕ) (sig : Signature) (tree : List ℕ) where
+  abbrev Runs : ℕ → Type 0
+  Runs n = (t : Tree) (ks : List ℕ) (i j : ℕ) (vs : Values) (visits : List ℕ) → Treed sig ks (length visits) t → OfKinds sig ks vs → words t ≤ n → Stands sig tree t i → run dft n sig tree i vs j visits ≡ some (to-answer dft (walk t vs j visits))
+
+  hit-runs : (r p i j : ℕ) (bs : List (ℕ × ℕ)) (visits tail : List ℕ) → 1 ≤ r → r ≤ last-number → Rising 0 (length visits) bs → drop i tree ≡ layout (hit r p bs) i ++ tail → at-hit tree i vnil j visits ≡ some (to-answer dft (walk (hit r p bs) vnil j visits))
+  hit-runs r p i j bs visits tail a b h s =
+      let d : drop (i + 4) tree ≡ pairs bs ++ tail = sym (drop-drop 4 i tree) ∙ ap (drop 4) s in
+      rw (word sig tree i 1 (layout (hit r p bs) i ++ tail) s, word sig tree i 2 (layout (hit r p bs) i ++ tail) s, word sig tree i 3 (layout (hit r p bs) i ++ tail) s, leb-yes 1 r a, leb-yes r last-number b, d, bound-pairs visits tail unbound h)
+
+module _ (dft : ℕ) (sig : Signature) (tree : List ℕ) where
+  module _ (dense : Dense sig) where
+    test-runs : (n : ℕ) → Runs dft sig tree n → (k c f i j : ℕ) {ks js : List ℕ} (ts : Trees) (us rest : Values) (visits : List ℕ) → f ≡ first (heads sig k) → Treeds sig ks (length visits) (heads sig k) ts → arguments-at sig k c ≡ some js → OfKinds sig js us → OfKinds sig ks rest → words (test f ts) ≤ suc n → Stands sig tree (test f ts) i → at-test sig tree (λ i′ vs′ j′ visits′. run dft n sig tree i′ vs′ j′ visits′) i (vcons (con c us) rest) j visits ≡ some (to-answer dft (walk-nth ts (c - f) (vjoin us rest) (suc j) (visits ++ (j ∷ []))))
+    test-runs n g k c f i j {ks} {js} ts us rest visits ef h e a b l (tail, s) = go (constructor-of sig k c js e)
+      where
+        s₃ : drop (i + 3) tree ≡ (links ts (i + 3 + count ts) ++ layout-all ts (i + 3 + count ts)) ++ tail
+        s₃ = sym (drop-drop 3 i tree) ∙ ap (drop 3) s
+
+        below : drop (i + 3 + count ts) tree ≡ layout-all ts (i + 3 + count ts) ++ tail
+        below = sym (drop-drop (count ts) (i + 3) tree) ∙ ap (drop (count ts)) (s₃ ∙ append-assoc (links ts (i + 3 + count ts)) (layout-all ts (i + 3 + count ts)) tail) ∙ ap (λ m. drop m (links ts (i + 3 + count ts) ++ (layout-all ts (i + 3 + count ts) ++ tail))) (sym (length-links ts (i + 3 + count ts))) ∙ drop-append-seam (links ts (i + 3 + count ts)) (layout-all ts (i + 3 + count ts) ++ tail)
+
+        on : Child sig tree ts (i + 3 + count ts) (c - f) c (length visits) ks → (d : Constructor) → at sig c ≡ some d → d .kind ≡ k → at-test sig tree (λ i′ vs′ j′ visits′. run dft n sig tree i′ vs′ j′ visits′) i (vcons (con c us) rest) j visits ≡ some (to-answer dft (walk-nth ts (c - f) (vjoin us rest) (suc j) (visits ++ (j ∷ []))))
+        on ch d e₁ q =
+            let up : i < ch .link = omega (arith, ch .above) in
+            let w : at tree (i + 3 + (c - f)) ≡ some (ch .link) = word sig tree (i + 3) (c - f) _ s₃ ∙ at-left (links ts (i + 3 + count ts) ++ layout-all ts (i + 3 + count ts)) tail (c - f) (ch .link) (at-left (links ts (i + 3 + count ts)) (layout-all ts (i + 3 + count ts)) (c - f) (ch .link) (ch .linked)) in
+            rw (e₁, word sig tree i 1 (layout (test f ts) i ++ tail) s, word sig tree i 2 (layout (test f ts) i ++ tail) s, q, ← ef, eqb-self f, treeds-count sig h, eqb-self (length (heads sig k)), w, ltb-yes i (ch .link) up, ch .walks (vjoin us rest) (suc j) (visits ++ (j ∷ [])))
+            (g (ch .child) (js ++ ks) (ch .link) (suc j) (vjoin us rest) (visits ++ (j ∷ [])) (rw (args-same sig k c js e, more visits j) at (ch .treed)) (kindeds-join sig a b) (omega (arith, ch .within)) (ch .stands))
+
+        go : (d : Constructor) × (at sig c ≡ some d) × (eqb (d .kind) k ≡ true) × (d .args ≡ js) → at-test sig tree (λ i′ vs′ j′ visits′. run dft n sig tree i′ vs′ j′ visits′) i (vcons (con c us) rest) j visits ≡ some (to-answer dft (walk-nth ts (c - f) (vjoin us rest) (suc j) (visits ++ (j ∷ []))))
+        go (d, e₁, q, z) = on (child-of sig tree (i + 3 + count ts) (c - f) c h (rw (← ef) at (dense k c js e)) (tail, below)) d e₁ (eqb-eq (d .kind) k q)
+
+    pub run-walks : (n : ℕ) → Runs dft sig tree n
+    run-walks zero t ks i j vs visits h k l s = absurd (omega (arith, some-word t))
+    run-walks (suc n) (default d) ks i j vs visits h k l (tail, s) = rw (word-0 sig tree i (0 ∷ tail) s)
+    run-walks (suc n) (hit r p bs) ks i j vs visits (treed-hit a b h) of-kinds-nil l (tail, s) = rw (word-0 sig tree i (layout (hit r p bs) i ++ tail) s) (hit-runs dft sig tree r p i j bs visits tail a b h s)
+    run-walks (suc n) (test f ts) ks i j vs visits (treed-test {k = k} ef h) (of-kinds-cons (of-kind e a) b) l (tail, s) = rw (word-0 sig tree i (layout (test f ts) i ++ tail) s) (test-runs n (λ t′ ks′ i′ j′ vs′ visits′. run-walks n t′ ks′ i′ j′ vs′ visits′) k _ f i j ts _ _ visits ef h e a b l (tail, s))
+    run-walks (suc n) (skip t) ks i j vs visits (treed-skip {ks = js} h) (of-kinds-cons {vs = rest} (of-kind {c = c} {vs = us} e a) b) l (tail, s) =
+        let s₁ : drop (suc i) tree ≡ layout t (suc i) ++ tail = ap (λ m. drop m tree) (sym (add-one i)) ∙ sym (drop-drop 1 i tree) ∙ ap (drop 1) s in
+        rw (word-0 sig tree i (layout (skip t) i ++ tail) s) (run-walks n t js (suc i) (j + size (con c us)) rest (visits ++ (j ∷ [])) (rw (more visits j) at h) b (omega arith) (tail, s₁))

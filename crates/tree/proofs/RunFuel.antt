@@ -1,0 +1,40 @@
+-- RunFuel.
+use mathlib.Core.Path.{_≡_, refl, ap₂}
+use mathlib.Core.List.{List, _++_, _∷_, []}
+use mathlib.Core.Option.{some, none}
+use mathlib.Core.Bool.{_&&_, cond}
+use Prim.Native.Nat.{ℕ, _<_, _+_, _-_, suc, _≤_, zero}
+use native.Mathlib.Omega.{arith}
+use lib.Dec.{eqb, ltb}
+use lib.ListN.{length}
+use Rattle.signature.specs.Lists.{at, first}
+use Rattle.signature.specs.Signature.{Signature, heads}
+use Rattle.signature.specs.Value.{Values, vnil, vcons, con, size}
+use Rattle.signature.proofs.ListFacts.{at-out}
+use Rattle.signature.proofs.Tests.{bind-same, when-same, le-of}
+use Rattle.tree.specs.Answer.{no-rule}
+use Rattle.tree.specs.Run.{Run, at-test, vjoin, at-skip, at-hit, run}
+
+-- two ways to go on that agree above a node
+abbrev Above : ℕ → Run → Run → Type 0
+Above i f g = (i′ : ℕ) (vs : Values) (j : ℕ) (visits : List ℕ) → i < i′ → f i′ vs j visits ≡ g i′ vs j visits
+
+module _ (sig : Signature) (tree : List ℕ) where
+  test-same : (f g : Run) (i : ℕ) (vs : Values) (j : ℕ) (visits : List ℕ) → Above i f g → at-test sig tree f i vs j visits ≡ at-test sig tree g i vs j visits
+  test-same f g i vnil j visits h = refl
+  test-same f g i (vcons (con c us) rest) j visits h =
+      bind-same (at sig c) _ _ (λ d. bind-same (at tree (i + 1)) _ _ (λ a. bind-same (at tree (i + 2)) _ _ (λ n. when-same (eqb a (first (heads sig (d .kind))) && eqb n (length (heads sig (d .kind)))) _ _ (λ q. bind-same (at tree (i + 3 + (c - a))) _ _ (λ link. when-same (ltb i link) _ _ (λ l. h link (vjoin us rest) (suc j) (visits ++ (j ∷ [])) (le-of (suc i) link l)))))))
+
+skip-same : (f g : Run) (i : ℕ) (vs : Values) (j : ℕ) (visits : List ℕ) → Above i f g → at-skip f i vs j visits ≡ at-skip g i vs j visits
+skip-same f g i vnil j visits h = refl
+skip-same f g i (vcons v rest) j visits h = h (suc i) rest (j + size v) (visits ++ (j ∷ [])) (omega arith)
+
+module _ (dft : ℕ) (sig : Signature) (tree : List ℕ) where
+  node-same : (f g : Run) (i w : ℕ) (vs : Values) (j : ℕ) (visits : List ℕ) → Above i f g → cond (eqb w 0) (some (no-rule dft)) (cond (eqb w 1) (at-hit tree i vs j visits) (cond (eqb w 2) (at-test sig tree f i vs j visits) (cond (eqb w 3) (at-skip f i vs j visits) none))) ≡ cond (eqb w 0) (some (no-rule dft)) (cond (eqb w 1) (at-hit tree i vs j visits) (cond (eqb w 2) (at-test sig tree g i vs j visits) (cond (eqb w 3) (at-skip g i vs j visits) none)))
+  node-same f g i w vs j visits h = ap₂ (λ x y. cond (eqb w 0) (some (no-rule dft)) (cond (eqb w 1) (at-hit tree i vs j visits) (cond (eqb w 2) x (cond (eqb w 3) y none)))) (test-same sig tree f g i vs j visits h) (skip-same f g i vs j visits h)
+
+  pub run-enough : (n m i : ℕ) (vs : Values) (j : ℕ) (visits : List ℕ) → length tree ≤ n + i → length tree ≤ m + i → run dft n sig tree i vs j visits ≡ run dft m sig tree i vs j visits
+  run-enough zero zero i vs j visits a b = refl
+  run-enough zero (suc m) i vs j visits a b = rw (at-out tree i (omega arith))
+  run-enough (suc n) zero i vs j visits a b = rw (at-out tree i (omega arith))
+  run-enough (suc n) (suc m) i vs j visits a b = bind-same (at tree i) _ _ (λ w. node-same (λ i′ vs′ j′ visits′. run dft n sig tree i′ vs′ j′ visits′) (λ i′ vs′ j′ visits′. run dft m sig tree i′ vs′ j′ visits′) i w vs j visits (λ i′ vs′ j′ visits′ l. run-enough n m i′ vs′ j′ visits′ (omega arith) (omega arith)))

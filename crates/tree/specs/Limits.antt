@@ -1,0 +1,14 @@
+-- The limits of trees.
+use Prim.Native.Nat.{ℕ}
+
+-- "a rule outside 1 to 999"
+abbrev pub last-number : ℕ
+last-number = 999
+
+-- 14: "The tree exceeds the lent slice or 32,768 words"
+abbrev pub tree-limit : ℕ
+tree-limit = 32768
+
+-- "the default is rule 0, plan 0 and 16 unbound places"
+abbrev pub default-plan : ℕ
+default-plan = 0

@@ -1,0 +1,76 @@
+-- Run.
+use mathlib.Core.List.{List, [], _∷_, _++_}
+use mathlib.Core.Option.{Option, some, none}
+use mathlib.Core.Bool.{_&&_, cond}
+use Prim.Native.Nat.{ℕ, zero, suc, _+_, _-_}
+use lib.Dec.{leb, eqb, ltb}
+use lib.ListN.{set, drop, length}
+use Rattle.signature.specs.Lists.{_>>=_, require, at, first}
+use Rattle.signature.specs.Read.{read-booking}
+use Rattle.signature.specs.Signature.{Signature, heads}
+use Rattle.signature.specs.Value.{Values, vnil, vcons, con, size}
+use Rattle.pattern.specs.Limits.{last-variable}
+use Rattle.pattern.specs.Places.{unbound}
+use Rattle.tree.specs.Answer.{Answer, no-rule}
+use Rattle.tree.specs.Limits.{last-number}
+
+abbrev pub vjoin : Values → Values → Values
+vjoin vnil us = us
+vjoin (vcons v vs) us = vcons v (vjoin vs us)
+
+-- the n pairs (variable, visit) at the start of the words, variables at least m and rising; visits are the places visited
+abbrev pub bound : ℕ → ℕ → List ℕ → List ℕ → List ℕ → Option (List ℕ)
+bound zero m ws visits places = some places
+bound (suc n) m [] visits places = none
+bound (suc n) m (x ∷ []) visits places = none
+bound (suc n) m (x ∷ (t ∷ ws)) visits places = do
+  _ ← require (leb m x && leb x last-variable)
+  i ← at visits t
+  bound n (suc x) ws visits (set places x i)
+
+-- how a run goes on: at the node at an index, with these parts of the booking left, the first of them at a place,
+-- and the places visited. none: the tree is broken
+abbrev pub Run : Type 0
+Run = ℕ → Values → ℕ → List ℕ → Option Answer
+
+-- a node 1: nothing of the booking is left
+abbrev pub at-hit : List ℕ → Run
+at-hit tree i (vcons v us) j visits = none
+at-hit tree i vnil j visits = do
+  r ← at tree (i + 1)
+  p ← at tree (i + 2)
+  n ← at tree (i + 3)
+  _ ← require (leb 1 r && leb r last-number)
+  places ← bound n 0 (drop (i + 4) tree) visits unbound
+  some (record { rule = r; plan = p; places = places })
+
+-- a node 2: one link for each constructor of the kind of the first part left
+abbrev pub at-test : Signature → List ℕ → Run → Run
+at-test sig tree next i vnil j visits = none
+at-test sig tree next i (vcons (con c us) rest) j visits = do
+  d ← at sig c
+  f ← at tree (i + 1)
+  n ← at tree (i + 2)
+  _ ← require (eqb f (first (heads sig (d .kind))) && eqb n (length (heads sig (d .kind))))
+  link ← at tree (i + 3 + (c - f))
+  _ ← require (ltb i link)
+  next link (vjoin us rest) (suc j) (visits ++ (j ∷ []))
+
+-- a node 3: the first part left is skipped
+abbrev pub at-skip : Run → Run
+at-skip next i vnil j visits = none
+at-skip next i (vcons v rest) j visits = next (suc i) rest (j + size v) (visits ++ (j ∷ []))
+
+module _ (dft : ℕ) where
+  -- n bounds the nodes that are walked
+  abbrev pub run : ℕ → Signature → List ℕ → Run
+  run zero sig tree i vs j visits = none
+  run (suc n) sig tree i vs j visits = do
+    w ← at tree i
+    let next : Run = λ i′ vs′ j′ visits′. run n sig tree i′ vs′ j′ visits′
+    cond (eqb w 0) (some (no-rule dft)) (cond (eqb w 1) (at-hit tree i vs j visits) (cond (eqb w 2) (at-test sig tree next i vs j visits) (cond (eqb w 3) (at-skip next i vs j visits) none)))
+
+  abbrev pub run-words : Signature → List ℕ → List ℕ → Option Answer
+  run-words sig ws bs = do
+    v ← read-booking sig bs
+    run (length ws) sig ws 0 (vcons v vnil) 0 []

@@ -1,0 +1,77 @@
+-- Tree.
+use mathlib.Core.List.{List, _∷_, [], _++_, map}
+use mathlib.Core.Option.{Option, none, some}
+use mathlib.Core.Bool.{cond, Bool, false, true, not}
+use Prim.Native.Nat.{ℕ, zero, suc}
+use lib.Dec.{leb, eqb}
+use Rattle.signature.specs.Lists.{all, memb, require, _>>=_, first, somes, any}
+use Rattle.signature.specs.Signature.{Signature, heads, arguments}
+use Rattle.row.specs.Row.{Rows, rnil, rcons, named, free, open-rows}
+
+mutual
+  pub data Tree : Type 0 where
+    default : ℕ → Tree
+    hit : ℕ → ℕ → List (ℕ × ℕ) → Tree
+    test : ℕ → Trees → Tree
+    skip : Tree → Tree
+
+  pub data Trees : Type 0 where
+    tnil : Trees
+    tcons : Tree → Trees → Trees
+
+-- a line of the matrix: a rule's row, its columns not yet taken, and what the columns taken bind (variable, visit)
+pub record Line : Type 0 where
+  pub rule : ℕ
+  pub plan : ℕ
+  pub binds : List (ℕ × ℕ)
+  pub cells : Rows
+
+abbrev pub rappend : Rows → Rows → Rows
+rappend rnil ss = ss
+rappend (rcons r rs) ss = rcons r (rappend rs ss)
+
+-- variables rising
+abbrev pub insert : ℕ × ℕ → List (ℕ × ℕ) → List (ℕ × ℕ)
+insert b [] = b ∷ []
+insert b (c ∷ cs) = cond (leb (b .0) (c .0)) (b ∷ (c ∷ cs)) (c ∷ insert b cs)
+
+abbrev pub inserts : ℕ → List ℕ → List (ℕ × ℕ) → List (ℕ × ℕ)
+inserts t [] bs = bs
+inserts t (x ∷ xs) bs = insert (x, t) (inserts t xs bs)
+
+-- the first cell of a line names or excludes a constructor of its column's kind
+abbrev pub refined : Signature → ℕ → Rows → Bool
+refined sig k rnil = false
+refined sig k (rcons (named xs c rs) ss) = true
+refined sig k (rcons (free xs cs) ss) = not (all (λ c. memb c cs) (heads sig k))
+
+-- the first cell taken where the value there has the constructor c, with arguments of kinds js: its variables, and the cells then
+abbrev pub taken : Signature → List ℕ → ℕ → Rows → Option (List ℕ × Rows)
+taken sig js c rnil = none
+taken sig js c (rcons (named xs d rs) ss) = require (eqb d c) >>= λ u. some (xs, rappend rs ss)
+taken sig js c (rcons (free xs cs) ss) = require (memb c cs) >>= λ u. some (xs, rappend (open-rows sig js) ss)
+
+-- the first cell passed over
+abbrev pub passed : Rows → Option (List ℕ × Rows)
+passed rnil = none
+passed (rcons (named xs d rs) ss) = none
+passed (rcons (free xs cs) ss) = some (xs, ss)
+
+-- a line after visit t
+abbrev pub after : ℕ → (Rows → Option (List ℕ × Rows)) → Line → Option Line
+after t step l = step (l .cells) >>= λ r. some (record { rule = l .rule; plan = l .plan; binds = inserts t (r .0) (l .binds); cells = r .1 })
+
+abbrev pub children : (ℕ → Tree) → List ℕ → Trees
+children child [] = tnil
+children child (c ∷ cs) = tcons (child c) (children child cs)
+
+module _ (dft : ℕ) where
+  -- columns of these kinds; t visits are made; n bounds the visits still to come
+  abbrev pub compile : ℕ → Signature → List ℕ → List Line → ℕ → Tree
+  compile zero sig ks ls t = default dft
+  compile (suc n) sig ks [] t = default dft
+  compile (suc n) sig [] (l ∷ ls) t = hit (l .rule) (l .plan) (l .binds)
+  compile (suc n) sig (k ∷ ks) (l ∷ ls) t =
+      let branch = test (first (heads sig k)) (children (λ c. compile n sig (arguments sig c ++ ks) (somes (map (after t (taken sig (arguments sig c) c)) (l ∷ ls))) (suc t)) (heads sig k)) in
+      let next = skip (compile n sig ks (somes (map (after t passed) (l ∷ ls))) (suc t)) in
+      cond (any (λ m. refined sig k (m .cells)) (l ∷ ls)) branch next

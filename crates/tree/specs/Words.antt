@@ -1,0 +1,41 @@
+-- Words.
+use mathlib.Core.List.{List, [], _∷_, _++_}
+use Prim.Native.Nat.{ℕ, _+_, _*_, suc}
+use lib.ListN.{length}
+use Rattle.tree.specs.Tree.{Tree, default, hit, test, skip, Trees, tnil, tcons}
+
+-- the words of a tree whose root stands at index i
+abbrev pub pairs : List (ℕ × ℕ) → List ℕ
+pairs [] = []
+pairs (b ∷ bs) = b .0 ∷ (b .1 ∷ pairs bs)
+
+abbrev mutual
+  pub words : Tree → ℕ
+  words (default d) = 1
+  words (hit r p bs) = 4 + 2 * length bs
+  words (test c ts) = 3 + (count ts + words-all ts)
+  words (skip t) = suc (words t)
+
+  pub words-all : Trees → ℕ
+  words-all tnil = 0
+  words-all (tcons t ts) = words t + words-all ts
+
+  pub count : Trees → ℕ
+  count tnil = 0
+  count (tcons t ts) = suc (count ts)
+
+-- the index of each child, the first one's being i
+abbrev pub links : Trees → ℕ → List ℕ
+links tnil i = []
+links (tcons t ts) i = i ∷ links ts (i + words t)
+
+abbrev mutual
+  pub layout : Tree → ℕ → List ℕ
+  layout (default d) i = 0 ∷ []
+  layout (hit r p bs) i = 1 ∷ (r ∷ (p ∷ (length bs ∷ pairs bs)))
+  layout (test c ts) i = 2 ∷ (c ∷ (count ts ∷ (links ts (i + 3 + count ts) ++ layout-all ts (i + 3 + count ts))))
+  layout (skip t) i = 3 ∷ layout t (suc i)
+
+  pub layout-all : Trees → ℕ → List ℕ
+  layout-all tnil i = []
+  layout-all (tcons t ts) i = layout t i ++ layout-all ts (i + words t)
