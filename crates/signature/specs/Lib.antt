@@ -1,7 +1,9 @@
-pub mod Lawful
+-- Signatures and bookings. Read: Limits, Value, Signature, Lawful, Read, Part.
 pub mod Limits
 pub mod Lists
-pub mod Part
-pub mod Read
-pub mod Signature
 pub mod Value
+pub mod Signature
+pub mod Lawful
+pub mod Read
+pub mod Part
+pub mod Decoded
