@@ -1,4 +1,4 @@
--- Ambiguous.
+-- 01, Patterns: "Ambiguous" (10), as existence: of a value of the part's kind, whether or not a booking gets there.
 use mathlib.Core.Path.{_≡_}
 use mathlib.Core.List.{List, _∷_}
 use mathlib.Core.Option.{some}
@@ -13,7 +13,8 @@ use Rattle.pattern.specs.Match.{Binds, Fits, Fails}
 use Rattle.pattern.specs.Pattern.{Pattern, or, and, neg, Patterns, head, pcons}
 
 module _ (sig : Signature) where
-  -- 01, Patterns: ambiguous on the plus and on the minus side, for values of a kind
+  -- "an "or" on the plus side with E not empty and a value of its kind that fits both sides,
+  -- or an "and" on the minus side with O not empty and a value that fails both"; Ambiguous is the plus side, AmbiguousMinus the minus side
   mutual
     pub data Ambiguous : ℕ → Pattern → Type 0 where
       here-or : {k i : ℕ} {p q : Pattern} {v : Value} {σ τ : Binds} → is-empty (E (or p q)) ≡ false → OfKind sig k v → Fits p v i σ → Fits q v i τ → Ambiguous k (or p q)

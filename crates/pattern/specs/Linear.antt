@@ -1,10 +1,11 @@
--- Linear.
+-- 01, Patterns: the variables under an even and an odd number of nots, and linearity (8).
 use mathlib.Core.List.{List, _∷_, [], _++_}
 use mathlib.Core.Bool.{Bool, not, _&&_, true}
 use Prim.Native.Nat.{ℕ}
 use Rattle.signature.specs.Lists.{all, memb, is-empty}
 use Rattle.pattern.specs.Pattern.{Pattern, var, wild, absurd-pat, neg, and, or, head, Patterns, pnil, pcons}
 
+-- "E(p) and O(p) are the variables under an even and an odd number of nots within p."
 abbrev mutual
   pub E : Pattern → List ℕ
   E (var x) = x ∷ []
@@ -32,12 +33,17 @@ abbrev mutual
   O-all pnil = []
   O-all (pcons p ps) = O p ++ O-all ps
 
+-- no variable in both
 abbrev pub disjoint : List ℕ → List ℕ → Bool
 disjoint xs ys = all (λ x. not (memb x ys)) xs
 
+-- the same variables
 abbrev pub same-set : List ℕ → List ℕ → Bool
 same-set xs ys = all (λ x. memb x ys) xs && all (λ y. memb y xs) ys
 
+-- "Linear-plus: not p needs p linear-minus; constructor and "and" need linear-plus parts with E pairwise disjoint; "or" needs linear-plus parts with equal E."
+-- "Linear-minus: not p needs p linear-plus; constructor needs linear-minus parts with O empty; "and" needs linear-minus parts with equal O; "or" needs them with O disjoint."
+-- "Variable, wildcard and absurd are both. A rule is linear-plus."
 abbrev mutual
   pub linear-plus : Pattern → Bool
   linear-plus (var x) = true

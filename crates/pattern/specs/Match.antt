@@ -1,14 +1,19 @@
--- Match.
+-- 01, Patterns: when a pattern fits a value and when it fails; the paper, section 3. This is demand 2's relation.
 use mathlib.Core.Path.{_≡_}
 use mathlib.Core.List.{List, _∷_, [], _++_}
 use Prim.Native.Nat.{ℕ, suc, _+_}
 use Rattle.signature.specs.Value.{Value, Values, con, vnil, size, vcons}
 use Rattle.pattern.specs.Pattern.{Pattern, var, wild, neg, and, or, Patterns, head, absurd-pat, pnil, pcons}
 
+-- "bindings (variable, place)"
 abbrev pub Binds : Type 0
 Binds = List (ℕ × ℕ)
 
--- p fits, or fails on, the value v that begins at a place, with these bindings (variable, place)
+-- p fits, or fails on, the value v that begins at place i, with these bindings.
+-- "Variable: always fits, binding its place; never fails. Wildcard fits, absurd fails, both binding nothing."
+-- "Not: fits when its part fails, fails when its part fits, bindings kept."
+-- "And: fits when both fit, bindings joined; fails when either fails, with that one's bindings. Or: the reverse."
+-- "Constructor: fits when the head is equal and all arguments fit, bindings joined; fails on another head with none, or when some argument fails, with that one's bindings."
 mutual
   pub data Fits : Pattern → Value → ℕ → Binds → Type 0 where
     fits-var : {x i : ℕ} {v : Value} → Fits (var x) v i ((x, i) ∷ [])

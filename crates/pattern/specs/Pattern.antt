@@ -1,8 +1,8 @@
--- Pattern.
+-- 01, Patterns: patterns as trees, and their words.
 use mathlib.Core.List.{List, _∷_, _++_, []}
 use Prim.Native.Nat.{ℕ, _+_, suc, max}
 
--- 01, Patterns
+-- a head with a pattern for each argument; and; or; wildcard; absurd; not; variable
 mutual
   pub data Pattern : Type 0 where
     head : ℕ → Patterns → Pattern
@@ -17,6 +17,7 @@ mutual
     pnil : Patterns
     pcons : Pattern → Patterns → Patterns
 
+-- "0 to 255: that constructor and a pattern for each argument. 256: and, two patterns. 257: or, two. 258: wildcard. 259: absurd. 260: not, one. 261 to 276: variable 0 to 15."
 abbrev mutual
   pub pattern-code : Pattern → List ℕ
   pattern-code (head c ps) = c ∷ patterns-code ps
@@ -31,6 +32,7 @@ abbrev mutual
   patterns-code pnil = []
   patterns-code (pcons p ps) = pattern-code p ++ patterns-code ps
 
+-- how deep it is nested, at most its number of words
 abbrev mutual
   pub pattern-depth : Pattern → ℕ
   pattern-depth (head c ps) = suc (patterns-depth ps)

@@ -1,4 +1,4 @@
--- Read.
+-- 01, Patterns: words read as a pattern, by "match on a copied pattern word". Laws says that exactly the words of patterns are read.
 use mathlib.Core.List.{List, [], _∷_}
 use mathlib.Core.Option.{Option, some, none}
 use mathlib.Core.Bool.{cond}
@@ -15,6 +15,7 @@ pub data Form : Type 0 where
   is-head is-var : ℕ → Form
   is-and is-or is-wild is-absurd is-not is-other : Form
 
+-- "0 to 255", "256 .. 260", "261 to 276"; "Any other word .. is malformed"
 abbrev pub form : ℕ → Form
 form w =
     cond (ltb w 256) (is-head w)
@@ -25,6 +26,7 @@ form w =
     (cond (eqb w 260) is-not
     (cond (leb w (261 + last-variable)) (is-var (w - 261)) is-other))))))
 
+-- one pattern for each kind, by a reader of one pattern
 abbrev pub read-each : (ℕ → List ℕ → Option (Pattern × List ℕ)) → List ℕ → List ℕ → Option (Patterns × List ℕ)
 read-each one [] ws = some (pnil, ws)
 read-each one (k ∷ ks) ws = do
@@ -55,12 +57,13 @@ read-by-form sig one is-not k ws = do
 read-by-form sig one (is-var x) k ws = some (var x, ws)
 read-by-form sig one is-other k ws = none
 
+-- a pattern of kind k nested at most d deep at the start of the words, and the words behind it
 abbrev pub read-one : Signature → ℕ → ℕ → List ℕ → Option (Pattern × List ℕ)
 read-one sig zero k ws = none
 read-one sig (suc d) k [] = none
 read-one sig (suc d) k (w ∷ ws) = read-by-form sig (λ j us. read-one sig d j us) (form w) k ws
 
--- the pattern of a rule: at most 64 words, so nested at most 64 deep
+-- the pattern that the words are; else refusal 7
 abbrev pub read-pattern : Signature → List ℕ → Option Pattern
 read-pattern sig ws = do
   _ ← require (leb (length ws) pattern-limit)

@@ -1,4 +1,4 @@
--- Weight.
+-- 01, Patterns: "Weight has a plus and a minus side, each defined by the other." (9)
 use mathlib.Core.List.{List}
 use mathlib.Core.Option.{Option, none, some}
 use mathlib.Core.Bool.{Bool, true, _&&_}
@@ -9,6 +9,7 @@ use Rattle.pattern.specs.Limits.{part-weight-limit}
 use Rattle.pattern.specs.Pattern.{Pattern, var, wild, absurd-pat, neg, and, or, head, Patterns, pnil, pcons}
 use Rattle.pattern.specs.Read.{read-pattern}
 
+-- "Plus/minus: variable and wildcard 1/0, absurd 0/1; not swaps; "and" product/sum; "or" sum/product; constructor product (1 without arguments) / 1 + sum of the minus sides."
 abbrev mutual
   pub weight-plus : Pattern → ℕ
   weight-plus (var x) = 1
@@ -36,7 +37,7 @@ abbrev mutual
   sum-minus pnil = 0
   sum-minus (pcons p ps) = weight-minus p + sum-minus ps
 
--- each part, at the side on which it stands, weighs at most 64
+-- "Each part, at the side on which it stands, weighs at most 64."
 abbrev mutual
   pub light-plus : Pattern → Bool
   light-plus (var x) = true
@@ -64,9 +65,11 @@ abbrev mutual
   light-all-minus pnil = true
   light-all-minus (pcons p ps) = light-minus p && light-all-minus ps
 
+-- a rule weighs what its pattern weighs on the plus side
 abbrev pub weight-by : Option Pattern → ℕ
 weight-by none = 0
 weight-by (some p) = weight-plus p
 
+-- the weight of the pattern that the words are
 abbrev pub weight : Signature → List ℕ → ℕ
 weight sig ws = weight-by (read-pattern sig ws)

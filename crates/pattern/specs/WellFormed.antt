@@ -1,4 +1,4 @@
--- WellFormed.
+-- 01, Patterns: which patterns are not malformed, said without reading.
 use mathlib.Core.Path.{_≡_}
 use mathlib.Core.List.{List, [], _∷_}
 use mathlib.Core.Option.{some}
@@ -8,8 +8,8 @@ use Rattle.signature.specs.Signature.{arguments-at, Signature}
 use Rattle.pattern.specs.Limits.{pattern-limit, variable-count}
 use Rattle.pattern.specs.Pattern.{Pattern, Patterns, head, and, or, neg, wild, absurd-pat, var, pnil, pcons, pattern-code}
 
--- facts about reading
 module _ (sig : Signature) where
+  -- a pattern of kind k: "a constructor of another kind than its place" and "a constructor outside the signature" are malformed
   mutual
     pub data WellFormed : ℕ → Pattern → Type 0 where
       well-head : {k c : ℕ} {ks : List ℕ} {ps : Patterns} → c < 256 → arguments-at sig k c ≡ some ks → AllWellFormed ks ps → WellFormed k (head c ps)
@@ -25,7 +25,7 @@ module _ (sig : Signature) where
       well-cons : {k : ℕ} {ks : List ℕ} {p : Pattern} {ps : Patterns} → WellFormed k p → AllWellFormed ks ps → AllWellFormed (k ∷ ks) (pcons p ps)
 
 module _ (sig : Signature) where
-  -- 01, Patterns: what a pattern's words are, said without reading
+  -- "1 to 64 words in preorder, one pattern of kind 0, nothing left over": these words are this pattern
   pub record PatternWords (ws : List ℕ) (p : Pattern) : Type 0 where
     pub well-formed : WellFormed sig 0 p
     pub is-code : pattern-code p ≡ ws

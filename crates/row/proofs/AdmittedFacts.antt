@@ -12,6 +12,7 @@ use Rattle.signature.specs.Read.{read-booking, Signed}
 use Rattle.signature.specs.Signature.{Signature}
 use Rattle.signature.specs.Value.{Value}
 use Rattle.signature.proofs.Booleans.{not-false}
+use Rattle.signature.proofs.LawfulFacts.{sig-facts, small-0}
 use Rattle.signature.proofs.Tests.{T-of, pass, true≢false, some-inj}
 use Rattle.signature.proofs.Values.{booking-lawful}
 use Rattle.pattern.specs.Limits.{pattern-limit}
@@ -27,7 +28,7 @@ use Rattle.pattern.proofs.PatternBack.{pattern-words}
 use Rattle.pattern.proofs.Unique.{same-fits}
 use Rattle.row.specs.Admitted.{refusal-of-pattern, Passed, refusal-by}
 use Rattle.row.specs.Overlap.{ambiguous-plus, shares}
-use Rattle.row.proofs.Exists.{ambiguous-decided, exists-shares}
+use Rattle.row.proofs.Exists.{ambiguous-decided, ambiguous-exists, exists-shares}
 
 module _ (sig : Signature) where
   -- a call's pattern is short where it is read
@@ -48,14 +49,20 @@ module _ (sig : Signature) where
           let (a, e₁) = pass (not (linear-plus p)) 8 _ (λ z. omega arith) h in
           let (b, e₂) = pass (not (light-plus p)) 9 _ (λ z. omega arith) e₁ in
           let (c, e₃) = pass (ambiguous-plus sig 0 p) 10 0 (λ z. omega arith) e₂ in
-          record { pat = p; read = q; linear = not-false (linear-plus p) a; light = not-false (light-plus p) b; plain = c }
+          record { pat = p; read = q; linear = not-false (linear-plus p) a; light = not-false (light-plus p) b; plain = λ a′. true≢false (sym (ambiguous-decided sig p (pattern-words sig ws p q .well-formed) a′) ∙ c) }
 
-  pub of-passed : (ws : List ℕ) → Passed sig ws → refusal-of-pattern sig ws ≡ 0
-  of-passed ws h = rw (h .read, h .linear, h .light, h .plain)
+  pub of-passed : Signed sig → (ws : List ℕ) → Passed sig ws → refusal-of-pattern sig ws ≡ 0
+  of-passed signed ws h = rw (h .read, h .linear, h .light, plain (ambiguous-plus sig 0 (h .pat)) refl)
+    where
+      plain : (b : Bool) → ambiguous-plus sig 0 (h .pat) ≡ b → ambiguous-plus sig 0 (h .pat) ≡ false
+      plain true e =
+          let f = sig-facts sig signed in
+          absurd (h .plain (ambiguous-exists sig f (h .pat) (small-0 sig f) (pattern-words sig ws (h .pat) (h .read) .well-formed) e))
+      plain false e = e
 
   -- all fits of a pattern that passes bind the same places
   one-way : (ws : List ℕ) → (h : Passed sig ws) → {v : Value} {σ τ : Binds} → OfKind sig 0 v → Fits (h .pat) v 0 σ → Fits (h .pat) v 0 τ → Same σ τ
-  one-way ws h k f g = same-fits sig (h .pat) (h .linear) (λ a. true≢false (sym (ambiguous-decided sig (h .pat) (pattern-words sig ws (h .pat) (h .read) .well-formed) a) ∙ h .plain)) k f g
+  one-way ws h k f g = same-fits sig (h .pat) (h .linear) (h .plain) k f g
 
   -- the pattern and the value of a taking
   pub takes-fits : (ws bs : List ℕ) (h : Passed sig ws) (v : Value) {σ : Binds} → read-booking sig bs ≡ some v → Takes sig ws bs σ → Fits (h .pat) v 0 σ

@@ -1,29 +1,31 @@
--- Admitted.
+-- 01, Turned down: 7 to 10, the refusals of a pattern by itself.
 use mathlib.Core.Path.{_≡_}
 use mathlib.Core.List.{List}
 use mathlib.Core.Option.{Option, none, some}
-use mathlib.Core.Bool.{cond, not, true, false}
+use mathlib.Core.Bool.{cond, not, true}
 use Prim.Native.Nat.{ℕ}
 use Rattle.signature.specs.Signature.{Signature}
+use Rattle.pattern.specs.Ambiguous.{Ambiguous}
 use Rattle.pattern.specs.Linear.{linear-plus}
 use Rattle.pattern.specs.Pattern.{Pattern}
 use Rattle.pattern.specs.Read.{read-pattern}
 use Rattle.pattern.specs.Weight.{light-plus}
 use Rattle.row.specs.Overlap.{ambiguous-plus}
 
--- the refusals of a pattern by itself, 7 to 10; 0 for none
+-- "8. It is not linear-plus. 9. Some part weighs over 64. 10. It is ambiguous.": the first that applies, 0 for none
 abbrev pub refusal-by : Signature → Option Pattern → ℕ
 refusal-by sig none = 7
 refusal-by sig (some p) = cond (not (linear-plus p)) 8 (cond (not (light-plus p)) 9 (cond (ambiguous-plus sig 0 p) 10 0))
 
+-- "7. The pattern is malformed."
 abbrev pub refusal-of-pattern : Signature → List ℕ → ℕ
 refusal-of-pattern sig ws = refusal-by sig (read-pattern sig ws)
 
 module _ (sig : Signature) where
-  -- 01, refusals 7 to 10: a pattern that none of them applies to
+  -- a pattern that none of 7 to 10 applies to
   pub record Passed (ws : List ℕ) : Type 0 where
     pub pat : Pattern
     pub read : read-pattern sig ws ≡ some pat
     pub linear : linear-plus pat ≡ true
     pub light : light-plus pat ≡ true
-    pub plain : ambiguous-plus sig 0 pat ≡ false
+    pub plain : Ambiguous sig 0 pat → ⊥

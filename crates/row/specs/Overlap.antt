@@ -1,4 +1,4 @@
--- Overlap.
+-- 01, Rows: overlap (12) as existence, and its decision, and that of ambiguity (10), by rows. Laws says that each decides exactly the existence.
 use mathlib.Core.List.{List, [], _∷_}
 use mathlib.Core.Option.{Option, none, some}
 use mathlib.Core.Bool.{Bool, not, false, _&&_}
@@ -14,14 +14,15 @@ use Rattle.pattern.specs.Read.{read-pattern}
 use Rattle.pattern.specs.Takes.{Takes}
 use Rattle.row.specs.Row.{each, combine, rows-plus, rows-minus}
 
--- some value of kind k fits both
+-- decides: some value of kind k fits both. "Calling two exclusions overlapping when together they exclude the whole kind" is a slip: their product is dropped
 abbrev pub overlap : Signature → ℕ → Pattern → Pattern → Bool
 overlap sig k p q = not (is-empty (somes (each combine (rows-plus sig k p) (rows-plus sig k q))))
 
--- some value of kind k fails both
+-- decides: some value of kind k fails both
 abbrev pub overlap-minus : Signature → ℕ → Pattern → Pattern → Bool
 overlap-minus sig k p q = not (is-empty (somes (each combine (rows-minus sig k p) (rows-minus sig k q))))
 
+-- decides Ambiguous and AmbiguousMinus
 abbrev mutual
   pub ambiguous-plus : Signature → ℕ → Pattern → Bool
   ambiguous-plus sig k (var x) = false
@@ -51,16 +52,17 @@ abbrev mutual
   any-minus sig [] (pcons p ps) = false
   any-minus sig (k ∷ ks) (pcons p ps) = ambiguous-minus sig k p or-else any-minus sig ks ps
 
--- some booking is taken by both
+-- decides: some lawful booking is taken by both
 abbrev pub shared-by : Signature → Option Pattern → Option Pattern → Bool
 shared-by sig none q = false
 shared-by sig (some p) none = false
 shared-by sig (some p) (some q) = overlap sig 0 p q
 
+-- decides SharesBooking
 abbrev pub shares : Signature → List ℕ → List ℕ → Bool
 shares sig us ws = shared-by sig (read-pattern sig us) (read-pattern sig ws)
 
--- 01, refusal 12: the two patterns share a booking
+-- 12: "It shares a booking with a held rule": some lawful booking is taken by both patterns
 pub record SharesBooking (sig : Signature) (us ws : List ℕ) : Type 0 where
   pub words : List ℕ
   pub binds-us : Binds

@@ -1,4 +1,4 @@
--- Row.
+-- 01, Rows: a pattern as a list of products; the paper, section 5.
 use mathlib.Core.List.{List, _++_, [], _∷_, map}
 use mathlib.Core.Option.{Option, some, none}
 use mathlib.Core.Bool.{not, cond}
@@ -8,7 +8,7 @@ use Rattle.signature.specs.Lists.{_>>=_, require, memb, keep, is-empty, somes}
 use Rattle.signature.specs.Signature.{Signature, heads, arguments}
 use Rattle.pattern.specs.Pattern.{Pattern, var, wild, absurd-pat, neg, and, or, head, Patterns, pnil, pcons}
 
--- a place of a row: its variables, and one constructor with its arguments or the constructors still allowed
+-- "at each place .. a set of variables, and one constructor with its arguments or a set of excluded constructors": named has the one, free those that are still allowed
 mutual
   pub data Row : Type 0 where
     named : List ℕ → ℕ → Rows → Row
@@ -18,7 +18,7 @@ mutual
     rnil : Rows
     rcons : Row → Rows → Rows
 
--- two rows as one; none where it is dropped
+-- two rows as one; none where it is dropped: "A row .. with no constructor still allowed at a place, is dropped."
 abbrev mutual
   pub combine : Row → Row → Option Row
   combine (named xs c rs) (named ys d ss) = do
@@ -45,11 +45,12 @@ abbrev mutual
     some (rcons t ts)
 
 module _ {A B C : Type 0} where
+  -- "multiply out"
   abbrev pub each : (A → B → C) → List A → List B → List C
   each f [] bs = []
   each f (a ∷ fs) bs = map (f a) bs ++ each f fs bs
 
--- a place of kind k of which nothing is known
+-- a wildcard: a place of kind k of which nothing is known
 abbrev pub open-row : Signature → ℕ → Row
 open-row sig k = free [] (heads sig k)
 
@@ -57,12 +58,15 @@ abbrev pub open-rows : Signature → List ℕ → Rows
 open-rows sig [] = rnil
 open-rows sig (k ∷ ks) = rcons (open-row sig k) (open-rows sig ks)
 
--- every constructor of kind k but c; none where no other is left
+-- "not C": every head of kind k but c; no row where no other is left
 abbrev pub other-than : Signature → ℕ → ℕ → List Row
 other-than sig k c =
     let cs = keep (λ d. not (eqb c d)) (heads sig k) in
     cond (is-empty cs) [] (free [] cs ∷ [])
 
+-- "Push nots inward (not C(p1..pn) is: not C, or C with one argument negated and wildcards elsewhere;
+-- not variable and not wildcard are absurd, not absurd is wildcard) and multiply out. Each product is a row":
+-- the rows of a pattern on the plus side, and on the minus side those of its negation
 abbrev mutual
   pub rows-plus : Signature → ℕ → Pattern → List Row
   rows-plus sig k (var x) = free (x ∷ []) (heads sig k) ∷ []

@@ -1,4 +1,4 @@
--- RowFits.
+-- What a row takes and binds, and how many places it has.
 use mathlib.Core.List.{List}
 use mathlib.Core.Option.{Option, none, some}
 use mathlib.Core.Bool.{Bool, _&&_, true, false}
@@ -8,6 +8,7 @@ use Rattle.signature.specs.Lists.{memb, any, _or-else_}
 use Rattle.signature.specs.Value.{Value, con, Values, vnil, vcons, size}
 use Rattle.row.specs.Row.{Row, named, free, Rows, rnil, rcons}
 
+-- how many places it has
 abbrev mutual
   pub place-count : Row → ℕ
   place-count (named xs c rs) = suc (places-count rs)

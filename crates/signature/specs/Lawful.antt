@@ -1,4 +1,4 @@
--- Lawful.
+-- 01, Signature and Bookings: what is lawful, said without reading.
 use mathlib.Core.Path.{_≡_}
 use mathlib.Core.List.{List, [], _∷_, _++_}
 use mathlib.Core.Option.{some}
@@ -9,8 +9,8 @@ use Rattle.signature.specs.Lists.{All}
 use Rattle.signature.specs.Signature.{arguments-at, Signature, Constructor, heads}
 use Rattle.signature.specs.Value.{Value, Values, con, vnil, vcons, code, depth, size}
 
--- facts about reading
 module _ (sig : Signature) where
+  -- v is a value of kind k
   mutual
     pub data OfKind : ℕ → Value → Type 0 where
       of-kind : {k c : ℕ} {ks : List ℕ} {vs : Values} → arguments-at sig k c ≡ some ks → OfKinds ks vs → OfKind k (con c vs)
@@ -20,7 +20,7 @@ module _ (sig : Signature) where
       of-kinds-cons : {k : ℕ} {ks : List ℕ} {v : Value} {vs : Values} → OfKind k v → OfKinds ks vs → OfKinds (k ∷ ks) (vcons v vs)
 
 module _ (sig : Signature) where
-  -- 01, Bookings: a lawful booking, said without reading
+  -- "A lawful booking is one value of kind 0, 1 to 4,096 words, nested at most 256 deep, nothing left over."
   pub record LawfulBooking (ws : List ℕ) (v : Value) : Type 0 where
     pub kind-0 : OfKind sig 0 v
     pub is-code : code v ≡ ws
@@ -30,16 +30,16 @@ module _ (sig : Signature) where
 
 -- 01, Signature: every kind has a value of at most 6 words, said as existence, and as it is decided
 module _ (sig : Signature) (n : ℕ) where
-  -- every kind has a value of at most 6 words
+  -- "Every kind has a value of at most 6 words."
   abbrev pub EveryKindSmall : Type 0
   EveryKindSmall = (k : ℕ) → k < n → (v : Value) × OfKind sig k v × (size v ≤ small-size)
 
--- "for each constructor its kind, its number of arguments and the argument kinds"
+-- "for each constructor its kind, its number of arguments (0 to 4) and the argument kinds"
 abbrev pub constructor-words : Signature → List ℕ
 constructor-words [] = []
 constructor-words (c ∷ cs) = c .kind ∷ (length (c .args) ∷ (c .args ++ constructor-words cs))
 
--- "Kinds start at 0, each equal to the previous or one more": from the last kind seen, so many kinds in all
+-- "Kinds start at 0, each equal to the previous or one more": from the last kind seen, n kinds in all
 pub data KindsRise : ℕ → Signature → ℕ → Type 0 where
   rise-end : {k n : ℕ} → n ≡ suc k → KindsRise k [] n
   rise-same : {k n : ℕ} {c : Constructor} {cs : Signature} → c .kind ≡ k → KindsRise k cs n → KindsRise k (c ∷ cs) n
@@ -48,6 +48,7 @@ pub data KindsRise : ℕ → Signature → ℕ → Type 0 where
 pub data KindsStart : Signature → ℕ → Type 0 where
   start-0 : {n : ℕ} {c : Constructor} {cs : Signature} → c .kind ≡ 0 → KindsRise 0 cs n → KindsStart (c ∷ cs) n
 
+-- 01, Signature: these words are this lawful signature
 pub record SignatureWords (ws : List ℕ) (sig : Signature) : Type 0 where
   -- "the constructor count n, then for each constructor ..; the slice ends exactly there"
   pub is-code : ws ≡ length sig ∷ constructor-words sig

@@ -1,10 +1,11 @@
--- Lists.
+-- What all layers say of options, tests and lists.
 use mathlib.Core.List.{List, [], _∷_, _++_}
 use mathlib.Core.Option.{Option, none, some}
 use mathlib.Core.Bool.{Bool, true, false, _&&_, cond}
 use Prim.Native.Nat.{ℕ, zero, suc}
 use lib.Dec.{eqb}
 
+-- go on where something was read
 infixl 20 _>>=_
 abbrev pub _>>=_ : {A B : Type 0} → Option A → (A → Option B) → Option B
 none >>= f = none
@@ -15,16 +16,19 @@ abbrev pub require : Bool → Option (Unit {0})
 require true = some tt
 require false = none
 
+-- one of two tests
 infixl 30 _or-else_
 abbrev pub _or-else_ : Bool → Bool → Bool
 true or-else b = true
 false or-else b = b
 
+-- x is one of the list
 abbrev pub memb : ℕ → List ℕ → Bool
 memb x [] = false
 memb x (y ∷ ys) = eqb x y or-else memb x ys
 
 module _ {A : Type 0} where
+  -- the test passes for each; for one; the element at an index
   abbrev pub all : (A → Bool) → List A → Bool
   all f [] = true
   all f (x ∷ xs) = f x && all f xs
@@ -44,6 +48,7 @@ module _ {A : Type 0} where
   split (suc n) [] = none
   split (suc n) (x ∷ xs) = split n xs >>= λ r. some (x ∷ r .0, r .1)
 
+-- something was read
 abbrev pub is-some : {A : Type 0} → Option A → Bool
 is-some none = false
 is-some (some a) = true
@@ -62,22 +67,26 @@ somes [] = []
 somes (none ∷ os) = somes os
 somes (some a ∷ os) = a ∷ somes os
 
+-- those that pass the test
 abbrev pub keep : {A : Type 0} → (A → Bool) → List A → List A
 keep f [] = []
 keep f (x ∷ xs) = cond (f x) (x ∷ keep f xs) (keep f xs)
 
--- 0, 1, .. n - 1
+-- i, i + 1, .. : n numbers
 abbrev pub count-up : ℕ → ℕ → List ℕ
 count-up i zero = []
 count-up i (suc n) = i ∷ count-up (suc i) n
 
+-- nothing is left over
 abbrev pub whole : {A : Type 0} → A × List ℕ → Option A
 whole r = elim (r .1) [ [] ↦ some (r .0) | w ∷ ws ↦ none ]
 
+-- the first of a list, 0 where it is empty
 abbrev pub first : List ℕ → ℕ
 first [] = 0
 first (c ∷ cs) = c
 
+-- P holds of each
 pub data All {A : Type 0} (P : A → Type 0) : List A → Type 0 where
   none-left : All P []
   also : (x : A) {xs : List A} → P x → All P xs → All P (x ∷ xs)

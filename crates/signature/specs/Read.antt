@@ -1,4 +1,4 @@
--- Read.
+-- 01, Signature and Bookings: words read as a signature and as a booking. Laws says that exactly the lawful ones are read.
 use mathlib.Core.Path.{_≡_}
 use mathlib.Core.List.{List, [], _∷_, map}
 use mathlib.Core.Option.{Option, some, none}
@@ -11,7 +11,7 @@ use Rattle.signature.specs.Lists.{_>>=_, require, split, at, count-up, a
 use Rattle.signature.specs.Signature.{Signature, heads, arguments-at}
 use Rattle.signature.specs.Value.{Value, Values, vnil, vcons, con}
 
--- n constructors, and nothing behind them
+-- n constructors, and nothing behind them: "The slice ends exactly there."
 abbrev pub read-constructors : ℕ → List ℕ → Option Signature
 read-constructors zero [] = some []
 read-constructors zero (w ∷ ws) = none
@@ -23,11 +23,12 @@ read-constructors (suc n) (k ∷ (m ∷ ws)) = do
   cs ← read-constructors n (r .1)
   some (record { kind = k; args = r .0 } ∷ cs)
 
--- kinds start at 0, each equal to the previous or one more: the count of kinds, from the last kind seen
+-- "each equal to the previous or one more": the count of kinds, from the last kind seen
 abbrev pub kinds-from : ℕ → Signature → Option ℕ
 kinds-from k [] = some (suc k)
 kinds-from k (c ∷ cs) = cond (eqb (c .kind) k) (kinds-from k cs) (require (eqb (c .kind) (suc k)) >>= λ u. kinds-from (suc k) cs)
 
+-- "Kinds start at 0": the count of kinds
 abbrev pub count-kinds : Signature → Option ℕ
 count-kinds [] = none
 count-kinds (c ∷ cs) = require (eqb (c .kind) 0) >>= λ u. kinds-from 0 cs
@@ -49,6 +50,7 @@ abbrev pub least : ℕ → Signature → ℕ → List ℕ
 least zero sig n = map (λ k. over-small) (count-up 0 n)
 least (suc d) sig n = let before = least d sig n in map (λ k. min over-small (best sig before k)) (count-up 0 n)
 
+-- the limits, "Argument kinds exist", "Every kind has a value of at most 6 words"
 abbrev pub lawful-kinds : Signature → Option ℕ → Bool
 lawful-kinds sig none = false
 lawful-kinds sig (some n) = leb 1 (length sig) && leb (length sig) constructor-limit && leb n kind-limit && all (λ k. leb (length (heads sig k)) heads-limit) (count-up 0 n) && all (λ c. all (λ k. ltb k n) (c .args)) sig && all (λ m. leb m small-size) (least small-size sig n)
@@ -56,7 +58,7 @@ lawful-kinds sig (some n) = leb 1 (length sig) && leb (length sig) constructor-l
 abbrev pub lawful : Signature → Bool
 lawful sig = lawful-kinds sig (count-kinds sig)
 
--- the signature that the words are, if they are a lawful one
+-- the signature that the words are, if they are a lawful one; else refusal 1
 abbrev pub read-signature : List ℕ → Option Signature
 read-signature [] = none
 read-signature (n ∷ ws) = do
@@ -81,12 +83,13 @@ read-value sig (suc d) k (c ∷ ws) = do
   r ← read-values (λ j us. read-value sig d j us) ks ws
   some (con c (r .0), r .1)
 
+-- the value that the words are, if they are a lawful booking; else refusal 13
 abbrev pub read-booking : Signature → List ℕ → Option Value
 read-booking sig ws = do
   _ ← require (leb (length ws) booking-limit)
   r ← read-value sig depth-limit 0 ws
   whole r
 
--- sig is what some words say, and lawful
+-- sig is lawful: some words are read as it
 abbrev pub Signed : Signature → Type 0
 Signed sig = (ws : List ℕ) × (read-signature ws ≡ some sig)

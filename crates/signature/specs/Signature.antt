@@ -1,4 +1,4 @@
--- Signature.
+-- 01, Signature: constructors and kinds. What follows in all layers speaks of the heads of a kind and of their argument kinds, and of constructors only here.
 use mathlib.Core.List.{List, [], _∷_}
 use mathlib.Core.Option.{Option, some, none}
 use mathlib.Core.Bool.{cond}
@@ -6,23 +6,25 @@ use Prim.Native.Nat.{ℕ, suc}
 use lib.Dec.{eqb}
 use Rattle.signature.specs.Lists.{_>>=_, at, require}
 
--- a constructor: its kind and the kinds of its arguments
+-- "for each constructor its kind, its number of arguments and the argument kinds"
 pub record Constructor : Type 0 where
   pub kind : ℕ
   pub args : List ℕ
 
+-- "Constructors are numbered from 0": a constructor's number is its index
 abbrev pub Signature : Type 0
 Signature = List Constructor
 
--- the numbers of the constructors of a kind, the first of the list being numbered n
+-- the heads of kind k, the first constructor of the list being numbered n
 abbrev pub heads-from : ℕ → Signature → ℕ → List ℕ
 heads-from n [] k = []
 heads-from n (c ∷ cs) k = cond (eqb (c .kind) k) (n ∷ heads-from (suc n) cs k) (heads-from (suc n) cs k)
 
+-- the heads of a kind: the numbers of its constructors
 abbrev pub heads : Signature → ℕ → List ℕ
 heads sig k = heads-from 0 sig k
 
--- the argument kinds of constructor c, if c is a constructor of kind k
+-- the argument kinds of the head c, if it is a head of kind k
 abbrev pub arguments-at : Signature → ℕ → ℕ → Option (List ℕ)
 arguments-at sig k c = do
   d ← at sig c
@@ -33,6 +35,6 @@ abbrev pub arguments-or-none : Option Constructor → List ℕ
 arguments-or-none none = []
 arguments-or-none (some d) = d .args
 
--- the argument kinds of a constructor of the signature
+-- the argument kinds of a head
 abbrev pub arguments : Signature → ℕ → List ℕ
 arguments sig c = arguments-or-none (at sig c)

@@ -1,7 +1,8 @@
--- Value.
+-- 01, Bookings: values as trees, and their words.
 use mathlib.Core.List.{List, _∷_, [], _++_}
 use Prim.Native.Nat.{ℕ, suc, _+_, max}
 
+-- "A value is its constructor, then its arguments"
 mutual
   pub data Value : Type 0 where
     con : ℕ → Values → Value
@@ -10,6 +11,7 @@ mutual
     vnil : Values
     vcons : Value → Values → Values
 
+-- how many words it has
 abbrev mutual
   pub size : Value → ℕ
   size (con c vs) = suc (sizes vs)
@@ -18,7 +20,7 @@ abbrev mutual
   sizes vnil = 0
   sizes (vcons v vs) = size v + sizes vs
 
--- their words, in preorder
+-- its words, "(preorder)"
 abbrev mutual
   pub code : Value → List ℕ
   code (con c vs) = c ∷ codes vs
@@ -27,7 +29,7 @@ abbrev mutual
   codes vnil = []
   codes (vcons v vs) = code v ++ codes vs
 
--- how deep they are nested
+-- how deep it is nested: "a value without arguments is 1 deep"
 abbrev mutual
   pub depth : Value → ℕ
   depth (con c vs) = suc (depths vs)

@@ -111,7 +111,7 @@ module _ (sig : Signature) where
 
     pub table-sound : (table : List ℕ) (rs : List Rule) → SoundTable sig table rs → sound sig table ≡ some rs
     table-sound table rs h =
-        let v : Valid sig rs = record { rises = h .rises; passed = in-test (λ s. eqb (refusal-of-pattern sig (s .pattern)) 0) rs (λ r i. rw (of-passed sig (r .pattern) (h .passed r i))); short = short-all sig rs (λ r i. of-passed sig (r .pattern) (h .passed r i)); few = h .few; light = h .light; apart = is-apart rs (h .apart) } in
+        let v : Valid sig rs = record { rises = h .rises; passed = in-test (λ s. eqb (refusal-of-pattern sig (s .pattern)) 0) rs (λ r i. rw (of-passed sig signed (r .pattern) (h .passed r i))); short = short-all sig rs (λ r i. of-passed sig signed (r .pattern) (h .passed r i)); few = h .few; light = h .light; apart = is-apart rs (h .apart) } in
         let t : table ≡ stored rs table = sym (take-append-drop table-length table) ∙ ap (λ x. x ++ drop table-length table) (h .layout) in
         ap (sound sig) t ∙ sound-stored sig rs table v
 

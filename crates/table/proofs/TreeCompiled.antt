@@ -94,7 +94,7 @@ module _ (sig : Signature) where
         let (τ, fits′, alike′) = all-in (plus-means sig 0 (q .good .pat)) (q .of-pattern) v 0 g in
         let e : q .rule ≡ p .rule = one-fitter rs (p .rule) (q .rule) (p .good) (q .good) v (ok .apart) (p .held) (q .held) k fits fits′ in
         let z : q .good .pat ≡ p .good .pat = some-inj (q .good .pat) (p .good .pat) (sym (q .good .read) ∙ ap (λ r. read-pattern sig (r .pattern)) e ∙ p .good .read) in
-        let same : Same σ τ = same-fits sig (p .good .pat) (p .good .linear) (λ c. true≢false (sym (ambiguous-decided sig (p .good .pat) (pattern-words sig (p .rule .pattern) (p .good .pat) (p .good .read) .well-formed) c) ∙ p .good .plain)) k fits (subst (λ u. Fits u v 0 τ) z fits′) in
+        let same : Same σ τ = same-fits sig (p .good .pat) (p .good .linear) (p .good .plain) k fits (subst (λ u. Fits u v 0 τ) z fits′) in
         let s : Same (final (p .row) v 0 []) (final (q .row) v 0 []) = same-final (p .row) (q .row) v σ τ alike alike′ same in
         together (p .rule) (q .rule) (final (p .row) v 0 []) (final (q .row) v 0 []) e s a b x′ y′
       where

@@ -1,4 +1,4 @@
--- Demand3.
+-- Demand 3, "a single claim about whole lists": its statement.
 use mathlib.Core.Path.{_≡_}
 use mathlib.Core.List.{List, [], _++_}
 use mathlib.Core.Option.{some}
@@ -23,7 +23,7 @@ use Rattle.table.specs.Matrix.{tree-words}
 use Rattle.table.specs.Rule.{Rule, held, total-weight, table-words, SameRules}
 use Rattle.table.specs.Sound.{sound}
 
--- the checks of an entry before 12
+-- the checks of an entry before 12 pass
 pub record Earlier (sig : Signature) (n : ℕ) (ws witness : List ℕ) (rs : List Rule) : Type 0 where
   pub witness-long : witness-length ≤ length witness
   pub low : 1 ≤ n
@@ -33,7 +33,7 @@ pub record Earlier (sig : Signature) (n : ℕ) (ws witness : List ℕ) (rs : Lis
   pub room : length rs < rule-limit
   pub light : weight sig ws + total-weight sig rs ≤ weight-limit
 
--- a rule in force and a lawful booking that it and the pattern both take
+-- some lawful booking is taken by the pattern and by a rule in force
 pub record SharesHeld (sig : Signature) (ws : List ℕ) (rs : List Rule) : Type 0 where
   pub rule : Rule
   pub held : In rule rs
@@ -58,7 +58,7 @@ pub record AfterList (ss : List ℕ) (sig : Signature) (lent : List ℕ) (cs : L
   -- deciding from the table answers so too
   pub decides : (bs : List ℕ) (number : ℕ) (v : Value) (a : Answer) → read-booking sig bs ≡ some v → DecideCall ss last bs number a → (number ≡ 0) × Answered default-plan sig (rules-left sig cs []) bs a
 
--- what two lists give and leave
+-- what two lists give and leave: "two lists .. that leave the same rules leave equal tables (first 4,289 words) and equal trees"
 pub record AfterBoth (ss : List ℕ) (sig : Signature) (lent lent′ : List ℕ) (cs ds : List ListCall) (ns ms last last′ : List ℕ) : Type 0 where
   pub one : AfterList ss sig lent cs ns last
   pub other : AfterList ss sig lent′ ds ms last′
@@ -66,5 +66,6 @@ pub record AfterBoth (ss : List ℕ) (sig : Signature) (lent lent′ : List ℕ)
   -- "into spaces of equal length, the same number and, on 0, the same length and that many equal words"
   pub same-tree : SameRules (rules-left sig cs []) (rules-left sig ds []) → (space space′ out out′ : List ℕ) (n n′ len len′ : ℕ) → length space ≡ length space′ → Compile ss last space n len out → Compile ss last′ space′ n′ len′ out′ → (n ≡ n′) × (len ≡ len′) × (n ≡ 0 → take len out ≡ take len′ out′)
 
+-- "It starts from the table as a successful empty left it." "The two lists have a table each, not always of one length; every call of both, and compile and run after them, gets the same signature."
 abbrev pub Demand3 : List ℕ → Signature → Type 0
 Demand3 ss sig = (cs ds : List ListCall) (lent lent′ emptied emptied′ last last′ ns ms : List ℕ) → Empty lent 0 emptied → Empty lent′ 0 emptied′ → Calls ss emptied cs ns last → Calls ss emptied′ ds ms last′ → AfterBoth ss sig lent lent′ cs ds ns ms last last′

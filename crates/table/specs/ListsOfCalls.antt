@@ -1,4 +1,4 @@
--- ListsOfCalls.
+-- 01, Table: lists of calls, and what is reckoned from their arguments, "neither from their answers nor from the table".
 use mathlib.Core.List.{List, [], _∷_}
 use mathlib.Core.Bool.{cond}
 use Prim.Native.Nat.{ℕ}
@@ -8,7 +8,8 @@ use Rattle.table.specs.Calls.{Entered, Enter, Withdraw, long-witness}
 use Rattle.table.specs.Refusals.{entry-refusal, withdrawal-refusal}
 use Rattle.table.specs.Rule.{Rule, add-rule, take-out}
 
--- 01, Table: a list has entries and withdrawals, any number in any order; an entry's arguments are its rule number, plan, pattern words and witness buffer
+-- "A list has entries and withdrawals, any number in any order, also none, refused ones included."
+-- An entry's arguments are its rule number, plan, pattern words and witness buffer
 pub data ListCall : Type 0 where
   enter : ℕ → ℕ → List ℕ → List ℕ → ListCall
   withdraw : ℕ → ListCall
@@ -19,7 +20,7 @@ pub data Calls (ss : List ℕ) : List ℕ → List ListCall → List ℕ → Lis
   then-enter : {n plan : ℕ} {ws before witness after witness′ last : List ℕ} {e : Entered} {cs : List ListCall} {ns : List ℕ} → Enter ss n plan ws before witness e after witness′ → Calls ss after cs ns last → Calls ss before (enter n plan ws witness ∷ cs) (e .number ∷ ns) last
   then-withdraw : {n number : ℕ} {before after last : List ℕ} {cs : List ListCall} {ns : List ℕ} → Withdraw ss n before number after → Calls ss after cs ns last → Calls ss before (withdraw n ∷ cs) (number ∷ ns) last
 
--- the reckoning, from the calls' arguments: "if one of its refusals other than 3 applies .. the number reckoned is the first of these .. Otherwise it is 0"
+-- "if one of its refusals other than 3 applies to its arguments and the rules held, the number reckoned is the first of these .. Otherwise it is 0"
 abbrev pub reckon-number : Signature → ListCall → List Rule → ℕ
 reckon-number sig (enter n plan ws witness) rs = cond (long-witness witness) (entry-refusal sig n ws rs) 2
 reckon-number sig (withdraw n) rs = withdrawal-refusal n rs
@@ -29,6 +30,7 @@ abbrev pub changed : ListCall → List Rule → List Rule
 changed (enter n plan ws witness) rs = add-rule (record { number = n; plan = plan; pattern = ws }) rs
 changed (withdraw n) rs = take-out n rs
 
+-- on a refusal "nothing changes"
 abbrev pub reckon-rules : Signature → ListCall → List Rule → List Rule
 reckon-rules sig c rs = cond (eqb (reckon-number sig c rs) 0) (changed c rs) rs
 

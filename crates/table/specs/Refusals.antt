@@ -1,4 +1,4 @@
--- Refusals.
+-- 01, Turned down, in checking order: the refusals of entries and withdrawals, 4 to 12.
 use mathlib.Core.List.{List, [], _∷_}
 use mathlib.Core.Bool.{cond, not, _&&_}
 use Prim.Native.Nat.{ℕ, _+_}
@@ -13,7 +13,8 @@ use Rattle.tree.specs.Limits.{last-number}
 use Rattle.table.specs.Limits.{weight-limit, rule-limit}
 use Rattle.table.specs.Rule.{Rule, held, total-weight}
 
--- the refusals of an entry other than 1, 2 and 3, in their order; 0 for none
+-- the first refusal of an entry that applies, other than 1, 2 and 3; 0 for none:
+-- "4. The rule number is not 1 to 999. 5. The number to enter is held. 7 to 10. 11. 64 rules are held, or weights would total over 256. 12. It shares a booking with a held rule"
 abbrev pub entry-refusal : Signature → ℕ → List ℕ → List Rule → ℕ
 entry-refusal sig n ws rs =
     cond (not (leb 1 n && leb n last-number)) 4
@@ -23,10 +24,11 @@ entry-refusal sig n ws rs =
     (cond (leb rule-limit (length rs) or-else ltb weight-limit (weight sig ws + total-weight sig rs)) 11
     (cond (any (λ r. shares sig ws (r .pattern)) rs) 12 0))))
 
--- the lowest number of a held rule that shares a booking
+-- 12: "the lowest such number"
 abbrev pub sharer : Signature → List ℕ → List Rule → ℕ
 sharer sig ws [] = 0
 sharer sig ws (r ∷ rs) = cond (shares sig ws (r .pattern)) (r .number) (sharer sig ws rs)
 
+-- the same of a withdrawal: "4", "6. The number to withdraw is not held."
 abbrev pub withdrawal-refusal : ℕ → List Rule → ℕ
 withdrawal-refusal n rs = cond (not (leb 1 n && leb n last-number)) 4 (cond (not (held n rs)) 6 0)

@@ -1,4 +1,4 @@
--- Rule.
+-- 01, Table: rules, and the words of a table.
 use mathlib.Core.List.{List, _∷_, [], _++_}
 use mathlib.Core.Bool.{Bool, cond, not}
 use Prim.Native.Nat.{ℕ, _-_, _+_, _<_, _≤_}
@@ -15,7 +15,7 @@ pub record Rule : Type 0 where
   pub plan : ℕ
   pub pattern : List ℕ
 
--- a rule's words
+-- "per rule number, plan, pattern length and pattern"
 abbrev pub rule-words : Rule → List ℕ
 rule-words r = r .number ∷ (r .plan ∷ (length (r .pattern) ∷ r .pattern))
 
@@ -23,37 +23,40 @@ abbrev pub rules-words : List Rule → List ℕ
 rules-words [] = []
 rules-words (r ∷ rs) = rule-words r ++ rules-words rs
 
--- the 4,289 words of a table that holds these rules
+-- "the rule count, then per rule ..; zeros up to 4,289"
 abbrev pub table-words : List Rule → List ℕ
 table-words rs =
     let ws = length rs ∷ rules-words rs in
     ws ++ replicate (table-length - length ws) 0
 
+-- a rule with this number is held
 abbrev pub held : ℕ → List Rule → Bool
 held n rs = any (λ r. eqb n (r .number)) rs
 
+-- what the rules weigh in all
 abbrev pub total-weight : Signature → List Rule → ℕ
 total-weight sig [] = 0
 total-weight sig (r ∷ rs) = weight sig (r .pattern) + total-weight sig rs
 
--- rising by number
+-- "rising by number"
 abbrev pub add-rule : Rule → List Rule → List Rule
 add-rule r [] = r ∷ []
 add-rule r (s ∷ rs) = cond (ltb (r .number) (s .number)) (r ∷ (s ∷ rs)) (s ∷ add-rule r rs)
 
+-- "the held rule with the call's rule number is taken out"; "All other rules stay as they were."
 abbrev pub take-out : ℕ → List Rule → List Rule
 take-out n rs = keep (λ r. not (eqb n (r .number))) rs
 
--- a call on the words of a table: its number, and the words afterwards (refusals 1 and 2 are the caller's length and signature tests)
+-- "the rest untouched"
 abbrev pub stored : List Rule → List ℕ → List ℕ
 stored rs ws = table-words rs ++ drop table-length ws
 
--- numbers above m, rising, at most 999
+-- "rising by number", "every rule numbered 1 to 999": above m
 pub data Rises : ℕ → List Rule → Type 0 where
   rises-nil : {m : ℕ} → Rises m []
   rises-cons : {m : ℕ} {r : Rule} {rs : List Rule} → m < r .number → r .number ≤ last-number → Rises (r .number) rs → Rises m (r ∷ rs)
 
--- "Two lists leave the same rules if the rules left have the same numbers, each with the same plan and pattern"
+-- "Two lists leave the same rules if the rules left have the same numbers, each with the same plan and pattern."
 pub record SameRules (rs qs : List Rule) : Type 0 where
   pub to : (r : Rule) → In r rs → In r qs
   pub from : (r : Rule) → In r qs → In r rs

@@ -1,4 +1,4 @@
--- Sound.
+-- 01, Table: "Sound", said without reading, and the reading of a sound table.
 use mathlib.Core.Path.{_≡_}
 use mathlib.Core.List.{List, [], _∷_}
 use mathlib.Core.Option.{Option, some, none}
@@ -14,7 +14,7 @@ use Rattle.tree.specs.Limits.{last-number}
 use Rattle.table.specs.Limits.{table-length, rules-length, weight-limit, rule-limit}
 use Rattle.table.specs.Rule.{Rule, total-weight, table-words, Rises}
 
--- the table's rules, read back: n rules, the last number seen being m
+-- n rules rising from number m, then zeros
 abbrev pub read-rules : ℕ → ℕ → List ℕ → Option (List Rule)
 read-rules zero m ws = require (all (λ w. eqb w 0) ws) >>= λ u. some []
 read-rules (suc n) m [] = none
@@ -26,11 +26,12 @@ read-rules (suc n) m (a ∷ (b ∷ (l ∷ ws))) = do
   rs ← read-rules n a (s .1)
   some (record { number = a; plan = b; pattern = s .0 } ∷ rs)
 
+-- decides Apart
 abbrev pub no-shared : Signature → List Rule → Bool
 no-shared sig [] = true
 no-shared sig (r ∷ rs) = all (λ s. not (shares sig (r .pattern) (s .pattern))) rs && no-shared sig rs
 
--- the rules of a sound table
+-- the rules of a sound table; else refusal 3
 abbrev pub sound : Signature → List ℕ → Option (List Rule)
 sound sig [] = none
 sound sig (n ∷ ws) = do
@@ -45,7 +46,7 @@ module _ (sig : Signature) where
     apart-nil : Apart []
     apart-cons : {r : Rule} {rs : List Rule} → ((s : Rule) → In s rs → SharesBooking sig (r .pattern) (s .pattern) → ⊥) → Apart rs → Apart (r ∷ rs)
 
-  -- 01, Table, "Sound": that layout, every rule numbered 1 to 999 and past refusals 7 to 10, at most 64 rules weighing at most 256 in all, no two taking one lawful booking
+  -- "Sound: that layout, every rule numbered 1 to 999 and past refusals 7 to 10, at most 64 rules weighing at most 256 in all, no two taking one lawful booking."
   pub record SoundTable (table : List ℕ) (rs : List Rule) : Type 0 where
     pub long : table-length ≤ length table
     pub layout : take table-length table ≡ table-words rs

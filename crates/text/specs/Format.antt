@@ -1,4 +1,4 @@
--- Format.
+-- 01, the text program: its line format (17).
 use mathlib.Core.List.{List, _∷_, []}
 use mathlib.Core.Option.{Option, none, some}
 use mathlib.Core.Bool.{cond, Bool, _&&_, false, not}
@@ -9,7 +9,7 @@ use Rattle.signature.specs.Lists.{_>>=_, require, all}
 use Rattle.table.specs.Rule.{Rule}
 use Rattle.text.specs.Limits.{last-word, list-limit, text-limit}
 
--- the bytes of the keys: sig= rule= plan= pat= book= bind= refused=
+-- "fixed byte strings such as sig= and book=", as bytes
 abbrev pub key-sig : List ℕ
 key-sig = 115 ∷ 105 ∷ 103 ∷ 61 ∷ []
 
@@ -25,11 +25,12 @@ key-pat = 112 ∷ 97 ∷ 116 ∷ 61 ∷ []
 abbrev pub key-book : List ℕ
 key-book = 98 ∷ 111 ∷ 111 ∷ 107 ∷ 61 ∷ []
 
--- the parts between the separators c
+-- a byte in front of the first part
 abbrev pub push : ℕ → List (List ℕ) → List (List ℕ)
 push b [] = (b ∷ []) ∷ []
 push b (f ∷ fs) = (b ∷ f) ∷ fs
 
+-- the parts between the separators c
 abbrev pub fields : ℕ → List ℕ → List (List ℕ)
 fields c [] = [] ∷ []
 fields c (b ∷ bs) = cond (eqb b c) ([] ∷ fields c bs) (push b (fields c bs))
@@ -78,13 +79,14 @@ after-key [] bs = some bs
 after-key (k ∷ ks) [] = none
 after-key (k ∷ ks) (b ∷ bs) = require (eqb k b) >>= λ u. after-key ks bs
 
+-- a line of a list; a line "and one for rule= and plan="
 abbrev pub list-after : List ℕ → List ℕ → Option (List ℕ)
 list-after key bs = after-key key bs >>= λ rest. list rest
 
 abbrev pub number-after : List ℕ → List ℕ → Option ℕ
 number-after key bs = after-key key bs >>= λ rest. number rest
 
--- the text: signature, rules in order, booking
+-- signature, rules in order, booking
 pub record Text : Type 0 where
   pub sig-words : List ℕ
   pub rules : List Rule
@@ -104,6 +106,7 @@ rest-lines (l ∷ (m ∷ (k ∷ ls))) = do
   r ← rest-lines ls
   some (record { number = n; plan = p; pattern = ws } ∷ r .0, r .1)
 
+-- "A program reads lines sig=, then rule=, plan=, pat= per rule, then book="
 abbrev pub text-lines : List (List ℕ) → Option Text
 text-lines [] = none
 text-lines (l ∷ ls) = do
@@ -111,7 +114,7 @@ text-lines (l ∷ ls) = do
   r ← rest-lines ls
   some (record { sig-words = ss; rules = r .0; book-words = r .1 })
 
--- "at most 32,768 bytes"; none is refusal 17
+-- "at most 32,768 bytes"; else refusal 17
 abbrev pub read-text : List ℕ → Option Text
 read-text bytes = do
   _ ← require (leb (length bytes) text-limit)

@@ -1,4 +1,4 @@
--- Lawful.
+-- 01, the text program: the line format, said without reading.
 use mathlib.Core.Path.{_≡_}
 use mathlib.Core.List.{List, map, [], _∷_, _++_}
 use Prim.Native.Nat.{ℕ, _≤_}
@@ -9,7 +9,7 @@ use Rattle.text.specs.Format.{key-rule, key-plan, key-pat, Text, key-sig
 use Rattle.text.specs.Limits.{last-word, list-limit, text-limit}
 use Rattle.text.specs.Print.{spaced, decimal}
 
--- "one space between"
+-- numbers in decimal, "one space between"
 abbrev pub list-bytes : List ℕ → List ℕ
 list-bytes ns = spaced (map decimal ns)
 
@@ -24,11 +24,12 @@ pub record RuleOk (r : Rule) : Type 0 where
   pub plan-ok : r .plan ≤ last-word
   pub pattern-ok : ListOk (r .pattern)
 
--- "lines sig=, then rule=, plan=, pat= per rule, then book="
+-- "rule=, plan=, pat= per rule"
 abbrev pub rules-lines : List Rule → List (List ℕ) → List (List ℕ)
 rules-lines [] ls = ls
 rules-lines (r ∷ rs) ls = (key-rule ++ decimal (r .number)) ∷ ((key-plan ++ decimal (r .plan)) ∷ ((key-pat ++ list-bytes (r .pattern)) ∷ rules-lines rs ls))
 
+-- "sig=, then .., then book="
 abbrev pub lines-of : Text → List (List ℕ)
 lines-of t = (key-sig ++ list-bytes (t .sig-words)) ∷ rules-lines (t .rules) ((key-book ++ list-bytes (t .book-words)) ∷ [])
 
@@ -37,6 +38,7 @@ abbrev pub unlines : List (List ℕ) → List ℕ
 unlines [] = []
 unlines (l ∷ ls) = l ++ (10 ∷ unlines ls)
 
+-- these bytes are this text
 pub record TextBytes (bytes : List ℕ) (t : Text) : Type 0 where
   pub is-text : bytes ≡ unlines (lines-of t)
   pub at-most : length bytes ≤ text-limit

@@ -1,4 +1,4 @@
--- Print.
+-- 01, the text program: what it prints.
 use mathlib.Core.List.{List, _∷_, [], _++_}
 use mathlib.Core.Option.{Option, none, some}
 use mathlib.Core.Bool.{cond}
@@ -15,22 +15,25 @@ use Rattle.table.specs.Rule.{Rule, add-rule}
 use Rattle.text.specs.Format.{key-rule, key-plan, Text, read-text}
 use Rattle.text.specs.Limits.{last-word}
 
+-- the bytes of bind= and refused=
 abbrev pub key-bind : List ℕ
 key-bind = 98 ∷ 105 ∷ 110 ∷ 100 ∷ 61 ∷ []
 
 abbrev pub key-refused : List ℕ
 key-refused = 114 ∷ 101 ∷ 102 ∷ 117 ∷ 115 ∷ 101 ∷ 100 ∷ 61 ∷ []
 
--- a number's bytes
+-- a number's digits, f of them at most, before other bytes
 abbrev pub digits : ℕ → ℕ → List ℕ → List ℕ
 digits zero n behind = behind
 digits (suc f) n behind =
     let more = digits f (n / 10) ((48 + n % 10) ∷ behind) in
     cond (ltb n 10) ((48 + n) ∷ behind) more
 
+-- a number in decimal
 abbrev pub decimal : ℕ → List ℕ
 decimal n = digits 5 n []
 
+-- a line: key, bytes, newline
 abbrev pub line : List ℕ → List ℕ → List ℕ
 line key bs = key ++ (bs ++ (10 ∷ []))
 
@@ -39,14 +42,17 @@ abbrev pub pairs-text : ℕ → List ℕ → List (List ℕ)
 pairs-text x [] = []
 pairs-text x (p ∷ ps) = cond (eqb p last-word) (pairs-text (suc x) ps) ((decimal x ++ (58 ∷ decimal p)) ∷ pairs-text (suc x) ps)
 
+-- "space between"
 abbrev pub spaced : List (List ℕ) → List ℕ
 spaced [] = []
 spaced (f ∷ []) = f
 spaced (f ∷ (g ∷ gs)) = f ++ (32 ∷ spaced (g ∷ gs))
 
+-- "the first refusal n prints refused=n only"
 abbrev pub print-refused : ℕ → List ℕ
 print-refused n = line key-refused (decimal n)
 
+-- "prints rule=7, plan=40, bind=0:2 .. on three lines; without bindings the third is bind= alone"
 abbrev pub print-answer : Answer → List ℕ
 print-answer a = line key-rule (decimal (a .rule)) ++ (line key-plan (decimal (a .plan)) ++ line key-bind (spaced (pairs-text 0 (a .places))))
 
@@ -62,6 +68,7 @@ enter-all sig (q ∷ qs) rs =
     let n = entry-refusal sig (q .number) (q .pattern) rs in
     cond (eqb n 0) next (stopped n)
 
+-- 13, or the answer: "The booking is decided directly from the table."
 abbrev pub print-decided : Signature → List Rule → Option Value → List ℕ
 print-decided sig rs none = print-refused 13
 print-decided sig rs (some v) = print-answer (direct default-plan sig rs v)
@@ -70,14 +77,16 @@ abbrev pub print-entered : Signature → List ℕ → EnteredAll → List ℕ
 print-entered sig bs (stopped n) = print-refused n
 print-entered sig bs (entered rs) = print-decided sig rs (read-booking sig bs)
 
+-- 1: "1, 13 and 17 print the same way."
 abbrev pub print-text : Option Signature → Text → List ℕ
 print-text none t = print-refused 1
 print-text (some sig) t = print-entered sig (t .book-words) (enter-all sig (t .rules) [])
 
--- "Format is checked first, over the whole text": what the program prints
+-- 17: "Format is checked first, over the whole text."
 abbrev pub print-read : Option Text → List ℕ
 print-read none = print-refused 17
 print-read (some t) = print-text (read-signature (t .sig-words)) t
 
+-- what the program prints for these bytes
 abbrev pub printed : List ℕ → List ℕ
 printed bytes = print-read (read-text bytes)

@@ -1,4 +1,4 @@
--- Compiled.
+-- 01, Tree: the four rules, as a relation between a matrix and its tree. Laws says that one tree obeys them, and that compile gives it.
 use mathlib.Core.Path.{_≡_}
 use mathlib.Core.List.{List, [], _∷_, map, _++_}
 use mathlib.Core.Bool.{true, false}
@@ -12,7 +12,7 @@ abbrev pub Leaf : ℕ → ℕ → List (ℕ × ℕ) → Line → Type 0
 Leaf r p bs l = (r ≡ l .rule) × (p ≡ l .plan) × (bs ≡ l .binds)
 
 module _ (dft : ℕ) (sig : Signature) where
-  -- 01, Tree: columns of these kinds, these lines, t visits made: this tree
+  -- columns of these kinds, these lines, t visits made: this tree
   mutual
     pub data Compiled : List ℕ → List Line → ℕ → Tree → Type 0 where
       -- "No rows: 0."

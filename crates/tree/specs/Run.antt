@@ -1,4 +1,4 @@
--- Run.
+-- 01, Tree: a run over the words of a tree. "Running reads the booking alongside".
 use mathlib.Core.List.{List, [], _∷_, _++_}
 use mathlib.Core.Option.{Option, some, none}
 use mathlib.Core.Bool.{_&&_, cond}
@@ -14,11 +14,12 @@ use Rattle.pattern.specs.Places.{unbound}
 use Rattle.tree.specs.Answer.{Answer, no-rule}
 use Rattle.tree.specs.Limits.{last-number}
 
+-- parts of a booking before other parts
 abbrev pub vjoin : Values → Values → Values
 vjoin vnil us = us
 vjoin (vcons v vs) us = vcons v (vjoin vs us)
 
--- the n pairs (variable, visit) at the start of the words, variables at least m and rising; visits are the places visited
+-- the n pairs (variable, visit) at the start of the words; broken: "a variable above 15 or not rising, or a visit not made". visits are the places visited
 abbrev pub bound : ℕ → ℕ → List ℕ → List ℕ → List ℕ → Option (List ℕ)
 bound zero m ws visits places = some places
 bound (suc n) m [] visits places = none
@@ -29,11 +30,11 @@ bound (suc n) m (x ∷ (t ∷ ws)) visits places = do
   bound n (suc x) ws visits (set places x i)
 
 -- how a run goes on: at the node at an index, with these parts of the booking left, the first of them at a place,
--- and the places visited. none: the tree is broken
+-- and the places visited. none: "A tree is broken"
 abbrev pub Run : Type 0
 Run = ℕ → Values → ℕ → List ℕ → Option Answer
 
--- a node 1: nothing of the booking is left
+-- a node 1; broken: "a hit leaf with booking left or a rule outside 1 to 999"
 abbrev pub at-hit : List ℕ → Run
 at-hit tree i (vcons v us) j visits = none
 at-hit tree i vnil j visits = do
@@ -44,7 +45,8 @@ at-hit tree i vnil j visits = do
   places ← bound n 0 (drop (i + 4) tree) visits unbound
   some (record { rule = r; plan = p; places = places })
 
--- a node 2: one link for each constructor of the kind of the first part left
+-- a node 2: one link for each head of the kind of the first part left; broken: "no booking part left to take", "a wrong kind or count", "a link not above its own index".
+-- "of a node 2 only its first three words and the link that is followed" are examined
 abbrev pub at-test : Signature → List ℕ → Run → Run
 at-test sig tree next i vnil j visits = none
 at-test sig tree next i (vcons (con c us) rest) j visits = do
@@ -56,13 +58,13 @@ at-test sig tree next i (vcons (con c us) rest) j visits = do
   _ ← require (ltb i link)
   next link (vjoin us rest) (suc j) (visits ++ (j ∷ []))
 
--- a node 3: the first part left is skipped
+-- a node 3: "3 skips one whole part"; broken: "no booking part left to take"
 abbrev pub at-skip : Run → Run
 at-skip next i vnil j visits = none
 at-skip next i (vcons v rest) j visits = next (suc i) rest (j + size v) (visits ++ (j ∷ []))
 
 module _ (dft : ℕ) where
-  -- n bounds the nodes that are walked
+  -- "a walked node lies outside the slice, has another first word": broken. n bounds the nodes that are walked
   abbrev pub run : ℕ → Signature → List ℕ → Run
   run zero sig tree i vs j visits = none
   run (suc n) sig tree i vs j visits = do
@@ -70,6 +72,7 @@ module _ (dft : ℕ) where
     let next : Run = λ i′ vs′ j′ visits′. run n sig tree i′ vs′ j′ visits′
     cond (eqb w 0) (some (no-rule dft)) (cond (eqb w 1) (at-hit tree i vs j visits) (cond (eqb w 2) (at-test sig tree next i vs j visits) (cond (eqb w 3) (at-skip next i vs j visits) none)))
 
+  -- a run of a booking's words from index 0
   abbrev pub run-words : Signature → List ℕ → List ℕ → Option Answer
   run-words sig ws bs = do
     v ← read-booking sig bs

@@ -1,4 +1,4 @@
--- Tree.
+-- 01, Tree: the matrix of the rules' rows compiled by its first column; the paper, section 6, always first column.
 use mathlib.Core.List.{List, _∷_, [], _++_, map}
 use mathlib.Core.Option.{Option, none, some}
 use mathlib.Core.Bool.{cond, Bool, false, true, not}
@@ -8,6 +8,7 @@ use Rattle.signature.specs.Lists.{all, memb, require, _>>=_, first, somes, any}
 use Rattle.signature.specs.Signature.{Signature, heads, arguments}
 use Rattle.row.specs.Row.{Rows, rnil, rcons, named, free, open-rows}
 
+-- default leaf; hit leaf (rule, plan, pairs of variable and visit); test (first head, children); skip
 mutual
   pub data Tree : Type 0 where
     default : ℕ → Tree
@@ -26,47 +27,50 @@ pub record Line : Type 0 where
   pub binds : List (ℕ × ℕ)
   pub cells : Rows
 
+-- columns before columns
 abbrev pub rappend : Rows → Rows → Rows
 rappend rnil ss = ss
 rappend (rcons r rs) ss = rcons r (rappend rs ss)
 
--- variables rising
+-- "n pairs (variable, visit), variables rising"
 abbrev pub insert : ℕ × ℕ → List (ℕ × ℕ) → List (ℕ × ℕ)
 insert b [] = b ∷ []
 insert b (c ∷ cs) = cond (leb (b .0) (c .0)) (b ∷ (c ∷ cs)) (c ∷ insert b cs)
 
+-- variables bound at visit t
 abbrev pub inserts : ℕ → List ℕ → List (ℕ × ℕ) → List (ℕ × ℕ)
 inserts t [] bs = bs
 inserts t (x ∷ xs) bs = insert (x, t) (inserts t xs bs)
 
--- the first cell of a line names or excludes a constructor of its column's kind
+-- "A place is refined if its row names or excludes a constructor there."
 abbrev pub refined : Signature → ℕ → Rows → Bool
 refined sig k rnil = false
 refined sig k (rcons (named xs c rs) ss) = true
 refined sig k (rcons (free xs cs) ss) = not (all (λ c. memb c cs) (heads sig k))
 
--- the first cell taken where the value there has the constructor c, with arguments of kinds js: its variables, and the cells then
+-- the first column taken where the value there has the head c, with arguments of kinds js: its variables, and the columns then; "arguments become the first columns"
 abbrev pub taken : Signature → List ℕ → ℕ → Rows → Option (List ℕ × Rows)
 taken sig js c rnil = none
 taken sig js c (rcons (named xs d rs) ss) = require (eqb d c) >>= λ u. some (xs, rappend rs ss)
 taken sig js c (rcons (free xs cs) ss) = require (memb c cs) >>= λ u. some (xs, rappend (open-rows sig js) ss)
 
--- the first cell passed over
+-- the first column passed over
 abbrev pub passed : Rows → Option (List ℕ × Rows)
 passed rnil = none
 passed (rcons (named xs d rs) ss) = none
 passed (rcons (free xs cs) ss) = some (xs, ss)
 
--- a line after visit t
+-- a line after visit t; "a visit is one column taken, numbered from 0 along the path"
 abbrev pub after : ℕ → (Rows → Option (List ℕ × Rows)) → Line → Option Line
 after t step l = step (l .cells) >>= λ r. some (record { rule = l .rule; plan = l .plan; binds = inserts t (r .0) (l .binds); cells = r .1 })
 
+-- "the children in constructor order"
 abbrev pub children : (ℕ → Tree) → List ℕ → Trees
 children child [] = tnil
 children child (c ∷ cs) = tcons (child c) (children child cs)
 
 module _ (dft : ℕ) where
-  -- columns of these kinds; t visits are made; n bounds the visits still to come
+  -- the tree for columns of these kinds; t visits are made; n bounds the visits still to come
   abbrev pub compile : ℕ → Signature → List ℕ → List Line → ℕ → Tree
   compile zero sig ks ls t = default dft
   compile (suc n) sig ks [] t = default dft

@@ -1,14 +1,15 @@
--- Words.
+-- 01, Tree: the words of a tree: "Nodes stand in preorder from index 0".
 use mathlib.Core.List.{List, [], _∷_, _++_}
 use Prim.Native.Nat.{ℕ, _+_, _*_, suc}
 use lib.ListN.{length}
 use Rattle.tree.specs.Tree.{Tree, default, hit, test, skip, Trees, tnil, tcons}
 
--- the words of a tree whose root stands at index i
+-- "n pairs (variable, visit)"
 abbrev pub pairs : List (ℕ × ℕ) → List ℕ
 pairs [] = []
 pairs (b ∷ bs) = b .0 ∷ (b .1 ∷ pairs bs)
 
+-- how many words a tree has
 abbrev mutual
   pub words : Tree → ℕ
   words (default d) = 1
@@ -24,11 +25,13 @@ abbrev mutual
   count tnil = 0
   count (tcons t ts) = suc (count ts)
 
--- the index of each child, the first one's being i
+-- "k links (index of each child)", the first one's being i
 abbrev pub links : Trees → ℕ → List ℕ
 links tnil i = []
 links (tcons t ts) i = i ∷ links ts (i + words t)
 
+-- the words of a tree whose root stands at index i:
+-- "No rows: 0. No columns: 1, rule, plan, n, then n pairs. .. 2, the kind's first constructor, their count k, k links (index of each child), then the children in constructor order. Else 3, then the child."
 abbrev mutual
   pub layout : Tree → ℕ → List ℕ
   layout (default d) i = 0 ∷ []
