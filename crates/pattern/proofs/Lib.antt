@@ -1,6 +1,9 @@
+pub mod Cases
 pub mod Decided
 pub mod Exclusive
 pub mod Forms
 pub mod Once
 pub mod PatternBack
 pub mod Unique
+pub mod Covering
+pub mod Laws

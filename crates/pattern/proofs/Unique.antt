@@ -75,7 +75,7 @@ module _ (sig : Signature) where
       go false e = absurd (n (here-and e h f g))
 
 -- arguments of a minus constructor bind nothing
-minus-empty : (ps : Patterns) → all-minus ps ≡ true → is-empty (O-all ps) ≡ true
+pub minus-empty : (ps : Patterns) → all-minus ps ≡ true → is-empty (O-all ps) ≡ true
 minus-empty pnil e = refl
 minus-empty (pcons p ps) e = go (O p) (and-right (linear-minus p && all-minus ps) (is-empty (O p)) e) (minus-empty ps (and-right (linear-minus p) (all-minus ps) (and-left (linear-minus p && all-minus ps) (is-empty (O p)) e)))
   where

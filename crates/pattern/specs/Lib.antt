@@ -9,3 +9,5 @@ pub mod Read
 pub mod Takes
 pub mod Weight
 pub mod WellFormed
+pub mod Laws
+pub mod Cases

@@ -1,4 +1,4 @@
-pub mod AdmittedFacts
+pub mod PassedFacts
 pub mod Exists
 pub mod OverlapFacts
 pub mod Places

@@ -8,3 +8,5 @@ pub mod PartFacts
 pub mod SignatureBack
 pub mod Tests
 pub mod Values
+pub mod Laws
+pub mod Cases

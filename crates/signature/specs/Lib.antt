@@ -7,3 +7,5 @@ pub mod Lawful
 pub mod Read
 pub mod Part
 pub mod Decoded
+pub mod Laws
+pub mod Cases

@@ -24,7 +24,7 @@ use Rattle.pattern.proofs.Once.{places-of, once-fits, places-only}
 use Rattle.pattern.proofs.PatternBack.{pattern-words}
 use Rattle.row.specs.Admitted.{refusal-of-pattern, Passed}
 use Rattle.row.specs.Overlap.{shares}
-use Rattle.row.proofs.AdmittedFacts.{passed-of, takes-fits, takes-fails, one-list-of, clash}
+use Rattle.row.proofs.PassedFacts.{passed-of, takes-fits, takes-fails, one-list-of, clash}
 use Rattle.tree.specs.Answer.{Answer, no-rule}
 use Rattle.table.specs.Decide.{OneRule, direct, Answered, by-default, by-rule}
 use Rattle.table.specs.Rule.{Rule}

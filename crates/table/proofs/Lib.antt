@@ -1,4 +1,4 @@
-pub mod CallFacts
+pub mod Outcomes
 pub mod Demand2Facts
 pub mod Demand3Facts
 pub mod RunDirect

@@ -27,7 +27,7 @@ use Rattle.pattern.proofs.PatternBack.{pattern-words}
 use Rattle.row.specs.Admitted.{Passed, refusal-of-pattern}
 use Rattle.row.specs.Row.{Row, rows-plus}
 use Rattle.row.specs.RowFits.{fits-some, row-fits}
-use Rattle.row.proofs.AdmittedFacts.{passed-of}
+use Rattle.row.proofs.PassedFacts.{passed-of}
 use Rattle.row.proofs.RowBinds.{Means, plus-means}
 use Rattle.row.proofs.RowCount.{OnceIn, plus-once}
 use Rattle.row.proofs.RowTheorem.{plus-fits}

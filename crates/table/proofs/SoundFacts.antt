@@ -17,7 +17,7 @@ use Rattle.signature.proofs.Tests.{bind-some, some-inj, require-some, none≢so
 use Rattle.pattern.specs.Limits.{pattern-limit}
 use Rattle.row.specs.Admitted.{refusal-of-pattern}
 use Rattle.row.specs.Overlap.{shares}
-use Rattle.row.proofs.AdmittedFacts.{short-of, passed-of, of-passed}
+use Rattle.row.proofs.PassedFacts.{short-of, passed-of, of-passed}
 use Rattle.row.proofs.Exists.{exists-shares, shares-exists}
 use Rattle.tree.specs.Answer.{Answer}
 use Rattle.tree.specs.Limits.{last-number, default-plan}

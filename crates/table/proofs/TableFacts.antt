@@ -17,7 +17,7 @@ use Rattle.pattern.specs.Limits.{pattern-limit}
 use Rattle.pattern.specs.Weight.{weight}
 use Rattle.row.specs.Admitted.{refusal-of-pattern}
 use Rattle.row.specs.Overlap.{shares}
-use Rattle.row.proofs.AdmittedFacts.{short-of}
+use Rattle.row.proofs.PassedFacts.{short-of}
 use Rattle.tree.specs.Limits.{last-number}
 use Rattle.table.specs.Limits.{table-length, rules-length, rule-length, weight-limit, rule-limit}
 use Rattle.table.specs.Refusals.{entry-refusal}

@@ -24,12 +24,12 @@ use Rattle.row.specs.Admitted.{Passed, refusal-of-pattern}
 use Rattle.row.specs.Overlap.{shares}
 use Rattle.row.specs.Row.{Row, rows-plus}
 use Rattle.row.specs.RowFits.{row-fits}
-use Rattle.row.proofs.AdmittedFacts.{passed-of}
+use Rattle.row.proofs.PassedFacts.{passed-of}
 use Rattle.row.proofs.Exists.{fit-overlap, ambiguous-decided}
 use Rattle.row.proofs.RowBinds.{plus-means}
 use Rattle.tree.specs.Compiled.{Compiled}
 use Rattle.tree.specs.Tree.{Line}
-use Rattle.tree.proofs.Agree.{SameHit, same-final, Path, visited-nil, shaped, on-leaf, on-test, on-skip}
+use Rattle.tree.proofs.PathsAgree.{SameHit, same-final, Path, visited-nil, shaped, on-leaf, on-test, on-skip}
 use Rattle.tree.proofs.CompiledFacts.{compile-ends}
 use Rattle.tree.proofs.TreeFacts.{Hit, outcome, final}
 use Rattle.table.specs.Limits.{visit-bound}

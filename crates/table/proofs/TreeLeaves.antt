@@ -24,7 +24,7 @@ use Rattle.pattern.proofs.Unique.{no-E}
 use Rattle.row.specs.Admitted.{Passed, refusal-of-pattern}
 use Rattle.row.specs.Row.{Row, rcons, rnil}
 use Rattle.row.specs.RowFits.{place-count}
-use Rattle.row.proofs.AdmittedFacts.{passed-of}
+use Rattle.row.proofs.PassedFacts.{passed-of}
 use Rattle.row.proofs.OverlapFacts.{Good, plus-good}
 use Rattle.row.proofs.Places.{plus-places}
 use Rattle.row.proofs.RowCount.{OnceIn, plus-once, plus-count}

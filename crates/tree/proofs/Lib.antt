@@ -1,4 +1,4 @@
-pub mod Agree
+pub mod PathsAgree
 pub mod CompiledFacts
 pub mod RowPlaces
 pub mod RunFacts

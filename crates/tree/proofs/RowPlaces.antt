@@ -18,7 +18,7 @@ use Rattle.pattern.proofs.Once.{same-places, tick-one, once-fits}
 use Rattle.row.specs.Admitted.{Passed}
 use Rattle.row.specs.Row.{Row, named, free, Rows, rnil, rcons}
 use Rattle.row.specs.RowFits.{row-binds, rows-bind, row-fits}
-use Rattle.row.proofs.AdmittedFacts.{one-list-of}
+use Rattle.row.proofs.PassedFacts.{one-list-of}
 use Rattle.row.proofs.RowBinds.{Means}
 use Rattle.row.proofs.RowCount.{occurs, occurs-all, OnceIn}
 use Rattle.tree.specs.Tree.{insert, inserts}
