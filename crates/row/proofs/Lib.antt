@@ -7,3 +7,5 @@ pub mod RowCount
 pub mod RowMeet
 pub mod RowTheorem
 pub mod Symmetric
+pub mod Cases
+pub mod Laws

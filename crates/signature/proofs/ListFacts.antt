@@ -9,10 +9,10 @@ use native.Mathlib.Nat.{add-zero, add-suc, suc-add, zero-add}
 use native.Mathlib.Omega.{arith}
 use lib.Dec.{eqb}
 use lib.ListN.{length, getD, replicate, drop, take}
-use Rattle.signature.specs.Lists.{All, none-left, also, somes, _>>=_, require, keep, split, at, count-up, all, any, In, in-here, in-there}
+use Rattle.signature.specs.Lists.{All, none-left, also, somes, _>>=_, require, keep, split, at, count-up, all, any, In, in-here, in-there, _or-else_}
 use Rattle.signature.specs.Signature.{Signature}
 use Rattle.signature.proofs.Booleans.{and-left, and-right, or-left, or-right}
-use Rattle.signature.proofs.Tests.{some-inj, none≢some, bind-some, eqb-eq}
+use Rattle.signature.proofs.Tests.{true≢false, some-inj, none≢some, bind-some, eqb-eq}
 
 module _ {A : Type 0} {P : A → Type 0} where
   pub all-append : {xs ys : List A} → All P xs → All P ys → All P (xs ++ ys)
@@ -251,3 +251,20 @@ split-was (suc n) (x ∷ xs) r e =
 pub zeros-were : (ws : List ℕ) → all (λ w. eqb w 0) ws ≡ true → ws ≡ replicate (length ws) 0
 zeros-were [] e = refl
 zeros-were (w ∷ ws) e = ap₂ (λ x xs. x ∷ xs) (eqb-eq w 0 (and-left (eqb w 0) (all (λ x. eqb x 0) ws) e)) (zeros-were ws (and-right (eqb w 0) (all (λ x. eqb x 0) ws) e))
+
+-- a test that some element passes, and which
+pub any-in : {A : Type 0} (f : A → Bool) (rs : List A) → any f rs ≡ true → (r : A) × In r rs × (f r ≡ true)
+any-in {A} f [] e = true≢false (sym e)
+any-in {A} f (r ∷ rs) e = go (f r) refl (any-in f rs)
+  where
+    go : (b : Bool) → f r ≡ b → (any f rs ≡ true → (s : A) × In s rs × (f s ≡ true)) → (s : A) × In s (r ∷ rs) × (f s ≡ true)
+    go true q k = (r, in-here, q)
+    go false q k = let (s, i, z) = k (rw q at e) in (s, in-there i, z)
+
+pub in-any : {A : Type 0} (f : A → Bool) (rs : List A) (r : A) → In r rs → f r ≡ true → any f rs ≡ true
+in-any f (s ∷ rs) r in-here e = rw e
+in-any f (s ∷ rs) r (in-there i) e = rw (in-any f rs r i e) (go (f s))
+  where
+    go : (b : Bool) → (b or-else true) ≡ true
+    go true = refl
+    go false = refl

@@ -13,7 +13,7 @@ use Rattle.signature.specs.Read.{read-signature, read-booking}
 use Rattle.signature.specs.Signature.{Signature}
 use Rattle.signature.specs.Value.{Value, vcons, vnil}
 use Rattle.signature.proofs.Booleans.{not-false, or-right, and-left, and-right, or-left}
-use Rattle.signature.proofs.ListFacts.{no-in, in-cases, take-exact, drop-exact}
+use Rattle.signature.proofs.ListFacts.{any-in, in-any, no-in, in-cases, take-exact, drop-exact}
 use Rattle.signature.proofs.Tests.{none-of, eqb-eq, leb-yes, true≢false, past, past-own, lt-of-not, le-of, leb-no, ltb-no, pair-first, pair-second}
 use Rattle.pattern.specs.Linear.{linear-plus}
 use Rattle.pattern.specs.Pattern.{Pattern}
@@ -135,23 +135,6 @@ rises-same (rises-cons {r = r} {rs = rs} a b h) (rises-cons {r = q} {rs = qs} c 
     go (inl e) w k = same e k
     go (inr i) (inl e) k = same (sym e) k
     go (inr i) (inr j) k = absurd (omega (arith, in-above r l i, in-above q h j))
-
--- some rule shares
-any-in : (f : Rule → Bool) (rs : List Rule) → any f rs ≡ true → (r : Rule) × In r rs × (f r ≡ true)
-any-in f [] e = true≢false (sym e)
-any-in f (r ∷ rs) e = go (f r) refl (any-in f rs)
-  where
-    go : (b : Bool) → f r ≡ b → (any f rs ≡ true → (s : Rule) × In s rs × (f s ≡ true)) → (s : Rule) × In s (r ∷ rs) × (f s ≡ true)
-    go true q k = (r, in-here, q)
-    go false q k = let (s, i, z) = k (rw q at e) in (s, in-there i, z)
-
-in-any : (f : Rule → Bool) (rs : List Rule) (r : Rule) → In r rs → f r ≡ true → any f rs ≡ true
-in-any f (s ∷ rs) r in-here e = rw e
-in-any f (s ∷ rs) r (in-there i) e = rw (in-any f rs r i e) (go (f s))
-  where
-    go : (b : Bool) → (b or-else true) ≡ true
-    go true = refl
-    go false = refl
 
 module _ (ss : List ℕ) (sig : Signature) (lawful : read-signature ss ≡ some sig) where
   start-stored : (rs : List Rule) (t : List ℕ) → Valid sig rs → start ss true (stored rs t) ≡ begin sig rs
