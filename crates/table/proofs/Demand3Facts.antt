@@ -4,7 +4,7 @@ use mathlib.Core.Logic.{_⊎_, inl, inr}
 use mathlib.Core.List.{List, [], _∷_, _++_}
 use mathlib.Core.Option.{Option, none, some}
 use mathlib.Core.Bool.{not, _&&_, Bool, true, false, cond}
-use Prim.Native.Nat.{ℕ, _+_, _≤_, _*_, _<_}
+use Prim.Native.Nat.{ℕ, suc, _+_, _≤_, _*_, _<_}
 use native.Mathlib.Omega.{arith}
 use lib.Dec.{leb, eqb, ltb}
 use lib.ListN.{length, length-append, length-replicate, drop, take}
@@ -193,7 +193,7 @@ module _ (ss : List ℕ) (sig : Signature) (lawful : read-signature ss ≡ some 
           let (c, e₃) = past-own (refusal-of-pattern sig ws) _ 12 (pattern-not-12 sig ws) e₂ in
           let (d, e₄) = past (leb rule-limit (length rs) or-else ltb weight-limit (weight sig ws + total-weight sig rs)) 11 _ 12 (λ z. omega arith) e₃ in
           let l : (leb 1 n && leb n last-number) ≡ true = not-false (leb 1 n && leb n last-number) a in
-          let w : weight sig ws + total-weight sig rs < 257 = lt-of-not 257 (weight sig ws + total-weight sig rs) (or-right (leb rule-limit (length rs)) (ltb weight-limit (weight sig ws + total-weight sig rs)) d) in
+          let w : weight sig ws + total-weight sig rs < suc weight-limit = lt-of-not (suc weight-limit) (weight sig ws + total-weight sig rs) (or-right (leb rule-limit (length rs)) (ltb weight-limit (weight sig ws + total-weight sig rs)) d) in
           (record { witness-long = le-of witness-length (length witness) q; low = le-of 1 n (and-left (leb 1 n) (leb n last-number) l); high = le-of n last-number (and-right (leb 1 n) (leb n last-number) l); new = b; good = c; room = lt-of-not rule-limit (length rs) (or-left (leb rule-limit (length rs)) (ltb weight-limit (weight sig ws + total-weight sig rs)) d); light = omega arith }, shared (any (λ r. shares sig ws (r .pattern)) rs) refl e₄)
         where
           shared : (b : Bool) → any (λ r. shares sig ws (r .pattern)) rs ≡ b → cond {A = ℕ} (any (λ r. shares sig ws (r .pattern)) rs) 12 0 ≡ 12 → SharesHeld sig ws rs

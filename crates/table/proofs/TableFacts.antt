@@ -200,7 +200,7 @@ module _ (sig : Signature) where
         let (d, e₄) = pass (leb rule-limit (length rs) or-else ltb weight-limit (weight sig ws + total-weight sig rs)) 11 _ (λ z. omega arith) e₃ in
         let (f, e₅) = pass (any (λ r. shares sig ws (r .pattern)) rs) 12 0 (λ z. omega arith) e₄ in
         let l : (leb 1 n && leb n last-number) ≡ true = not-false (leb 1 n && leb n last-number) a in
-        let w : weight sig ws + total-weight sig rs < 257 = lt-of-not 257 (weight sig ws + total-weight sig rs) (or-right (leb rule-limit (length rs)) (ltb weight-limit (weight sig ws + total-weight sig rs)) d) in
+        let w : weight sig ws + total-weight sig rs < suc weight-limit = lt-of-not (suc weight-limit) (weight sig ws + total-weight sig rs) (or-right (leb rule-limit (length rs)) (ltb weight-limit (weight sig ws + total-weight sig rs)) d) in
         record { low = le-of 1 n (and-left (leb 1 n) (leb n last-number) l); high = le-of n last-number (and-right (leb 1 n) (leb n last-number) l); new = b; good = c; room = lt-of-not rule-limit (length rs) (or-left (leb rule-limit (length rs)) (ltb weight-limit (weight sig ws + total-weight sig rs)) d); fits = omega arith; alone = f }
 
     pub valid-entry : (n plan : ℕ) (ws : List ℕ) (rs : List Rule) → Admitted n ws rs → Valid sig rs → Valid sig (add-rule (record { number = n; plan = plan; pattern = ws }) rs)

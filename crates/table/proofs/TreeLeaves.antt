@@ -32,7 +32,7 @@ use Rattle.tree.specs.Leaf.{rising-nil}
 use Rattle.tree.specs.Limits.{last-number}
 use Rattle.tree.specs.Tree.{Line}
 use Rattle.tree.proofs.CompiledFacts.{refs-lines, refs-places}
-use Rattle.tree.proofs.RunFacts.{Treed}
+use Rattle.tree.specs.Leaf.{Treed}
 use Rattle.tree.proofs.TreeFacts.{Rowed, Roweds, roweds-cons, roweds-nil}
 use Rattle.tree.proofs.TreeRuns.{Neat, good-rowed, refs-append, compile-treed}
 use Rattle.table.specs.Limits.{visit-bound}

@@ -5,3 +5,5 @@ pub mod RunFacts
 pub mod RunFuel
 pub mod TreeFacts
 pub mod TreeRuns
+pub mod Cases
+pub mod Laws

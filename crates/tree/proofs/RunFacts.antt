@@ -20,7 +20,7 @@ use Rattle.signature.proofs.Tests.{leb-yes, none≢some, some-inj, eqb-self, lt
 use Rattle.pattern.specs.Limits.{last-variable}
 use Rattle.pattern.specs.Places.{bind-all, unbound}
 use Rattle.tree.specs.Answer.{Answer, no-rule}
-use Rattle.tree.specs.Leaf.{Rising, rising-nil, rising-cons}
+use Rattle.tree.specs.Leaf.{Treed, Treeds, treed-default, treed-hit, treed-test, treed-skip, treeds-nil, treeds-cons, Rising, rising-nil, rising-cons}
 use Rattle.tree.specs.Limits.{last-number}
 use Rattle.tree.specs.Run.{bound, run, at-hit, at-test, vjoin}
 use Rattle.tree.specs.Tree.{Trees, tnil, tcons, Tree, default, hit, test, skip}
@@ -58,19 +58,7 @@ bound-pairs visits tail places rising-nil = refl
 bound-pairs visits tail places (rising-cons {m = m} {x = x} {u = u} a b c h) = rw (leb-yes m x a, leb-yes x last-variable b, at-getD visits u c) (bound-pairs visits tail (set places x (getD visits u 0)) h)
 
 module _ (sig : Signature) where
-  -- a tree for columns of these kinds, after t visits
-  mutual
-    pub data Treed : List ℕ → ℕ → Tree → Type 0 where
-      treed-default : {ks : List ℕ} {t d : ℕ} → Treed ks t (default d)
-      treed-hit : {t r p : ℕ} {bs : List (ℕ × ℕ)} → 1 ≤ r → r ≤ last-number → Rising 0 t bs → Treed [] t (hit r p bs)
-      treed-test : {k t f : ℕ} {ks : List ℕ} {ts : Trees} → f ≡ first (heads sig k) → Treeds ks t (heads sig k) ts → Treed (k ∷ ks) t (test f ts)
-      treed-skip : {k t : ℕ} {ks : List ℕ} {tr : Tree} → Treed ks (suc t) tr → Treed (k ∷ ks) t (skip tr)
-
-    pub data Treeds : List ℕ → ℕ → List ℕ → Trees → Type 0 where
-      treeds-nil : {ks : List ℕ} {t : ℕ} → Treeds ks t [] tnil
-      treeds-cons : {ks cs : List ℕ} {t c : ℕ} {tr : Tree} {ts : Trees} → Treed (arguments sig c ++ ks) (suc t) tr → Treeds ks t cs ts → Treeds ks t (c ∷ cs) (tcons tr ts)
-
-  treeds-count : {ks : List ℕ} {t : ℕ} {cs : List ℕ} {ts : Trees} → Treeds ks t cs ts → count ts ≡ length cs
+  treeds-count : {ks : List ℕ} {t : ℕ} {cs : List ℕ} {ts : Trees} → Treeds sig ks t cs ts → count ts ≡ length cs
   treeds-count treeds-nil = refl
   treeds-count (treeds-cons h g) = ap suc (treeds-count g)
 

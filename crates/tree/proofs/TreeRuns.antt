@@ -20,11 +20,10 @@ use Rattle.pattern.specs.Places.{times, tick}
 use Rattle.row.specs.Row.{Rows, rnil, rcons, named, free, open-rows, Row}
 use Rattle.row.proofs.OverlapFacts.{Good, good-named, good-free, Goods, goods-nil, goods-cons}
 use Rattle.row.proofs.RowCount.{counts, occurs-all, opens-none}
-use Rattle.tree.specs.Leaf.{Rising, rising-nil, rising-cons}
+use Rattle.tree.specs.Leaf.{Treed, Treeds, treeds-nil, treeds-cons, treed-default, treed-hit, treed-test, treed-skip, Rising, rising-nil, rising-cons}
 use Rattle.tree.specs.Limits.{last-number}
 use Rattle.tree.specs.Tree.{insert, inserts, rappend, taken, passed, Line, after, Tree, children, compile, refined}
 use Rattle.tree.proofs.CompiledFacts.{refs-lines}
-use Rattle.tree.proofs.RunFacts.{Treed, Treeds, treeds-nil, treeds-cons, treed-default, treed-hit, treed-test, treed-skip}
 use Rattle.tree.proofs.TreeFacts.{Roweds, taken-rowed, passed-rowed, Rowed, rowed-named, rowed-free, roweds-nil, roweds-cons, Shaped}
 
 -- bindings put in order

@@ -6,3 +6,5 @@ pub mod Run
 pub mod RunCall
 pub mod Tree
 pub mod Words
+pub mod Laws
+pub mod Cases

@@ -7,7 +7,7 @@ use lib.ListN.{replicate, length}
 use Rattle.signature.specs.Read.{read-booking, read-signature}
 use Rattle.signature.specs.Signature.{Signature}
 use Rattle.signature.specs.Value.{Value, vcons, vnil}
-use Rattle.pattern.specs.Limits.{variable-count, last-variable}
+use Rattle.pattern.specs.Limits.{variable-count}
 use Rattle.tree.specs.Answer.{Answer}
 use Rattle.tree.specs.Limits.{default-plan}
 use Rattle.tree.specs.Run.{run}
@@ -18,7 +18,7 @@ refusal n = (n, record { rule = 0; plan = 0; places = replicate variable-count 0
 
 -- 15: the tree is broken. "Success gives 0 as its number."
 abbrev pub run-at : Option Answer → ℕ × Answer
-run-at none = refusal last-variable
+run-at none = refusal 15
 run-at (some a) = (0, a)
 
 -- 13: the booking is unlawful

@@ -1,0 +1,25 @@
+-- The laws of trees and runs. The function `laws` promises them. What holds of the tree of a table's rules stands in the laws of the table.
+use mathlib.Core.Path.{_≡_}
+use mathlib.Core.List.{List, [], _++_, _∷_}
+use mathlib.Core.Option.{some}
+use Prim.Native.Nat.{ℕ, _+_, _≤_}
+use lib.ListN.{length}
+use Rattle.signature.specs.Read.{read-booking, Signed}
+use Rattle.signature.specs.Signature.{Signature}
+use Rattle.signature.specs.Value.{Value, Values}
+use Rattle.tree.specs.Answer.{Answer}
+use Rattle.tree.specs.Compiled.{Compiled}
+use Rattle.tree.specs.Leaf.{Treed}
+use Rattle.tree.specs.Run.{run, run-words}
+use Rattle.tree.specs.Tree.{Tree, Line}
+use Rattle.tree.specs.Words.{words, layout}
+
+pub record Laws : Type 0 where
+  -- only one tree obeys the four rules
+  pub one-tree : (dft : ℕ) (sig : Signature) (ks : List ℕ) (ls : List Line) (t : ℕ) (a b : Tree) → Compiled dft sig ks ls t a → Compiled dft sig ks ls t b → a ≡ b
+  -- the written tree counts its words
+  pub counts-words : (t : Tree) (i : ℕ) → length (layout t i) ≡ words t
+  -- a run over the words of such a tree, whatever stands behind them, is never broken
+  pub never-broken : (dft : ℕ) (sig : Signature) → Signed sig → (t : Tree) → Treed sig (0 ∷ []) 0 t → (behind bs : List ℕ) (v : Value) → read-booking sig bs ≡ some v → (a : Answer) × (run-words dft sig (layout t 0 ++ behind) bs ≡ some a)
+  -- a run does not depend on the bound in its definition
+  pub run-bound : (dft : ℕ) (sig : Signature) (tree : List ℕ) (n m i : ℕ) (vs : Values) (j : ℕ) (visits : List ℕ) → length tree ≤ n + i → length tree ≤ m + i → run dft n sig tree i vs j visits ≡ run dft m sig tree i vs j visits
