@@ -1,5 +1,5 @@
 -- A fit of a linear-plus pattern binds every variable of E, a failure of a linear-minus one every variable of O (with Once: exactly once).
-use mathlib.Core.Path.{_≡_, refl, sym, _∙_}
+use mathlib.Core.Path.{_≡_, refl, sym}
 use mathlib.Core.List.{List, _++_}
 use mathlib.Core.Bool.{Bool, true, false, _&&_}
 use Prim.Native.Nat.{ℕ, _+_, _≤_}
@@ -10,7 +10,7 @@ use Rattle.signature.specs.Value.{Value, Values}
 use Rattle.signature.proofs.Booleans.{and-left, and-right}
 use Rattle.signature.proofs.Members.{memb-append, memb-empty, all-memb}
 use Rattle.signature.proofs.Tests.{true≢false}
-use Rattle.pattern.specs.Linear.{E, O, E-all, O-all, disjoint, same-set, linear-plus, linear-minus, all-plus, all-minus}
+use Rattle.pattern.specs.Linear.{E, O, E-all, O-all, disjoint, same-set, linear-plus, linear-minus, all-plus}
 use Rattle.pattern.specs.Match.{Binds, Fits, fits-var, fits-wild, fits-not, fits-and, fits-left, fits-right, fits-con, Fails, fails-absurd, fails-not, fails-left, fails-right, fails-or, fails-head, fails-arg, AllFit, all-nil, all-cons}
 use Rattle.pattern.specs.Pattern.{Pattern, var, wild, absurd-pat, neg, and, or, head, Patterns, pnil, pcons}
 use Rattle.pattern.specs.Places.{tick, times}

@@ -1,17 +1,13 @@
 -- The laws of patterns hold.
-use mathlib.Core.Path.{_≡_}
 use mathlib.Core.Logic.{_⊎_, inl, inr}
 use Prim.Native.Nat.{ℕ}
 use native.Mathlib.Omega.{arith}
-use Rattle.signature.specs.Lawful.{OfKind}
-use Rattle.signature.specs.Signature.{Signature}
 use Rattle.signature.specs.Value.{Value}
-use Rattle.pattern.specs.Decide.{Out, fit, fail, decide}
+use Rattle.pattern.specs.Decide.{Out}
 use Rattle.pattern.specs.Laws.{Laws}
 use Rattle.pattern.specs.Match.{Binds, Fits, Fails}
 use Rattle.pattern.specs.Pattern.{Pattern}
 use Rattle.pattern.specs.Places.{unbound}
-use Rattle.pattern.specs.WellFormed.{WellFormed}
 use Rattle.pattern.proofs.Covering.{fit-bound, fail-bound}
 use Rattle.pattern.proofs.Decided.{Says, says-fits, says-fails, decide-says, decide-fits, decide-fails, fits-decide, fails-decide}
 use Rattle.pattern.proofs.Exclusive.{exclusive}

@@ -1,6 +1,6 @@
 -- What Case T and "Where a reader of the paper slips" say of patterns. The function `cases` promises them.
 use mathlib.Core.Path.{_≡_}
-use mathlib.Core.List.{List, [], _∷_, _++_}
+use mathlib.Core.List.{List, [], _∷_}
 use mathlib.Core.Option.{none, some}
 use mathlib.Core.Bool.{true, false}
 use Prim.Native.Nat.{ℕ, zero, suc}
@@ -8,8 +8,8 @@ use Rattle.signature.specs.Cases.{T}
 use Rattle.signature.specs.Lists.{is-some}
 use Rattle.signature.specs.Value.{Value}
 use Rattle.pattern.specs.Linear.{linear-plus}
-use Rattle.pattern.specs.Match.{Binds, Fits, Fails}
-use Rattle.pattern.specs.Pattern.{Pattern, Patterns, head, and, or, wild, absurd-pat, neg, var, pnil, pcons}
+use Rattle.pattern.specs.Match.{Binds, Fits}
+use Rattle.pattern.specs.Pattern.{Pattern, head, and, or, wild, absurd-pat, neg, var, pnil, pcons}
 use Rattle.pattern.specs.Read.{read-pattern}
 use Rattle.pattern.specs.Weight.{weight-plus, light-plus}
 

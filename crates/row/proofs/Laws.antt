@@ -1,11 +1,9 @@
 -- The laws of rows hold.
-use mathlib.Core.Path.{_≡_, refl, sym, ap, _∙_}
-use mathlib.Core.List.{List}
-use mathlib.Core.Bool.{Bool, true, false, not}
+use mathlib.Core.Path.{_≡_, sym, ap, _∙_}
+use mathlib.Core.Bool.{true, not}
 use Prim.Native.Nat.{ℕ}
 use Rattle.signature.specs.Lawful.{OfKind}
 use Rattle.signature.specs.Lists.{Iff, In}
-use Rattle.signature.specs.Read.{Signed}
 use Rattle.signature.specs.Signature.{Signature}
 use Rattle.signature.specs.Value.{Value}
 use Rattle.signature.proofs.LawfulFacts.{sig-facts, small-0, args-small, few}

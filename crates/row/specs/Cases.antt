@@ -1,13 +1,12 @@
 -- What Case T and "Where a reader of the paper slips" say of rows and of refusals 7 to 10. The function `cases` promises them.
 use mathlib.Core.Path.{_≡_}
-use mathlib.Core.List.{List, [], _∷_, _++_}
+use mathlib.Core.List.{[], _∷_, _++_}
 use mathlib.Core.Bool.{true, false}
-use Prim.Native.Nat.{ℕ}
 use Rattle.signature.specs.Cases.{T}
 use Rattle.pattern.specs.Cases.{ors-words}
-use Rattle.pattern.specs.Pattern.{head, and, or, wild, absurd-pat, neg, var, pnil, pcons}
+use Rattle.pattern.specs.Pattern.{head, wild, neg, var, pnil, pcons}
 use Rattle.row.specs.Admitted.{refusal-of-pattern}
-use Rattle.row.specs.Overlap.{overlap, ambiguous-plus, shares}
+use Rattle.row.specs.Overlap.{overlap, shares}
 use Rattle.row.specs.Row.{rows-plus, named, free, rnil, rcons}
 
 pub record Cases : Type 0 where

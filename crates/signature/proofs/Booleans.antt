@@ -5,7 +5,6 @@ use mathlib.Core.Bool.{Bool, _&&_, true, false, not}
 use Prim.Native.Nat.{ℕ}
 use lib.Dec.{eqb}
 use Rattle.signature.specs.Lists.{_or-else_}
-use Rattle.signature.specs.Signature.{Signature}
 use Rattle.signature.proofs.Tests.{true≢false, eqb-no, eqb-ne, eqb-eq}
 
 pub and-left : (a b : Bool) → (a && b) ≡ true → a ≡ true

@@ -10,7 +10,6 @@ use native.Mathlib.Omega.{arith}
 use lib.Dec.{eqb}
 use lib.ListN.{length, getD, replicate, drop, take}
 use Rattle.signature.specs.Lists.{All, none-left, also, somes, _>>=_, require, keep, split, at, count-up, all, any, In, in-here, in-there, _or-else_}
-use Rattle.signature.specs.Signature.{Signature}
 use Rattle.signature.proofs.Booleans.{and-left, and-right, or-left, or-right}
 use Rattle.signature.proofs.Tests.{true≢false, some-inj, none≢some, bind-some, eqb-eq}
 

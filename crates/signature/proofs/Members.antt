@@ -6,7 +6,6 @@ use mathlib.Core.Bool.{Bool, true, false, _&&_, not, cond}
 use Prim.Native.Nat.{ℕ}
 use lib.Dec.{eqb}
 use Rattle.signature.specs.Lists.{memb, _or-else_, is-empty, all, keep, any, All, none-left, also, somes, is-some, require, _>>=_}
-use Rattle.signature.specs.Signature.{Signature}
 use Rattle.signature.proofs.Booleans.{or-assoc, Imp, imp-left, imp-right, and-right, and-left, and-false, or-true, and-or}
 use Rattle.signature.proofs.Tests.{true≢false, eqb-eq, eqb-self, eqb-sym}
 

@@ -1,9 +1,13 @@
 pub mod Outcomes
 pub mod Demand2Facts
 pub mod Demand3Facts
+pub mod Reckoning
 pub mod RunDirect
 pub mod SameTrees
 pub mod SoundFacts
 pub mod TableFacts
 pub mod TreeCompiled
 pub mod TreeLeaves
+pub mod Cases
+pub mod CaseT
+pub mod Laws

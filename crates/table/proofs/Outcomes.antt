@@ -18,7 +18,7 @@ use Rattle.table.specs.ListsOfCalls.{ListCall, Calls, no-call, enter, th
 use Rattle.table.specs.Refusals.{sharer, entry-refusal}
 use Rattle.table.specs.Rule.{Rule, Rises, rises-nil, rises-cons}
 use Rattle.table.specs.Sound.{sound}
-use Rattle.table.proofs.Demand3Facts.{in-above, twelve-shared}
+use Rattle.table.proofs.Reckoning.{in-above, twelve-shared}
 use Rattle.table.proofs.SoundFacts.{sound-valid}
 
 -- what refusals 1 to 3 leave
@@ -46,7 +46,7 @@ pub record First (sig : Signature) (ws : List ℕ) (rs : List Rule) : Type 0 whe
   pub lowest : (s : Rule) → In s rs → s .number < rule .number → shares sig ws (s .pattern) ≡ false
   pub named : sharer sig ws rs ≡ rule .number
 
-first-sharer : {m : ℕ} (sig : Signature) (ws : List ℕ) {rs : List Rule} → Rises m rs → any (λ r. shares sig ws (r .pattern)) rs ≡ true → First sig ws rs
+pub first-sharer : {m : ℕ} (sig : Signature) (ws : List ℕ) {rs : List Rule} → Rises m rs → any (λ r. shares sig ws (r .pattern)) rs ≡ true → First sig ws rs
 first-sharer sig ws rises-nil e = true≢false (sym e)
 first-sharer sig ws (rises-cons {r = r} {rs = rs} a b h) e = go (shares sig ws (r .pattern)) refl (first-sharer sig ws h)
   where

@@ -14,7 +14,7 @@ use Rattle.table.specs.Calls.{Compile, start, long-table, begin, too-lar
 use Rattle.table.specs.Matrix.{tree-words}
 use Rattle.table.specs.Rule.{Rule, SameRules}
 use Rattle.table.specs.Sound.{sound}
-use Rattle.table.proofs.Demand3Facts.{rises-same}
+use Rattle.table.proofs.Reckoning.{rises-same}
 use Rattle.table.proofs.SoundFacts.{sound-valid, sound-start, sound-tree}
 
 -- "Compile gives two sound tables of equal rules, under one signature and into spaces of equal length, the same number and, on 0, the same length and that many equal words."

@@ -25,7 +25,7 @@ use Rattle.row.specs.Overlap.{shares}
 use Rattle.row.specs.Row.{Row, rows-plus}
 use Rattle.row.specs.RowFits.{row-fits}
 use Rattle.row.proofs.PassedFacts.{passed-of}
-use Rattle.row.proofs.Exists.{fit-overlap, ambiguous-decided}
+use Rattle.row.proofs.Exists.{fit-overlap}
 use Rattle.row.proofs.RowBinds.{plus-means}
 use Rattle.tree.specs.Compiled.{Compiled}
 use Rattle.tree.specs.Tree.{Line}

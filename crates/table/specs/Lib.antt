@@ -7,3 +7,7 @@ pub mod Matrix
 pub mod Refusals
 pub mod Rule
 pub mod Sound
+pub mod Cases
+pub mod CaseT
+pub mod Demand2
+pub mod Laws

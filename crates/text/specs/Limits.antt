@@ -1,6 +1,5 @@
 -- The limits of the text.
 use Prim.Native.Nat.{ℕ}
-use Rattle.signature.specs.Limits.{booking-limit}
 
 -- "at most 65,535"
 abbrev pub last-word : ℕ

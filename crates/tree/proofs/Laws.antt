@@ -1,8 +1,8 @@
 -- The laws of trees and runs hold.
-use mathlib.Core.Path.{_≡_, refl, sym, ap, _∙_}
+use mathlib.Core.Path.{_≡_, refl}
 use mathlib.Core.List.{List, [], _∷_, _++_}
-use mathlib.Core.Option.{Option, some}
-use Prim.Native.Nat.{ℕ, _+_, _≤_}
+use mathlib.Core.Option.{some}
+use Prim.Native.Nat.{ℕ, _≤_}
 use native.Mathlib.Omega.{arith}
 use lib.ListN.{length, length-append}
 use Rattle.signature.specs.Lawful.{of-kinds-nil, of-kinds-cons}
@@ -14,7 +14,7 @@ use Rattle.signature.proofs.Values.{booking-lawful}
 use Rattle.tree.specs.Answer.{Answer}
 use Rattle.tree.specs.Laws.{Laws}
 use Rattle.tree.specs.Leaf.{Treed}
-use Rattle.tree.specs.Run.{run, run-words}
+use Rattle.tree.specs.Run.{run-words}
 use Rattle.tree.specs.Tree.{Tree}
 use Rattle.tree.specs.Words.{words, layout}
 use Rattle.tree.proofs.CompiledFacts.{compiled-only}

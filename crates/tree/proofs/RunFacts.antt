@@ -20,7 +20,7 @@ use Rattle.signature.proofs.Tests.{leb-yes, none≢some, some-inj, eqb-self, lt
 use Rattle.pattern.specs.Limits.{last-variable}
 use Rattle.pattern.specs.Places.{bind-all, unbound}
 use Rattle.tree.specs.Answer.{Answer, no-rule}
-use Rattle.tree.specs.Leaf.{Treed, Treeds, treed-default, treed-hit, treed-test, treed-skip, treeds-nil, treeds-cons, Rising, rising-nil, rising-cons}
+use Rattle.tree.specs.Leaf.{Treed, Treeds, treed-hit, treed-test, treed-skip, treeds-nil, treeds-cons, Rising, rising-nil, rising-cons}
 use Rattle.tree.specs.Limits.{last-number}
 use Rattle.tree.specs.Run.{bound, run, at-hit, at-test, vjoin}
 use Rattle.tree.specs.Tree.{Trees, tnil, tcons, Tree, default, hit, test, skip}

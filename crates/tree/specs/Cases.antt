@@ -6,7 +6,7 @@ use Prim.Native.Nat.{ℕ}
 use lib.ListN.{set}
 use Rattle.signature.specs.Cases.{T, words-T}
 use Rattle.pattern.specs.Places.{unbound}
-use Rattle.tree.specs.Answer.{Answer, no-rule}
+use Rattle.tree.specs.Answer.{no-rule}
 use Rattle.tree.specs.Run.{run-words}
 use Rattle.tree.specs.RunCall.{refusal, run-signature}
 use Rattle.signature.specs.Read.{read-signature}

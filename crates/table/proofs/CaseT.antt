@@ -1,0 +1,88 @@
+-- Case T holds.
+use mathlib.Core.Path.{_≡_, refl, ap, sym, subst, _∙_}
+use mathlib.Core.Logic.{_⊎_, inl, inr}
+use mathlib.Core.List.{List, [], _∷_, _++_}
+use mathlib.Core.Option.{some}
+use mathlib.Core.Bool.{true, false, cond}
+use Prim.Native.Nat.{ℕ, _≤_}
+use native.Mathlib.Omega.{arith}
+use lib.Dec.{eqb}
+use lib.ListN.{length, drop}
+use Rattle.signature.specs.Cases.{T, words-T}
+use Rattle.signature.specs.Lawful.{OfKind}
+use Rattle.signature.specs.Lists.{In, in-here}
+use Rattle.signature.specs.Read.{read-booking}
+use Rattle.signature.specs.Value.{Value, con, code}
+use Rattle.signature.proofs.ListFacts.{in-cases, no-in}
+use Rattle.signature.proofs.Tests.{some-inj, leb-yes}
+use Rattle.signature.proofs.Values.{booking-lawful}
+use Rattle.pattern.specs.Match.{Binds, Fits, fits-var, fits-wild, fits-not, fits-con, fails-not, all-nil, all-cons}
+use Rattle.pattern.specs.Pattern.{Pattern, head, wild, var, neg, pnil, pcons}
+use Rattle.pattern.specs.Read.{read-pattern}
+use Rattle.pattern.specs.Takes.{Takes}
+use Rattle.pattern.proofs.Exclusive.{exclusive}
+use Rattle.row.proofs.Exists.{shares-exists}
+use Rattle.tree.specs.Limits.{last-number}
+use Rattle.table.specs.Calls.{Entered, Enter, Shows, long-witness}
+use Rattle.table.specs.CaseT.{CaseT}
+use Rattle.table.specs.Cases.{rules-T}
+use Rattle.table.specs.Limits.{witness-length}
+use Rattle.table.specs.ListsOfCalls.{enter, reckon-number, reckon-rules, changed}
+use Rattle.table.specs.Rule.{held, stored, table-words}
+use Rattle.table.proofs.Cases.{cases}
+use Rattle.table.proofs.Reckoning.{step-enter, entry-start}
+use Rattle.table.proofs.SoundFacts.{sound-valid}
+use Rattle.table.proofs.TableFacts.{Valid}
+
+abbrev entered : List ℕ
+entered = 0 ∷ 258 ∷ 4 ∷ []
+
+-- a value that fits C0(C1, x) and C0(_, C4)
+shown : (v : Value) → OfKind T 0 v → {i j : ℕ} {σ τ : Binds} → Fits (head 0 (pcons (head 1 pnil) (pcons (var 0) pnil))) v i σ → Fits (head 0 (pcons wild (pcons (head 4 pnil) pnil))) v j τ → code v ≡ 0 ∷ 1 ∷ 4 ∷ []
+shown (con c vs) h (fits-con a (all-cons (fits-con a₁ all-nil) (all-cons fits-var all-nil))) (fits-con b (all-cons fits-wild (all-cons (fits-con b₁ all-nil) all-nil))) = rw (← a, ← a₁, ← b₁)
+
+fits-of : (ws bs : List ℕ) (p : Pattern) (v : Value) {σ : Binds} → read-pattern T ws ≡ some p → read-booking T bs ≡ some v → Takes T ws bs σ → Fits p v 0 σ
+fits-of ws bs p v {σ} e b (q, w, e′, b′, f) = subst (λ x. Fits x v 0 σ) (some-inj q p (sym e′ ∙ e)) (subst (λ x. Fits q x 0 σ) (some-inj w v (sym b′ ∙ b)) f)
+
+only-014 : (bs : List ℕ) {σ τ : Binds} → Takes T (0 ∷ 1 ∷ 261 ∷ []) bs σ → Takes T entered bs τ → bs ≡ 0 ∷ 1 ∷ 4 ∷ []
+only-014 bs {σ} {τ} (p, v, e, b, f) y =
+    let l = booking-lawful T bs v b in
+    sym (l .is-code) ∙ shown v (l .kind-0) (fits-of (0 ∷ 1 ∷ 261 ∷ []) bs (head 0 (pcons (head 1 pnil) (pcons (var 0) pnil))) v refl b (p, v, e, b, f)) (fits-of entered bs (head 0 (pcons wild (pcons (head 4 pnil) pnil))) v refl b y)
+
+-- whatever shared booking is shown, it names rule 7 and shows 0 1 4
+shows-T : (witness witness′ : List ℕ) (e : Entered) → Shows T rules-T entered witness e witness′ → (e .sharer ≡ 7) × (e .shown ≡ 3) × (witness′ ≡ 0 ∷ 1 ∷ 4 ∷ drop 3 witness)
+shows-T witness witness′ e h = on-1 (in-cases (h .held))
+  where
+    rule-7 : h .rule .number ≡ 7 → h .rule .pattern ≡ 0 ∷ 1 ∷ 261 ∷ [] → (e .sharer ≡ 7) × (e .shown ≡ 3) × (witness′ ≡ 0 ∷ 1 ∷ 4 ∷ drop 3 witness)
+    rule-7 a b =
+        let z : h .booking ≡ 0 ∷ 1 ∷ 4 ∷ [] = only-014 (h .booking) (subst (λ x. Takes T x (h .booking) (h .binds′)) b (h .taken′)) (h .taken) in
+        (h .named ∙ a, h .length-is ∙ ap length z, h .witness-is ∙ ap (λ x. x ++ drop (length x) witness) z)
+
+    nine : (h .rule ≡ record { number = 9; plan = 41; pattern = 0 ∷ 260 ∷ 1 ∷ 5 ∷ [] }) → ⊥
+    nine q = h .lowest (record { number = 7; plan = 40; pattern = 0 ∷ 1 ∷ 261 ∷ [] }) in-here (rw q (omega arith)) (shares-exists T (words-T, refl) entered (0 ∷ 1 ∷ 261 ∷ []) refl)
+
+    on-2 : (h .rule ≡ record { number = 9; plan = 41; pattern = 0 ∷ 260 ∷ 1 ∷ 5 ∷ [] }) ⊎ In (h .rule) [] → ⊥
+    on-2 (inl q) = nine q
+    on-2 (inr i) = no-in i
+
+    on-1 : (h .rule ≡ record { number = 7; plan = 40; pattern = 0 ∷ 1 ∷ 261 ∷ [] }) ⊎ In (h .rule) (record { number = 9; plan = 41; pattern = 0 ∷ 260 ∷ 1 ∷ 5 ∷ [] } ∷ []) → (e .sharer ≡ 7) × (e .shown ≡ 3) × (witness′ ≡ 0 ∷ 1 ∷ 4 ∷ drop 3 witness)
+    on-1 (inl q) = rule-7 (ap (λ x. x .number) q) (ap (λ x. x .pattern) q)
+    on-1 (inr i) = absurd (on-2 (in-cases i))
+
+valid-T : Valid T rules-T
+valid-T = sound-valid T (words-T, refl) (table-words rules-T) rules-T refl .0
+
+entry-T : (n plan : ℕ) (lent witness after witness′ : List ℕ) (e : Entered) → 1 ≤ n → n ≤ last-number → held n rules-T ≡ false → witness-length ≤ length witness → Enter words-T n plan entered (stored rules-T lent) witness e after witness′ → (e .number ≡ 12) × (e .sharer ≡ 7) × (e .shown ≡ 3) × (after ≡ stored rules-T lent) × (witness′ ≡ 0 ∷ 1 ∷ 4 ∷ drop 3 witness)
+entry-T n plan lent witness after witness′ e low high free l h =
+    let long : long-witness witness ≡ true = leb-yes witness-length (length witness) l in
+    let (a, b) = step-enter words-T T refl rules-T lent valid-T h in
+    let m : reckon-number T (enter n plan entered witness) rules-T ≡ 12 = rw (long, leb-yes 1 n low, leb-yes n last-number high, free) in
+    let rs : reckon-rules T (enter n plan entered witness) rules-T ≡ rules-T = ap (λ x. cond (eqb x 0) (changed (enter n plan entered witness) rules-T) rules-T) m in
+    let (x, y, z) = shows-T witness witness′ e (h .on-12 T rules-T (entry-start words-T T refl rules-T lent witness true valid-T long) (a ∙ m)) in
+    (a ∙ m, x, y, b ∙ ap (λ q. stored q lent) rs, z)
+
+never : (bs : List ℕ) (σ : Binds) → Takes T (260 ∷ 261 ∷ []) bs σ → ⊥
+never bs σ (p, v, e, b, f) = exclusive (neg (var 0)) (fits-of (260 ∷ 261 ∷ []) bs (neg (var 0)) v refl b (p, v, e, b, f)) (fails-not fits-var)
+
+pub case-t : CaseT
+case-t = record { computed = cases; entry = entry-T; takes-all = λ bs v b. (neg (neg (var 0)), v, refl, b, fits-not (fails-not fits-var)); takes-none = never }

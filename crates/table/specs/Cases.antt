@@ -1,0 +1,85 @@
+-- Case T, as far as it computes: the tree, the answers, the refusals, and lists of calls. CaseT has all of it as a single fact.
+use mathlib.Core.Path.{_≡_}
+use mathlib.Core.List.{List, [], _∷_, _++_}
+use mathlib.Core.Option.{some}
+use Prim.Native.Nat.{ℕ}
+use lib.ListN.{length, replicate, set, take}
+use Rattle.signature.specs.Cases.{T, words-T}
+use Rattle.signature.specs.Read.{read-signature}
+use Rattle.signature.specs.Value.{Value}
+use Rattle.pattern.specs.Cases.{ors-words}
+use Rattle.pattern.specs.Places.{unbound}
+use Rattle.pattern.specs.Weight.{weight}
+use Rattle.tree.specs.Answer.{no-rule}
+use Rattle.tree.specs.Cases.{tree-T}
+use Rattle.tree.specs.Limits.{default-plan}
+use Rattle.tree.specs.RunCall.{run-signature}
+use Rattle.table.specs.Calls.{start, long-table, decide-from}
+use Rattle.table.specs.Decide.{direct}
+use Rattle.table.specs.Limits.{witness-length}
+use Rattle.table.specs.ListsOfCalls.{ListCall, enter, withdraw, numbers-reckoned, rules-left}
+use Rattle.table.specs.Matrix.{tree-words}
+use Rattle.table.specs.Refusals.{entry-refusal, sharer}
+use Rattle.table.specs.Rule.{Rule, table-words}
+use Rattle.table.specs.Sound.{sound}
+
+-- "Rule 7 plan 40: 0 1 261. Rule 9 plan 41: 0 260 1 5."
+abbrev pub rules-T : List Rule
+rules-T = record { number = 7; plan = 40; pattern = 0 ∷ 1 ∷ 261 ∷ [] } ∷ record { number = 9; plan = 41; pattern = 0 ∷ 260 ∷ 1 ∷ 5 ∷ [] } ∷ []
+
+-- one rule
+abbrev pub sole : List ℕ → List Rule
+sole ws = record { number = 1; plan = 2; pattern = ws } ∷ []
+
+-- "And" of two "or"s of wildcards
+abbrev pub ors-8-8 : List ℕ
+ors-8-8 = 256 ∷ (ors-words 7 ++ ors-words 7)
+
+abbrev pub ors-5-13 : List ℕ
+ors-5-13 = 256 ∷ (ors-words 4 ++ ors-words 12)
+
+-- rules 9 and 7 entered in this order, then a rule that shares a booking, a rule with a short witness buffer, a withdrawal of no rule
+abbrev pub calls-T : List ListCall
+calls-T = enter 9 41 (0 ∷ 260 ∷ 1 ∷ 5 ∷ []) (replicate witness-length 0) ∷ enter 7 40 (0 ∷ 1 ∷ 261 ∷ []) (replicate witness-length 0) ∷ enter 8 1 (0 ∷ 258 ∷ 4 ∷ []) (replicate witness-length 0) ∷ enter 8 1 (259 ∷ []) [] ∷ withdraw 3 ∷ []
+
+pub record Cases : Type 0 where
+  pub signature-T : read-signature words-T ≡ some T
+  -- "T's tree, 37 words"
+  pub tree : tree-words default-plan T rules-T ≡ tree-T
+  pub tree-length : length tree-T ≡ 37
+  -- "0 1 5: rule 7, plan 40, variable 0 at 2. 0 2 5: rule 9, plan 41. 0 3 4: default.": by a run, and directly
+  pub runs-7 : run-signature (read-signature words-T) tree-T (0 ∷ 1 ∷ 5 ∷ []) ≡ (0, record { rule = 7; plan = 40; places = set unbound 0 2 })
+  pub runs-9 : run-signature (read-signature words-T) tree-T (0 ∷ 2 ∷ 5 ∷ []) ≡ (0, record { rule = 9; plan = 41; places = unbound })
+  pub runs-default : run-signature (read-signature words-T) tree-T (0 ∷ 3 ∷ 4 ∷ []) ≡ (0, no-rule default-plan)
+  pub decides-7 : decide-from (start words-T (long-table (table-words rules-T)) (table-words rules-T)) (0 ∷ 1 ∷ 5 ∷ []) ≡ (0, record { rule = 7; plan = 40; places = set unbound 0 2 })
+  pub decides-9 : decide-from (start words-T (long-table (table-words rules-T)) (table-words rules-T)) (0 ∷ 2 ∷ 5 ∷ []) ≡ (0, record { rule = 9; plan = 41; places = unbound })
+  pub decides-default : decide-from (start words-T (long-table (table-words rules-T)) (table-words rules-T)) (0 ∷ 3 ∷ 4 ∷ []) ≡ (0, no-rule default-plan)
+  -- "Entry of 0 258 4: refusal 12, rule 7"
+  pub refused-12 : entry-refusal T 8 (0 ∷ 258 ∷ 4 ∷ []) rules-T ≡ 12
+  pub shares-7 : sharer T (0 ∷ 258 ∷ 4 ∷ []) rules-T ≡ 7
+  -- "Into an empty table: 260 260 261 takes all, variable 0 at 0; 260 261 takes none"
+  pub not-not-admitted : entry-refusal T 1 (260 ∷ 260 ∷ 261 ∷ []) [] ≡ 0
+  pub not-not : (v : Value) → direct default-plan T (sole (260 ∷ 260 ∷ 261 ∷ [])) v ≡ record { rule = 1; plan = 2; places = set unbound 0 0 }
+  pub not-variable-admitted : entry-refusal T 1 (260 ∷ 261 ∷ []) [] ≡ 0
+  pub not-variable : (v : Value) → direct default-plan T (sole (260 ∷ 261 ∷ [])) v ≡ no-rule default-plan
+  -- "257 261 261: 10; 256 261 261 and 257 261 258: 8; 260 0 261 258 admitted; 260 0 260 261 258: 8"
+  pub or-twice : entry-refusal T 1 (257 ∷ 261 ∷ 261 ∷ []) [] ≡ 10
+  pub and-twice : entry-refusal T 1 (256 ∷ 261 ∷ 261 ∷ []) [] ≡ 8
+  pub or-unequal : entry-refusal T 1 (257 ∷ 261 ∷ 258 ∷ []) [] ≡ 8
+  pub not-con : entry-refusal T 1 (260 ∷ 0 ∷ 261 ∷ 258 ∷ []) [] ≡ 0
+  pub not-con-not : entry-refusal T 1 (260 ∷ 0 ∷ 260 ∷ 261 ∷ 258 ∷ []) [] ≡ 8
+  -- ""And" of two "or"s of 8 and 8 wildcards: weight 64, admitted; of 5 and 13: 65, refused."
+  pub weight-64 : weight T ors-8-8 ≡ 64
+  pub admitted-64 : entry-refusal T 1 ors-8-8 [] ≡ 0
+  pub weight-65 : weight T ors-5-13 ≡ 65
+  pub refused-65 : entry-refusal T 1 ors-5-13 [] ≡ 9
+  -- a list that enters rule 9 first leaves the rules of T, rising by number
+  pub numbers : numbers-reckoned T calls-T [] ≡ 0 ∷ 0 ∷ 12 ∷ 2 ∷ 6 ∷ []
+  pub left : rules-left T calls-T [] ≡ rules-T
+  pub words : take 15 (table-words rules-T) ≡ 2 ∷ 7 ∷ 40 ∷ 3 ∷ 0 ∷ 1 ∷ 261 ∷ 9 ∷ 41 ∷ 4 ∷ 0 ∷ 260 ∷ 1 ∷ 5 ∷ 0 ∷ []
+  pub holds : sound T (table-words rules-T) ≡ some rules-T
+  -- 4 before 5 before 7
+  pub number-0 : entry-refusal T 0 [] rules-T ≡ 4
+  pub number-1000 : entry-refusal T 1000 [] rules-T ≡ 4
+  pub held-malformed : entry-refusal T 7 [] rules-T ≡ 5
+  pub free-malformed : entry-refusal T 8 [] rules-T ≡ 7

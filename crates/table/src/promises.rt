@@ -1,0 +1,21 @@
+// What holds of the definitions before any code: functions that do nothing, whose contracts are the laws, demands 2 and 3, and Case T.
+ghost use Rattle.table.specs.CaseT.{CaseT};
+ghost use Rattle.table.specs.Demand2.{Demand2};
+ghost use Rattle.table.specs.Demand3.{Demand3};
+ghost use Rattle.table.specs.Laws.{Laws};
+
+pub fn laws()
+    ensures { λ _. ⌜ Laws ⌝ }
+{}
+
+pub fn demand_2()
+    ensures { λ _. ⌜ Demand2 ⌝ }
+{}
+
+pub fn demand_3()
+    ensures { λ _. ⌜ Demand3 ⌝ }
+{}
+
+pub fn case_t()
+    ensures { λ _. ⌜ CaseT ⌝ }
+{}
