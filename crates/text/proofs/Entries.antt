@@ -1,4 +1,4 @@
--- Entries.
+-- The text's rules enter as a list of calls does.
 use mathlib.Core.Path.{_≡_, refl, ap, _∙_, sym, ap₂}
 use mathlib.Core.List.{List, [], _∷_}
 use mathlib.Core.Bool.{cond, true, Bool, false}
@@ -9,17 +9,7 @@ use Rattle.table.specs.Calls.{long-witness}
 use Rattle.table.specs.ListsOfCalls.{ListCall, enter, numbers-reckoned, rules-left, reckon-number, reckon-rules}
 use Rattle.table.specs.Refusals.{entry-refusal}
 use Rattle.table.specs.Rule.{Rule, add-rule}
-use Rattle.text.specs.Print.{enter-all, entered, stopped, EnteredAll}
-
--- the entries of a text's rules, as calls
-abbrev pub entries : List ℕ → List Rule → List ListCall
-entries witness [] = []
-entries witness (r ∷ rs) = enter (r .number) (r .plan) (r .pattern) witness ∷ entries witness rs
-
--- the first number that is not 0
-abbrev pub first-refusal : List ℕ → ℕ
-first-refusal [] = 0
-first-refusal (n ∷ ns) = cond (eqb n 0) (first-refusal ns) n
+use Rattle.text.specs.Print.{entries, first-refusal, enter-all, entered, stopped, EnteredAll}
 
 -- "Rules enter in order; the first refusal n prints": the program stops at the first number reckoned that is not 0, and else holds the rules left
 pub enters : (sig : Signature) (witness : List ℕ) → long-witness witness ≡ true → (qs rs : List Rule) → enter-all sig qs rs ≡ cond (eqb (first-refusal (numbers-reckoned sig (entries witness qs) rs)) 0) (entered (rules-left sig (entries witness qs) rs)) (stopped (first-refusal (numbers-reckoned sig (entries witness qs) rs)))

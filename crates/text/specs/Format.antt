@@ -7,7 +7,7 @@ use lib.Dec.{eqb, leb}
 use lib.ListN.{length}
 use Rattle.signature.specs.Lists.{_>>=_, require, all}
 use Rattle.table.specs.Rule.{Rule}
-use Rattle.text.specs.Limits.{last-word, list-limit, text-limit}
+use Rattle.text.specs.Limits.{digit-limit, last-word, list-limit, text-limit}
 
 -- "fixed byte strings such as sig= and book=", as bytes
 abbrev pub key-sig : List ℕ
@@ -56,7 +56,7 @@ leading-zero (b ∷ (c ∷ bs)) = eqb b 48
 
 abbrev pub number : List ℕ → Option ℕ
 number bs = do
-  _ ← require (leb 1 (length bs) && leb (length bs) 5 && all digit bs && not (leading-zero bs) && leb (worth 0 bs) last-word)
+  _ ← require (leb 1 (length bs) && leb (length bs) digit-limit && all digit bs && not (leading-zero bs) && leb (worth 0 bs) last-word)
   some (worth 0 bs)
 
 abbrev pub numbers : List (List ℕ) → Option (List ℕ)

@@ -1,6 +1,10 @@
 -- The limits of the text.
 use Prim.Native.Nat.{ℕ}
 
+-- "Numbers have 1 to 5 digits"
+abbrev pub digit-limit : ℕ
+digit-limit = 5
+
 -- "at most 65,535"
 abbrev pub last-word : ℕ
 last-word = 65535

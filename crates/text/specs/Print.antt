@@ -8,12 +8,14 @@ use Rattle.signature.specs.Read.{read-booking, read-signature}
 use Rattle.signature.specs.Signature.{Signature}
 use Rattle.signature.specs.Value.{Value}
 use Rattle.tree.specs.Answer.{Answer}
+use Rattle.pattern.specs.Limits.{unbound-place}
 use Rattle.tree.specs.Limits.{default-plan}
 use Rattle.table.specs.Decide.{direct}
+use Rattle.table.specs.ListsOfCalls.{ListCall, enter}
 use Rattle.table.specs.Refusals.{entry-refusal}
 use Rattle.table.specs.Rule.{Rule, add-rule}
 use Rattle.text.specs.Format.{key-rule, key-plan, Text, read-text}
-use Rattle.text.specs.Limits.{last-word}
+use Rattle.text.specs.Limits.{digit-limit}
 
 -- the bytes of bind= and refused=
 abbrev pub key-bind : List ℕ
@@ -31,7 +33,7 @@ digits (suc f) n behind =
 
 -- a number in decimal
 abbrev pub decimal : ℕ → List ℕ
-decimal n = digits 5 n []
+decimal n = digits digit-limit n []
 
 -- a line: key, bytes, newline
 abbrev pub line : List ℕ → List ℕ → List ℕ
@@ -40,7 +42,7 @@ line key bs = key ++ (bs ++ (10 ∷ []))
 -- "variable:place, variables rising, space between pairs"; 65,535 is unbound
 abbrev pub pairs-text : ℕ → List ℕ → List (List ℕ)
 pairs-text x [] = []
-pairs-text x (p ∷ ps) = cond (eqb p last-word) (pairs-text (suc x) ps) ((decimal x ++ (58 ∷ decimal p)) ∷ pairs-text (suc x) ps)
+pairs-text x (p ∷ ps) = cond (eqb p unbound-place) (pairs-text (suc x) ps) ((decimal x ++ (58 ∷ decimal p)) ∷ pairs-text (suc x) ps)
 
 -- "space between"
 abbrev pub spaced : List (List ℕ) → List ℕ
@@ -90,3 +92,13 @@ print-read (some t) = print-text (read-signature (t .sig-words)) t
 -- what the program prints for these bytes
 abbrev pub printed : List ℕ → List ℕ
 printed bytes = print-read (read-text bytes)
+
+-- the entries of a text's rules, as calls
+abbrev pub entries : List ℕ → List Rule → List ListCall
+entries witness [] = []
+entries witness (r ∷ rs) = enter (r .number) (r .plan) (r .pattern) witness ∷ entries witness rs
+
+-- the first number that is not 0
+abbrev pub first-refusal : List ℕ → ℕ
+first-refusal [] = 0
+first-refusal (n ∷ ns) = cond (eqb n 0) (first-refusal ns) n
