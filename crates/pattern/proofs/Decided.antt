@@ -1,4 +1,4 @@
--- Decided.
+-- The decision says which of Fits and Fails holds.
 use mathlib.Core.Path.{_≡_, refl, sym, subst, _∙_}
 use mathlib.Core.List.{List}
 use mathlib.Core.Bool.{Bool, true, false, _&&_, not}

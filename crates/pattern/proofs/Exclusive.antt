@@ -1,4 +1,4 @@
--- Exclusive.
+-- The paper's theorem 3: not both.
 use Prim.Native.Nat.{ℕ}
 use Rattle.signature.specs.Value.{Value, Values}
 use Rattle.pattern.specs.Match.{Binds, Fits, Fails, fits-not, fails-not, fits-and, fails-left, fails-right, fits-left, fails-or, fits-right, fits-con, fails-head, fails-arg, AllFit, SomeFails, all-cons, some-here, some-there}

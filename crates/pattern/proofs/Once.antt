@@ -1,4 +1,4 @@
--- Once.
+-- Linear patterns bind no variable twice (the paper, theorem 11), and the 16 places that bindings give.
 use mathlib.Core.Path.{_≡_, refl, _∙_, sym}
 use mathlib.Core.Logic.{_⊎_, inl, inr}
 use mathlib.Core.List.{_++_, [], _∷_, List}

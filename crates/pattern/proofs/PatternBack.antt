@@ -1,4 +1,4 @@
--- PatternBack.
+-- Patterns are read back from their words, and what was read was there.
 use mathlib.Core.Path.{_≡_, refl, subst, sym, _∙_, ap}
 use mathlib.Core.List.{List, _++_, append-assoc, [], _∷_, append-nil}
 use mathlib.Core.Option.{some}

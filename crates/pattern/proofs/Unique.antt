@@ -1,4 +1,4 @@
--- Unique.
+-- A fit binds variables of E only, a failure variables of O only; the paper's theorem 15: an unambiguous linear pattern binds one way.
 use mathlib.Core.Path.{_≡_, refl, ap, _∙_, sym, ap₂}
 use mathlib.Core.List.{_++_, [], _∷_, List}
 use mathlib.Core.Bool.{_&&_, Bool, true, false}

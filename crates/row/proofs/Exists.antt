@@ -1,4 +1,4 @@
--- Exists.
+-- Overlap and ambiguity: the decision by rows against the existence of a value or booking.
 use mathlib.Core.Path.{_≡_, _∙_, sym, ap, refl, subst}
 use mathlib.Core.Logic.{_⊎_, inl, inr}
 use mathlib.Core.List.{List, [], _∷_, _++_}

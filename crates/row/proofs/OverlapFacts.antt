@@ -1,4 +1,4 @@
--- OverlapFacts.
+-- A row that is kept fits some value, of bounded size and depth.
 use mathlib.Core.Path.{_≡_, refl, _∙_, sym, ap}
 use mathlib.Core.List.{List, [], _∷_, _++_}
 use mathlib.Core.Option.{some}

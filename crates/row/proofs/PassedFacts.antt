@@ -1,4 +1,4 @@
--- AdmittedFacts.
+-- The refusals 7 to 10 against the patterns that pass them.
 use mathlib.Core.Path.{_≡_, refl, sym, _∙_, subst, ap}
 use mathlib.Core.List.{List}
 use mathlib.Core.Option.{Option, none, some}

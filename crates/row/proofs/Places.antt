@@ -1,4 +1,4 @@
--- Places.
+-- Every row of a pattern has at most as many places as the pattern has words.
 use mathlib.Core.List.{List, _++_, _∷_, []}
 use mathlib.Core.Bool.{not, Bool, cond, true, false}
 use Prim.Native.Nat.{suc, _≤_, _+_, ℕ}

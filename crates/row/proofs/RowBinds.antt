@@ -1,4 +1,4 @@
--- RowBinds.
+-- A row that fits a value binds as some fit of its pattern does.
 use mathlib.Core.Path.{_≡_, ap, _∙_, ap₂, refl, sym}
 use mathlib.Core.List.{List, _++_, [], _∷_}
 use mathlib.Core.Option.{some, Option, none}

@@ -1,4 +1,4 @@
--- RowCount.
+-- Rows are at most the weight, and a row of a linear-plus pattern binds no variable twice.
 use mathlib.Core.Path.{_≡_, sym, refl}
 use mathlib.Core.List.{List, [], _∷_, map, _++_}
 use mathlib.Core.Option.{some}

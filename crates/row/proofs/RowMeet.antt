@@ -1,4 +1,4 @@
--- RowMeet.
+-- The product of two rows fits what both fit.
 use mathlib.Core.Path.{_≡_, sym, refl, _∙_, ap, ap₂}
 use mathlib.Core.List.{List, _++_}
 use mathlib.Core.Option.{Option, some, none}

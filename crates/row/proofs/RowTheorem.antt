@@ -1,4 +1,4 @@
--- RowTheorem.
+-- Some row of a pattern fits exactly where the pattern does.
 use mathlib.Core.Path.{_≡_, refl, ap, _∙_, sym, ap₂}
 use mathlib.Core.List.{List, _∷_, _++_, [], map}
 use mathlib.Core.Option.{Option, none, some}

@@ -1,4 +1,4 @@
--- Symmetric.
+-- Overlap does not depend on the order of the two patterns.
 use mathlib.Core.Path.{_≡_, refl, _∙_, ap₂, sym}
 use mathlib.Core.List.{List, [], _∷_, map, _++_}
 use mathlib.Core.Option.{Option, none, some}

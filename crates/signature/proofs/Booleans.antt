@@ -1,4 +1,4 @@
--- Booleans.
+-- Laws of and, or and not.
 use mathlib.Core.Path.{_≡_, refl, sym, ap, _∙_}
 use mathlib.Core.Logic.{_⊎_, inl, inr}
 use mathlib.Core.Bool.{Bool, _&&_, true, false, not}

@@ -1,4 +1,4 @@
--- Heads.
+-- The heads of a kind follow on each other; kinds that have a small value.
 use mathlib.Core.Path.{_≡_, ap, _∙_, refl, sym, subst}
 use mathlib.Core.List.{List, [], _∷_}
 use mathlib.Core.Option.{some}

@@ -1,4 +1,4 @@
--- LawfulFacts.
+-- What a lawful signature has.
 use mathlib.Core.Path.{_≡_, sym, refl, ap, _∙_, subst}
 use mathlib.Core.List.{[], _∷_, List}
 use mathlib.Core.Option.{some, Option, none}

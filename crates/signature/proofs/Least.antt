@@ -1,4 +1,4 @@
--- Least.
+-- The least size of a kind, as it is reckoned, against its existence.
 use mathlib.Core.Path.{_≡_, subst, refl, sym, _∙_, ap}
 use mathlib.Core.List.{List, [], _∷_}
 use mathlib.Core.Option.{some, Option, none}

@@ -1,4 +1,4 @@
--- ListFacts.
+-- Laws of All, In, at, split and of lists that are kept in part.
 use mathlib.Core.Path.{_≡_, refl, ap₂, ap, sym, _∙_, subst}
 use mathlib.Core.Logic.{_⊎_, inl, inr}
 use mathlib.Core.List.{List, _++_, map, [], _∷_}

@@ -1,4 +1,4 @@
--- Members.
+-- Laws of membership and of tests over lists.
 use mathlib.Core.Path.{_≡_, refl, ap, _∙_, sym, ap₂}
 use mathlib.Core.List.{List, _++_, [], _∷_, map}
 use mathlib.Core.Option.{Option, none, some}

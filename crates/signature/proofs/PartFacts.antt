@@ -1,4 +1,4 @@
--- PartFacts.
+-- The part at a place: there is one, it is the only one, and its words stand there.
 use mathlib.Core.Path.{_≡_, refl, ap, sym, _∙_, subst}
 use mathlib.Core.List.{List, _++_, append-nil, [], append-assoc}
 use mathlib.Core.Option.{some}

@@ -1,4 +1,4 @@
--- SignatureBack.
+-- Signatures are read exactly when they are lawful.
 use mathlib.Core.Path.{_≡_, sym, refl, ap, _∙_, ap₂, subst}
 use mathlib.Core.List.{[], _∷_, List, _++_}
 use mathlib.Core.Option.{some, Option, none}

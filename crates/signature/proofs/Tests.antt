@@ -1,4 +1,4 @@
--- Tests.
+-- Tests of numbers and options, with what they say.
 use mathlib.Core.Path.{_≡_, sym, refl, subst, _∙_, ap}
 use mathlib.Core.Option.{none, some, Option}
 use mathlib.Core.Bool.{true, false, Bool, cond, not}

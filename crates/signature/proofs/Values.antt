@@ -1,4 +1,4 @@
--- Values.
+-- Values and bookings are read back from their words, and what was read was there.
 use mathlib.Core.Path.{_≡_, refl, subst, _∙_, ap, sym}
 use mathlib.Core.List.{List, _++_, append-assoc, [], _∷_, append-nil}
 use mathlib.Core.Option.{some}

@@ -1,4 +1,4 @@
--- Demand2Facts.
+-- Demand 2: one rule, and the rules of a sound table.
 use mathlib.Core.Path.{_≡_, refl, ap, subst}
 use mathlib.Core.Logic.{inl, inr}
 use mathlib.Core.List.{List, _∷_, []}

@@ -1,4 +1,4 @@
--- CallFacts.
+-- Every call has an outcome; under an unlawful signature it is 1.
 use mathlib.Core.Path.{_≡_, refl, sym, ap, _∙_, subst}
 use mathlib.Core.List.{List, _∷_, _++_, []}
 use mathlib.Core.Option.{some, Option, none}

@@ -1,4 +1,4 @@
--- RunDirect.
+-- A run over the tree of a sound table's rules answers as the rules do.
 use mathlib.Core.Path.{_≡_, sym, refl, ap, _∙_}
 use mathlib.Core.List.{List, map, _++_, [], _∷_}
 use mathlib.Core.Option.{some}

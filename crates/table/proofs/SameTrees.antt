@@ -1,4 +1,4 @@
--- SameTrees.
+-- Two sound tables of equal rules compile alike.
 use mathlib.Core.Path.{_≡_, _∙_, ap, sym, subst}
 use mathlib.Core.List.{List}
 use mathlib.Core.Option.{some}

@@ -1,4 +1,4 @@
--- SoundFacts.
+-- Sound tables are read exactly, and what compile, run and decide give from one.
 use mathlib.Core.Path.{_≡_, subst, refl, _∙_, ap, sym, ap₂}
 use mathlib.Core.List.{List, _++_, [], _∷_, append-assoc}
 use mathlib.Core.Option.{some}

@@ -1,4 +1,4 @@
--- TableFacts.
+-- Rules of a table: storing and reading them, adding one, taking one out.
 use mathlib.Core.Path.{_≡_, refl, ap, _∙_}
 use mathlib.Core.Logic.{_≢_}
 use mathlib.Core.List.{List, _++_, append-assoc, _∷_, []}

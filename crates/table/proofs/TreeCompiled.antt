@@ -1,4 +1,4 @@
--- TreeCompiled.
+-- The tree of a sound table's rules obeys the four rules: rows left at a leaf are one rule's and bind alike.
 use mathlib.Core.Path.{_≡_, subst, refl, sym, _∙_, ap}
 use mathlib.Core.Logic.{_⊎_, inl, inr}
 use mathlib.Core.List.{List, _∷_, [], map}

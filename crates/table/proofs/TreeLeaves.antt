@@ -1,4 +1,4 @@
--- TreeLeaves.
+-- The leaves of a sound table's tree, and how many refined places its rows have.
 use mathlib.Core.Path.{_≡_}
 use mathlib.Core.List.{[], _∷_, List, map}
 use mathlib.Core.Bool.{true}

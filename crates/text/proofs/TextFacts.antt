@@ -1,4 +1,4 @@
--- TextFacts.
+-- Numbers in decimal, read and printed.
 use mathlib.Core.Path.{_≡_, ap, _∙_, refl, sym, ap₂}
 use mathlib.Core.List.{List, _∷_, []}
 use mathlib.Core.Option.{some}

@@ -1,4 +1,4 @@
--- TextLaw.
+-- Texts are read exactly when they have the line format.
 use mathlib.Core.Path.{_≡_, refl, _∙_, ap, ap₂, sym, subst}
 use mathlib.Core.List.{List, _++_, _∷_, [], map}
 use mathlib.Core.Option.{some}

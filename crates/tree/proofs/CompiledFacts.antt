@@ -1,4 +1,4 @@
--- CompiledFacts.
+-- The four rules: one tree only, and a bound that is enough for it.
 use mathlib.Core.Path.{_≡_, ap, _∙_, sym, ap₂, refl, subst}
 use mathlib.Core.List.{List, _∷_, [], _++_, map}
 use mathlib.Core.Option.{Option, none, some}

@@ -1,4 +1,4 @@
--- Agree.
+-- Along a path, the rows that are left agree on what they bind.
 use mathlib.Core.Path.{_≡_, refl, subst, _∙_, ap, sym, ap₂}
 use mathlib.Core.Logic.{_⊎_, inl, inr}
 use mathlib.Core.List.{List, map, [], _∷_, _++_}

@@ -1,4 +1,4 @@
--- RowPlaces.
+-- What a row binds, as 16 places.
 use mathlib.Core.Path.{_≡_, refl, ap, _∙_, sym}
 use mathlib.Core.List.{[], _∷_, List}
 use mathlib.Core.Option.{some}

@@ -1,4 +1,4 @@
--- RunFacts.
+-- A run over the words of a tree walks the tree.
 use mathlib.Core.Path.{_≡_, refl, ap, _∙_, subst, sym}
 use mathlib.Core.List.{List, [], _∷_, _++_, append-assoc}
 use mathlib.Core.Option.{some, Option, none}

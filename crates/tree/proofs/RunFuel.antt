@@ -1,4 +1,4 @@
--- RunFuel.
+-- A run does not depend on the bound in its definition.
 use mathlib.Core.Path.{_≡_, refl, ap₂}
 use mathlib.Core.List.{List, _++_, _∷_, []}
 use mathlib.Core.Option.{some, none}

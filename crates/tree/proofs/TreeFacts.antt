@@ -1,4 +1,4 @@
--- TreeFacts.
+-- Walking the tree of a matrix answers by the first line that fits.
 use mathlib.Core.Path.{_≡_, refl, _∙_, ap, ap₂, sym}
 use mathlib.Core.List.{List, map, _++_, _∷_, []}
 use mathlib.Core.Option.{Option, none, some}

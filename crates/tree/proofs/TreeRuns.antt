@@ -1,4 +1,4 @@
--- TreeRuns.
+-- Trees that are compiled have leaves that a run accepts.
 use mathlib.Core.Path.{_≡_, refl}
 use mathlib.Core.List.{[], _∷_, List, _++_, map}
 use mathlib.Core.Option.{Option, some}
