@@ -9,3 +9,4 @@ pub mod Read
 pub mod Takes
 pub mod Weight
 pub mod WellFormed
+pub mod Word
