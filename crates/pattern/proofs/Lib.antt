@@ -4,3 +4,5 @@ pub mod Forms
 pub mod Once
 pub mod PatternBack
 pub mod Unique
+pub mod Skip
+pub mod ReadSteps

@@ -10,3 +10,4 @@ pub mod Takes
 pub mod Weight
 pub mod WellFormed
 pub mod Word
+pub mod End
