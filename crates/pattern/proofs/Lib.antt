@@ -6,3 +6,6 @@ pub mod PatternBack
 pub mod Unique
 pub mod Skip
 pub mod ReadSteps
+pub mod Opened
+pub mod StandsLaw
+pub mod WeightSteps

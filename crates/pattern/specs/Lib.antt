@@ -11,3 +11,6 @@ pub mod Weight
 pub mod WellFormed
 pub mod Word
 pub mod End
+pub mod Side
+pub mod Given
+pub mod Weighing
