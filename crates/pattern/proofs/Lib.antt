@@ -9,3 +9,5 @@ pub mod ReadSteps
 pub mod Opened
 pub mod StandsLaw
 pub mod WeightSteps
+pub mod VarSets
+pub mod LinearSteps

@@ -14,3 +14,4 @@ pub mod End
 pub mod Side
 pub mod Given
 pub mod Weighing
+pub mod Linearity
