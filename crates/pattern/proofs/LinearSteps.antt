@@ -2,29 +2,29 @@
 use mathlib.Core.Path.{_≡_, refl, sym, ap, ap₂, subst, _∙_}
 use mathlib.Core.List.{List, [], _∷_, _++_, append-assoc, append-nil}
 use mathlib.Core.Bool.{Bool, true, false, _&&_, not}
-use Prim.Native.Nat.{ℕ, zero, suc, _+_, _-_, _≤_, _<_, max}
+use Prim.Native.Nat.{ℕ, suc, _+_, _-_, _≤_, _<_, max}
 use native.Mathlib.Numerals.{add-one}
 use native.Mathlib.Omega.{arith}
 use lib.ListN.{length, drop, getD, length-append, length-drop}
 use lib.Seq.{drop-drop}
-use Rattle.signature.specs.Lists.{memb, all, is-empty, _or-else_}
+use Rattle.signature.specs.Lists.{memb, is-empty, _or-else_}
 use Rattle.signature.specs.Set.{bit}
-use Rattle.signature.proofs.Booleans.{and-true, and-false}
+use Rattle.signature.proofs.Booleans.{and-true}
 use Rattle.signature.proofs.Members.{memb-append}
 use Rattle.pattern.specs.Given.{Opens}
 use Rattle.pattern.specs.Linear.{E, O, E-all, O-all, linear-plus, linear-minus, all-plus, all-minus, disjoint, same-set}
-use Rattle.pattern.specs.Linearity.{side-of, vars-at, linear-at, Holds, Judged, behind, joint-at, joins, own-vars, var-small}
+use Rattle.pattern.specs.Linearity.{vars-at, linear-at, Holds, Judged, behind, joint-at, joins, own-vars, var-small}
 use Rattle.pattern.specs.Pattern.{Pattern, Patterns, pnil, pcons, head, and, or, wild, absurd-pat, neg, var, pattern-code, patterns-code}
 use Rattle.pattern.specs.Read.{Form, form}
-use Rattle.pattern.specs.Side.{Side, plus, minus, other}
+use Rattle.pattern.specs.Side.{Side, plus, minus}
 use Rattle.pattern.specs.Word.{part-count}
 use Rattle.pattern.specs.declared.linear.Joint.{Joint}
-use Rattle.pattern.specs.declared.linear.Joint.the-variants.{Apart, Alike, Bare}
+use Rattle.pattern.specs.declared.linear.Joint.the-variants.{Apart, Bare}
 use Rattle.pattern.specs.declared.linear.Part.{Part}
 use Rattle.pattern.specs.declared.linear.Part.the-variants.{Is, NotLinear}
 use Rattle.pattern.proofs.Opened.{shape, inner, inner-length, OpensAll, Uncons, uncons, none-open, opened, shape-is, fits-in, to-part}
 use Rattle.pattern.proofs.PatternBack.{Formed, formed, formed-head, formed-and, formed-or, formed-wild, formed-absurd, formed-not, formed-var, formed-other}
-use Rattle.pattern.proofs.ReadSteps.{part, to-end}
+use Rattle.pattern.proofs.ReadSteps.{part}
 use Rattle.pattern.proofs.VarSets.{holds-join, holds-same}
 
 -- the parts from the j-th on, after the variables xs of those before

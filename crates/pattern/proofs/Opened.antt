@@ -1,18 +1,16 @@
 -- A pattern at the front of some words: its first word, and the patterns behind it.
-use mathlib.Core.Path.{_≡_, refl, sym, ap, subst, _∙_}
+use mathlib.Core.Path.{_≡_, refl, sym, ap, _∙_}
 use mathlib.Core.List.{List, [], _∷_, _++_, append-assoc, append-nil}
-use mathlib.Core.Option.{some}
-use Prim.Native.Nat.{ℕ, zero, suc, _+_, _-_, _≤_, _<_}
+use Prim.Native.Nat.{ℕ, suc, _+_, _-_, _≤_, _<_}
 use native.Mathlib.Omega.{arith}
-use lib.ListN.{length, drop, getD, length-append, length-drop}
-use lib.Seq.{drop-at, drop-drop}
+use lib.ListN.{length, drop, getD, length-append}
+use lib.Seq.{drop-at}
 use Rattle.signature.specs.Decoded.{Known}
 use Rattle.signature.specs.Signature.{Signature}
 use Rattle.signature.proofs.Heads.{constructor-of}
 use Rattle.pattern.specs.Given.{Patterned, Opens}
-use Rattle.pattern.specs.Limits.{last-variable}
 use Rattle.pattern.specs.Pattern.{Pattern, Patterns, pnil, pcons, head, and, or, wild, absurd-pat, neg, var, pattern-code, patterns-code}
-use Rattle.pattern.specs.Read.{Form, is-head, is-var, is-and, is-or, is-wild, is-absurd, is-not, is-other, form}
+use Rattle.pattern.specs.Read.{Form, is-head, is-var, is-and, is-or, is-wild, is-absurd, is-not, form}
 use Rattle.pattern.specs.WellFormed.{WellFormed, AllWellFormed, well-head, well-and, well-or, well-not, well-wild, well-absurd, well-var, well-nil, well-cons}
 use Rattle.pattern.specs.Word.{part-count}
 use Rattle.pattern.proofs.Forms.{form-head, form-var}

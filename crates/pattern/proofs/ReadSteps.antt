@@ -1,27 +1,27 @@
 -- What the reader's steps show: the kinds that are due, one more pattern, the end.
 use mathlib.Core.Path.{_≡_, refl, sym, ap, subst, _∙_}
-use mathlib.Core.List.{List, [], _∷_, _++_}
+use mathlib.Core.List.{List, [], _∷_}
 use mathlib.Core.Option.{Option, some, none}
-use mathlib.Core.Bool.{Bool, true, false, _&&_}
+use mathlib.Core.Bool.{true, false}
 use Prim.Native.Nat.{ℕ, zero, suc, _+_, _-_, _≤_, _<_}
 use native.Mathlib.Numerals.{add-one}
 use native.Mathlib.Omega.{arith}
-use lib.Dec.{eqb, ltb, leb}
+use lib.Dec.{eqb, ltb}
 use lib.ListN.{length, drop, take, getD, length-drop}
 use lib.Seq.{take-all, drop-drop, drop-cons}
 use Rattle.signature.specs.Decoded.{Known, constructors-of, kind-of}
-use Rattle.signature.specs.Limits.{argument-limit, constructor-limit}
-use Rattle.signature.specs.Lists.{_>>=_, at, require, is-some, whole}
+use Rattle.signature.specs.Limits.{argument-limit}
+use Rattle.signature.specs.Lists.{_>>=_, at, is-some, whole}
 use Rattle.signature.specs.Signature.{Signature, Constructor, arguments-at}
 use Rattle.signature.proofs.Booleans.{and-left, and-right}
 use Rattle.signature.proofs.Heads.{constructor-of}
 use Rattle.signature.proofs.LawfulFacts.{sig-facts, few}
-use Rattle.signature.proofs.ListFacts.{at-out, at-getD}
-use Rattle.signature.proofs.Tests.{none≢some, bind-some, some-inj, same-some, eqb-eq, eqb-no, eqb-self, leb-yes, leb-no, ltb-no, ltb-yes, true≢false}
+use Rattle.signature.proofs.ListFacts.{at-getD}
+use Rattle.signature.proofs.Tests.{none≢some, some-inj, eqb-no, eqb-self, leb-yes, leb-no, ltb-no, ltb-yes, true≢false}
 use Rattle.pattern.specs.End.{end-of, may-begin, kind-behind}
 use Rattle.pattern.specs.Limits.{pattern-limit}
 use Rattle.pattern.specs.Pattern.{Pattern}
-use Rattle.pattern.specs.Read.{Form, is-head, is-var, is-and, is-or, is-wild, is-absurd, is-not, is-other, form, read-one, read-by-form, read-pattern}
+use Rattle.pattern.specs.Read.{Form, is-head, is-var, is-and, is-or, is-wild, is-absurd, is-not, is-other, form, read-one, read-pattern}
 use Rattle.pattern.specs.Word.{part-count, head-small}
 use Rattle.pattern.specs.declared.read.End.{End}
 use Rattle.pattern.specs.declared.read.End.the-variants.{At, Bad}

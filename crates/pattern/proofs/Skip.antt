@@ -1,28 +1,17 @@
 -- Reading by what is left behind a pattern, and the kinds that are due behind a word.
-use mathlib.Core.Path.{_≡_, refl, sym, ap, subst, _∙_}
-use mathlib.Core.List.{List, [], _∷_, _++_}
+use mathlib.Core.Path.{_≡_, refl, sym, ap, _∙_}
+use mathlib.Core.List.{List, [], _∷_}
 use mathlib.Core.Option.{Option, some, none}
-use mathlib.Core.Bool.{Bool, true, false, _&&_}
-use Prim.Native.Nat.{ℕ, zero, suc, _+_, _-_, _≤_, _<_}
+use Prim.Native.Nat.{ℕ, _+_, _-_, _≤_}
 use native.Mathlib.Omega.{arith}
-use lib.Dec.{eqb, ltb, leb}
-use lib.ListN.{length, drop, take, length-append, length-drop}
-use lib.Seq.{drop-at, take-all, drop-drop}
-use Rattle.signature.specs.Decoded.{Known, constructors-of, kind-of, argument-of}
-use Rattle.signature.specs.Limits.{argument-limit}
-use Rattle.signature.specs.Lists.{_>>=_, at, require, is-some, whole}
-use Rattle.signature.specs.Signature.{Signature, Constructor, arguments-at}
-use Rattle.signature.proofs.Booleans.{and-left, and-right}
-use Rattle.signature.proofs.Heads.{constructor-of}
-use Rattle.signature.proofs.LawfulFacts.{sig-facts, few}
-use Rattle.signature.proofs.ListFacts.{at-out, at-getD}
-use Rattle.signature.proofs.Tests.{none≢some, bind-some, some-inj, require-some, ltb-yes, ltb-no, eqb-eq, eqb-no, eqb-self, leb-yes, true≢false}
-use Rattle.pattern.specs.End.{end-of, may-begin, kind-behind}
-use Rattle.pattern.specs.Limits.{pattern-limit}
-use Rattle.pattern.specs.Pattern.{Pattern, Patterns, pnil, pcons, head, and, or, wild, absurd-pat, neg, var, pattern-code}
-use Rattle.pattern.specs.Read.{Form, is-head, is-var, is-and, is-or, is-wild, is-absurd, is-not, is-other, form, read-one, read-each, read-two, read-by-form, read-pattern}
-use Rattle.pattern.specs.Word.{part-count}
-use Rattle.pattern.specs.declared.read.End.{End}
+use lib.ListN.{length, drop, length-append, length-drop}
+use lib.Seq.{drop-at}
+use Rattle.signature.specs.Lists.{_>>=_}
+use Rattle.signature.specs.Signature.{Signature, arguments-at}
+use Rattle.signature.proofs.Tests.{none≢some, some-inj}
+use Rattle.pattern.specs.End.{end-of}
+use Rattle.pattern.specs.Pattern.{Pattern, pcons, head, and, or, neg, pattern-code}
+use Rattle.pattern.specs.Read.{Form, is-head, is-var, is-and, is-or, is-wild, is-absurd, is-not, is-other, read-one, read-each, read-two, read-by-form}
 use Rattle.pattern.specs.declared.read.End.the-variants.{At, Bad}
 use Rattle.pattern.proofs.PatternBack.{pattern-was}
 

@@ -1,12 +1,12 @@
 -- `light-plus` says of each part that it weighs at most 64 at the side on which it stands.
-use mathlib.Core.Path.{_≡_, refl, sym}
+use mathlib.Core.Path.{_≡_, refl}
 use mathlib.Core.Bool.{Bool, true, false, _&&_}
-use Prim.Native.Nat.{ℕ, _≤_}
+use Prim.Native.Nat.{ℕ, _≤_, _<_}
 use native.Mathlib.Omega.{arith}
 use lib.Dec.{leb}
 use Rattle.signature.specs.Lists.{Iff}
 use Rattle.signature.proofs.Booleans.{and-left, and-right}
-use Rattle.signature.proofs.Tests.{le-of, leb-yes}
+use Rattle.signature.proofs.Tests.{le-of, lt-of-not, leb-yes, true≢false}
 use Rattle.pattern.specs.Limits.{part-weight-limit}
 use Rattle.pattern.specs.Pattern.{Pattern, Patterns, pnil, pcons, head, and, or, wild, absurd-pat, neg, var}
 use Rattle.pattern.specs.Side.{Side, plus, minus, other, weight-at, light-at, light-all, Stands, StandsIn, itself, in-not, in-and-left, in-and-right, in-or-left, in-or-right, in-head, in-first, in-rest}
@@ -113,3 +113,69 @@ mutual
 -- 01, Patterns: each part, at the side on which it stands, weighs at most 64
 pub light-is-each : (p : Pattern) → Iff (light-plus p ≡ true) ((r : Side) (q : Pattern) → Stands plus p r q → weight-at r q ≤ part-weight-limit)
 light-is-each p = (λ e r q h. light-parts h e, λ h. parts-light p plus h)
+
+abbrev SomeHeavy : Side → Pattern → Type 0
+SomeHeavy s p = (r : Side) × (q : Pattern) × Stands s p r q × (part-weight-limit < weight-at r q)
+
+abbrev SomeHeavyIn : Side → Patterns → Type 0
+SomeHeavyIn s ps = (r : Side) × (q : Pattern) × StandsIn s ps r q × (part-weight-limit < weight-at r q)
+
+-- which of them is false
+either : {A : Type 0} (a b : Bool) → (a && b) ≡ false → (a ≡ false → A) → (b ≡ false → A) → A
+either true b e f g = g e
+either false b e f g = f refl
+
+heavy-itself : (s : Side) (p : Pattern) → fits s p ≡ false → SomeHeavy s p
+heavy-itself s p e = (s, p, itself, lt-of-not (weight-at s p) part-weight-limit e)
+
+heavy-left : (s : Side) (p q : Pattern) → SomeHeavy s p → SomeHeavy s (and p q) × SomeHeavy s (or p q)
+heavy-left s p q (r, x, h, l) = ((r, x, in-and-left h, l), (r, x, in-or-left h, l))
+
+heavy-right : (s : Side) (p q : Pattern) → SomeHeavy s q → SomeHeavy s (and p q) × SomeHeavy s (or p q)
+heavy-right s p q (r, x, h, l) = ((r, x, in-and-right h, l), (r, x, in-or-right h, l))
+
+heavy-not : (s : Side) (p : Pattern) → SomeHeavy (other s) p → SomeHeavy s (neg p)
+heavy-not s p (r, x, h, l) = (r, x, in-not h, l)
+
+heavy-head : (s : Side) (c : ℕ) (ps : Patterns) → SomeHeavyIn s ps → SomeHeavy s (head c ps)
+heavy-head s c ps (r, x, h, l) = (r, x, in-head h, l)
+
+heavy-first : (s : Side) (p : Pattern) (ps : Patterns) → SomeHeavy s p → SomeHeavyIn s (pcons p ps)
+heavy-first s p ps (r, x, h, l) = (r, x, in-first h, l)
+
+heavy-rest : (s : Side) (p : Pattern) (ps : Patterns) → SomeHeavyIn s ps → SomeHeavyIn s (pcons p ps)
+heavy-rest s p ps (r, x, h, l) = (r, x, in-rest h, l)
+
+mutual
+  find-heavy : (p : Pattern) (s : Side) → light-at s p ≡ false → SomeHeavy s p
+  find-heavy (var x) plus e = true≢false e
+  find-heavy (var x) minus e = true≢false e
+  find-heavy wild plus e = true≢false e
+  find-heavy wild minus e = true≢false e
+  find-heavy absurd-pat plus e = true≢false e
+  find-heavy absurd-pat minus e = true≢false e
+  find-heavy (neg p) plus e = heavy-not plus p (find-heavy p minus e)
+  find-heavy (neg p) minus e = heavy-not minus p (find-heavy p plus e)
+  find-heavy (and p q) plus e = either (fits plus (and p q) && light-at plus p) (light-at plus q) e (λ f. either (fits plus (and p q)) (light-at plus p) f (heavy-itself plus (and p q)) (λ a. heavy-left plus p q (find-heavy p plus a) .0)) (λ a. heavy-right plus p q (find-heavy q plus a) .0)
+  find-heavy (and p q) minus e = either (fits minus (and p q) && light-at minus p) (light-at minus q) e (λ f. either (fits minus (and p q)) (light-at minus p) f (heavy-itself minus (and p q)) (λ a. heavy-left minus p q (find-heavy p minus a) .0)) (λ a. heavy-right minus p q (find-heavy q minus a) .0)
+  find-heavy (or p q) plus e = either (fits plus (or p q) && light-at plus p) (light-at plus q) e (λ f. either (fits plus (or p q)) (light-at plus p) f (heavy-itself plus (or p q)) (λ a. heavy-left plus p q (find-heavy p plus a) .1)) (λ a. heavy-right plus p q (find-heavy q plus a) .1)
+  find-heavy (or p q) minus e = either (fits minus (or p q) && light-at minus p) (light-at minus q) e (λ f. either (fits minus (or p q)) (light-at minus p) f (heavy-itself minus (or p q)) (λ a. heavy-left minus p q (find-heavy p minus a) .1)) (λ a. heavy-right minus p q (find-heavy q minus a) .1)
+  find-heavy (head c ps) plus e = either (fits plus (head c ps)) (light-all plus ps) e (heavy-itself plus (head c ps)) (λ a. heavy-head plus c ps (find-heavy-in ps plus a))
+  find-heavy (head c ps) minus e = either (fits minus (head c ps)) (light-all minus ps) e (heavy-itself minus (head c ps)) (λ a. heavy-head minus c ps (find-heavy-in ps minus a))
+
+  find-heavy-in : (ps : Patterns) (s : Side) → light-all s ps ≡ false → SomeHeavyIn s ps
+  find-heavy-in pnil plus e = true≢false e
+  find-heavy-in pnil minus e = true≢false e
+  find-heavy-in (pcons p ps) plus e = either (light-at plus p) (light-all plus ps) e (λ a. heavy-first plus p ps (find-heavy p plus a)) (λ a. heavy-rest plus p ps (find-heavy-in ps plus a))
+  find-heavy-in (pcons p ps) minus e = either (light-at minus p) (light-all minus ps) e (λ a. heavy-first minus p ps (find-heavy p minus a)) (λ a. heavy-rest minus p ps (find-heavy-in ps minus a))
+
+-- 01, refusal 9: some part weighs over 64
+pub heavy-is-some : (p : Pattern) → Iff (light-plus p ≡ false) ((r : Side) × (q : Pattern) × Stands plus p r q × (part-weight-limit < weight-at r q))
+heavy-is-some p = (find-heavy p plus, back)
+  where
+    back : SomeHeavy plus p → light-plus p ≡ false
+    back (r, q, h, l) = go (light-plus p) refl
+      where
+        go : (b : Bool) → light-plus p ≡ b → b ≡ false
+        go false e = refl
+        go true e = absurd (let w : weight-at r q ≤ part-weight-limit = light-parts h e in omega arith)

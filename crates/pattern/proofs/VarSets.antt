@@ -1,7 +1,7 @@
 -- Sets of variables in a number.
 use mathlib.Core.Path.{_≡_, refl, sym, ap, ap₂, _∙_}
 use mathlib.Core.List.{List, [], _∷_, _++_}
-use mathlib.Core.Bool.{Bool, true, false, _&&_, not}
+use mathlib.Core.Bool.{Bool, true, false, not}
 use Prim.Native.Nat.{ℕ, _<_, _^_, min, max}
 use native.Mathlib.Omega.{arith}
 use lib.Dec.{eqb}

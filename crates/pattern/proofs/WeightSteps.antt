@@ -1,16 +1,16 @@
 -- What the steps of weighing show, at either side.
 use mathlib.Core.Path.{_≡_, refl, sym, ap, subst, _∙_}
-use mathlib.Core.List.{List, [], _∷_, _++_, append-nil}
+use mathlib.Core.List.{List, append-nil}
 use mathlib.Core.Bool.{Bool, true, false, _&&_, cond}
 use Prim.Native.Nat.{ℕ, zero, suc, _+_, _-_, _*_, _≤_, _<_, min}
-use native.Mathlib.Nat.{add-assoc, mul-assoc, mul-comm, mul-one, one-mul, mul-zero, mul-le-mul, add-zero}
+use native.Mathlib.Nat.{add-assoc, mul-assoc, mul-one, one-mul, mul-zero, mul-le-mul, add-zero}
 use native.Mathlib.Omega.{arith}
 use lib.Dec.{ltb, leb}
 use lib.ListN.{length, drop, getD, length-append, length-drop}
 use lib.Seq.{drop-drop}
 use borrow.Author.Tests.{ltb-true, ltb-false}
 use Rattle.signature.proofs.Booleans.{and-true}
-use Rattle.signature.proofs.Tests.{leb-yes, leb-no, true≢false}
+use Rattle.signature.proofs.Tests.{leb-yes, leb-no}
 use Rattle.pattern.specs.Given.{Opens}
 use Rattle.pattern.specs.Limits.{part-weight-limit}
 use Rattle.pattern.specs.Pattern.{Pattern, Patterns, pnil, pcons, head, and, or, wild, absurd-pat, neg, var, pattern-code, patterns-code}
@@ -23,10 +23,9 @@ use Rattle.pattern.specs.declared.weight.Head.{Head}
 use Rattle.pattern.specs.declared.weight.Head.the-variants.{Parts, Swap}
 use Rattle.pattern.specs.declared.weight.Part.{Part}
 use Rattle.pattern.specs.declared.weight.Part.the-variants.{Is, TooHeavy}
-use Rattle.pattern.specs.declared.weight.Weighed.{Weighed}
 use Rattle.pattern.specs.declared.weight.Weighed.the-variants.{Light, Heavy}
 use Rattle.pattern.proofs.Opened.{shape, inner, inner-length, OpensAll, Uncons, uncons, none-open, opened, shape-is, fits-in, to-part, first-open}
-use Rattle.pattern.proofs.ReadSteps.{part, to-end}
+use Rattle.pattern.proofs.ReadSteps.{part}
 use Rattle.pattern.proofs.StandsLaw.{light-weight}
 
 abbrev unit : Bool → ℕ

@@ -63,7 +63,7 @@ fn part_kind(t: &[u16], w: Word, k: u16, j: usize) -> u16
 }
 
 // The end of the pattern of kind `k` that begins `p`.
-pub fn one(t: &[u16], p: &[u16], k: u16) -> End
+pub fn read_one(t: &[u16], p: &[u16], k: u16) -> End
     requires { ⌜ Known (now t) ⌝ }
     ensures { λ r. ⌜ ((g : Known (now (t .entry))) (d : ℕ) → length (now (p .entry)) ≤ d → r ≡ end-of (now (p .entry)) (read-one (g .sig) d k (now (p .entry)))) ⌝ }
 {
@@ -78,7 +78,7 @@ pub fn one(t: &[u16], p: &[u16], k: u16) -> End
     let mut at = 1;
     let mut j = 0;
     while j < n {
-        let End::At(m) = one(t, &p[at..], part_kind(t, w, k, j)) else {
+        let End::At(m) = read_one(t, &p[at..], part_kind(t, w, k, j)) else {
             return End::Bad;
         };
         at += m;
@@ -94,7 +94,7 @@ pub fn well_formed(t: &[u16], p: &[u16]) -> bool
     if PATTERN_WORDS < p.len() {
         return false;
     }
-    let e = one(t, p, 0);
+    let e = read_one(t, p, 0);
     match e {
         End::At(n) => n == p.len(),
         End::Bad => false,

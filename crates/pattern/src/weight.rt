@@ -78,7 +78,7 @@ fn minus_head(w: Word) -> Head
     }
 }
 
-// The plus side of the pattern that begins `p`. A part that is too heavy ends it: no later factor 0 hides that part.
+// The plus side of the pattern that begins `p`.
 pub fn weigh_plus(t: &[u16], p: &[u16]) -> Part
     requires { ⌜ Opens (now t) (now p) ⌝ }
     ensures { λ r. ⌜ ((g : Opens (now (t .entry)) (now (p .entry))) → r ≡ part-weighed plus (g .pattern)) ⌝ }
@@ -96,7 +96,7 @@ pub fn weigh_plus(t: &[u16], p: &[u16]) -> Part
     let mut i = 0;
     while i < count {
         let Part::Is(m, used) = weigh_plus(t, &p[at..]) else {
-            return Part::TooHeavy;
+            return Part::TooHeavy; // a factor 0 hides no part
         };
         n = join(times, n, m);
         at += used;

@@ -1,5 +1,4 @@
 -- `linear::goes_with` meets its contract. Assumes nothing.
-use mathlib.Core.Bool.{cond}
 use borrow.Author.Tests.{ne-eqb}
 use Rattle.pattern.proofs.VarSets.{apart-is, alike-is, bare-is}
 use borrow.Author.Needs.{needs}

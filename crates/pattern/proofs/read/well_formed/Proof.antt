@@ -1,5 +1,4 @@
 -- `read::well_formed` meets its contract. Assumes nothing.
-use native.Mathlib.Omega.{arith}
 use borrow.Author.Needs.{needs}
 use Rattle.pattern.proofs.ReadSteps.{too-long, whole-at, whole-bad}
 use Rattle.pattern.proofs.read.well_formed.Statement.{statement}
@@ -13,5 +12,5 @@ well-formed-spec =
     (λ c κs. search needs)
     (λ c. search needs)
     (λ c. search needs)
-    (λ c g. whole-at _ (c .before .before .before .before .before .before .before .args .p .now) g _ _ (c .before .before .before .before .if1 .left) (c .before .before .before .one .ensures) (c .before .e .given .1))
-    (λ c g. whole-bad _ (c .before .before .before .before .before .before .args .p .now) g _ (c .before .before .before .if1 .left) (c .before .before .one .ensures) (c .enum-told .given .1)))
+    (λ c g. whole-at _ (c .before .before .before .before .before .before .before .args .p .now) g _ _ (c .before .before .before .before .if1 .left) (c .before .before .before .read-one .ensures) (c .before .e .given .1))
+    (λ c g. whole-bad _ (c .before .before .before .before .before .before .args .p .now) g _ (c .before .before .before .if1 .left) (c .before .before .read-one .ensures) (c .enum-told .given .1)))

@@ -1,7 +1,5 @@
 -- `token::parts` meets its contract. Assumes nothing.
-use mathlib.Core.Path.{_∙_, ap, sym}
 use borrow.Author.Needs.{needs}
-use Rattle.pattern.specs.Word.{form-of, part-count, head-small}
 use Rattle.pattern.proofs.token.parts.Statement.{statement}
 use Rattle.pattern.proofs.token.parts.Tie as tie
 
