@@ -5,6 +5,7 @@ pub mod Least
 pub mod ListFacts
 pub mod Members
 pub mod PartFacts
+pub mod SetLaws
 pub mod SignatureBack
 pub mod Tests
 pub mod Values

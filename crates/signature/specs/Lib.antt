@@ -9,3 +9,4 @@ pub mod Part
 pub mod Decoded
 pub mod Laws
 pub mod Cases
+pub mod Set
