@@ -1,10 +1,17 @@
 pub mod Booleans
+pub mod Counting
+pub mod Decoding
 pub mod Heads
 pub mod LawfulFacts
 pub mod Least
 pub mod ListFacts
 pub mod Members
+pub mod Narrow
+pub mod Ordering
 pub mod PartFacts
+pub mod Rows
 pub mod SignatureBack
+pub mod Sizes
+pub mod Tables
 pub mod Tests
 pub mod Values

@@ -7,3 +7,4 @@ pub mod Lawful
 pub mod Read
 pub mod Part
 pub mod Decoded
+pub mod Decoding
