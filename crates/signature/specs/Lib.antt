@@ -10,3 +10,4 @@ pub mod Decoded
 pub mod Laws
 pub mod Cases
 pub mod Set
+pub mod Decoding
