@@ -1,5 +1,6 @@
 pub mod Booleans
 pub mod Heads
+pub mod KnownFacts
 pub mod LawfulFacts
 pub mod Least
 pub mod ListFacts
@@ -7,5 +8,8 @@ pub mod Members
 pub mod PartFacts
 pub mod SetLaws
 pub mod SignatureBack
+pub mod SpanLaws
 pub mod Tests
 pub mod Values
+pub mod WalkLaws
+pub mod WalkSteps

@@ -8,3 +8,4 @@ pub mod Read
 pub mod Part
 pub mod Decoded
 pub mod Set
+pub mod Walk
