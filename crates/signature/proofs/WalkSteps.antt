@@ -118,6 +118,12 @@ module _ {t : List ℕ} (g : Known t) where
 
 -- ---- the loop over the booking's words
 
+pub started : (ys : List ℕ) → length ys ≡ due-limit → drop (due-limit - 1) (set ys (due-limit - 1) (due-of depth-limit 0)) ≡ due-of depth-limit 0 ∷ []
+started ys l = drop-set-here ys (due-limit - 1) (due-of depth-limit 0) (omega arith) ∙ ap (λ z. due-of depth-limit 0 ∷ z) (drop-of-length-le ys {i = due-limit} (omega arith))
+
+pub room-first : (xs : List ℕ) → xs ≡ due-of depth-limit 0 ∷ [] → Room xs
+room-first xs e = rw e (omega arith, tt)
+
 pub next-place : (r : Walked) (n : ℕ) → r ≡ At n → Inside r → n ≤ due-limit
 next-place r n e h = rw e at h
 

@@ -2,7 +2,7 @@
 // stand at the end of a lent slice of 769 words, the next one in front.
 use crate::decoded;
 ghost use mathlib.Core.Path.{_≡_};
-ghost use mathlib.Core.List.{_++_, map};
+ghost use mathlib.Core.List.{[], _∷_, _++_, map};
 ghost use Prim.Native.Nat.{_<_, _≤_};
 ghost use lib.ListN.{length, drop};
 ghost use Rattle.signature.specs.Decoded.{Known, Starts};
@@ -26,6 +26,15 @@ pub const DUE: usize = 769;
 pub enum Walked {
     At(usize),
     Refused,
+}
+
+// At first one value of kind 0 is due.
+pub fn start(due: &mut [u16]) -> usize
+    requires { ⌜ length (now due) ≡ due-limit ⌝ }
+    ensures { λ r. ⌜ (r ≤ due-limit) × (drop r (now (due .exit)) ≡ due-of depth-limit 0 ∷ []) ⌝ }
+{
+    due[DUE - 1] = DEPTH_LIMIT;
+    DUE - 1
 }
 
 // The arguments of c become due, the first in front.
@@ -80,9 +89,7 @@ pub fn lawful(t: &[u16], b: &[u16]) -> bool
         return false;
     }
     let mut due = [0u16; DUE];
-    let mut at = DUE - 1;
-    // one value of kind 0
-    due[at] = DEPTH_LIMIT;
+    let mut at = start(&mut due);
     let mut i = 0;
     while i < b.len() {
         let Walked::At(n) = step(t, &mut due, at, b[i]) else {
