@@ -6,6 +6,7 @@ pub mod Least
 pub mod ListFacts
 pub mod Members
 pub mod PartFacts
+pub mod PartLaws
 pub mod SetLaws
 pub mod SignatureBack
 pub mod SpanLaws
