@@ -2,6 +2,7 @@ pub mod Booleans
 pub mod Counting
 pub mod Decoding
 pub mod Heads
+pub mod KnownFacts
 pub mod LawfulFacts
 pub mod Least
 pub mod ListFacts
@@ -9,6 +10,7 @@ pub mod Members
 pub mod Narrow
 pub mod Ordering
 pub mod PartFacts
+pub mod PartLaws
 pub mod SetLaws
 pub mod Rows
 pub mod SignatureBack
@@ -18,3 +20,6 @@ pub mod Tests
 pub mod Values
 pub mod Laws
 pub mod Cases
+pub mod SpanLaws
+pub mod WalkLaws
+pub mod WalkSteps

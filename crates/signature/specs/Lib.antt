@@ -11,3 +11,4 @@ pub mod Laws
 pub mod Cases
 pub mod Set
 pub mod Decoding
+pub mod Walk

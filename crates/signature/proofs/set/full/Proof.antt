@@ -1,5 +1,4 @@
 -- `set::full` meets its contract.
-use Prim.Native.Nat.{_^_, _*_, _%_, _-_}
 use native.Mathlib.Omega.{arith}
 use lib.Pow.{pow-pos}
 use borrow.Author.Needs.{needs}
