@@ -117,11 +117,11 @@ module _ (t : List ℕ) (g : Known t) where
   none-due is-not k h = true≢false h
   none-due is-other k h = refl
 
-pub stands-yes : (t : List ℕ) (c k n r : ℕ) → n ≡ constructors-of t → c < n → r ≡ kind-of t c → eqb r k ≡ may-begin t (is-head c) k
-stands-yes t c k n r e l q = rw (ltb-yes c (constructors-of t) (omega (arith, e)), q)
+pub begins-yes : (t : List ℕ) (c k n r : ℕ) → n ≡ constructors-of t → c < n → r ≡ kind-of t c → eqb r k ≡ may-begin t (is-head c) k
+begins-yes t c k n r e l q = rw (ltb-yes c (constructors-of t) (omega (arith, e)), q)
 
-pub stands-no : (t : List ℕ) (c k n : ℕ) → n ≡ constructors-of t → n ≤ c → false ≡ may-begin t (is-head c) k
-stands-no t c k n e l = rw (ltb-no c (constructors-of t) (omega (arith, e)))
+pub begins-no : (t : List ℕ) (c k n : ℕ) → n ≡ constructors-of t → n ≤ c → false ≡ may-begin t (is-head c) k
+begins-no t c k n e l = rw (ltb-no c (constructors-of t) (omega (arith, e)))
 
 -- what the call on a part, or on the whole, gave: at any depth that is enough
 abbrev pub Gave : List ℕ → ℕ → List ℕ → End → Type 0

@@ -114,7 +114,7 @@ fn goes_with(joint: Joint, j: u16, set: u64, m: u64) -> bool
 }
 
 // The pattern that begins `p`, at a side.
-pub fn linear_at(t: &[u16], p: &[u16], plus: bool) -> Part
+fn linear_at(t: &[u16], p: &[u16], plus: bool) -> Part
     requires { ⌜ Opens (now t) (now p) ⌝ }
     ensures { λ r. ⌜ ((g : Opens (now (t .entry)) (now (p .entry))) → Judged (side-of plus) (g .pattern) r) ⌝ }
 {

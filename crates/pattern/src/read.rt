@@ -24,7 +24,8 @@ pub enum End {
     Bad,
 }
 
-fn stands(t: &[u16], w: Word, k: u16) -> bool
+// Whether a word can begin a pattern of kind `k`.
+fn may_begin(t: &[u16], w: Word, k: u16) -> bool
     requires { ⌜ (length (now t) ≡ decoded-length) × head-small (form-of w) ⌝ }
     ensures { λ r. ⌜ r ≡ may-begin (now (t .entry)) (form-of w) k ⌝ }
 {
@@ -63,7 +64,7 @@ fn part_kind(t: &[u16], w: Word, k: u16, j: usize) -> u16
 }
 
 // The end of the pattern of kind `k` that begins `p`.
-pub fn read_one(t: &[u16], p: &[u16], k: u16) -> End
+fn read_one(t: &[u16], p: &[u16], k: u16) -> End
     requires { ⌜ Known (now t) ⌝ }
     ensures { λ r. ⌜ ((g : Known (now (t .entry))) (d : ℕ) → length (now (p .entry)) ≤ d → r ≡ end-of (now (p .entry)) (read-one (g .sig) d k (now (p .entry)))) ⌝ }
 {
@@ -71,7 +72,7 @@ pub fn read_one(t: &[u16], p: &[u16], k: u16) -> End
         return End::Bad;
     }
     let w = classify(p[0]);
-    if !stands(t, w, k) {
+    if !may_begin(t, w, k) {
         return End::Bad;
     }
     let n = parts(t, w) as usize;

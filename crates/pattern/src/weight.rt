@@ -79,7 +79,7 @@ fn minus_head(w: Word) -> Head
 }
 
 // The plus side of the pattern that begins `p`.
-pub fn weigh_plus(t: &[u16], p: &[u16]) -> Part
+fn weigh_plus(t: &[u16], p: &[u16]) -> Part
     requires { ⌜ Opens (now t) (now p) ⌝ }
     ensures { λ r. ⌜ ((g : Opens (now (t .entry)) (now (p .entry))) → r ≡ part-weighed plus (g .pattern)) ⌝ }
 {
@@ -109,7 +109,7 @@ pub fn weigh_plus(t: &[u16], p: &[u16]) -> Part
 }
 
 // The minus side.
-pub fn weigh_minus(t: &[u16], p: &[u16]) -> Part
+fn weigh_minus(t: &[u16], p: &[u16]) -> Part
     requires { ⌜ Opens (now t) (now p) ⌝ }
     ensures { λ r. ⌜ ((g : Opens (now (t .entry)) (now (p .entry))) → r ≡ part-weighed minus (g .pattern)) ⌝ }
 {
