@@ -4,6 +4,7 @@ pub mod Decoding
 pub mod Heads
 pub mod LawfulFacts
 pub mod Least
+pub mod LeastValue
 pub mod ListFacts
 pub mod Members
 pub mod Narrow
