@@ -5,6 +5,7 @@ pub mod Heads
 pub mod KnownFacts
 pub mod LawfulFacts
 pub mod Least
+pub mod LeastValue
 pub mod ListFacts
 pub mod Members
 pub mod Narrow
