@@ -9,3 +9,4 @@ pub mod Part
 pub mod Decoded
 pub mod Set
 pub mod Walk
+pub mod Decoding
