@@ -12,15 +12,15 @@ pub mod Narrow
 pub mod Ordering
 pub mod PartFacts
 pub mod PartLaws
-pub mod SetLaws
 pub mod Rows
+pub mod SetLaws
 pub mod SignatureBack
 pub mod Sizes
+pub mod SpanLaws
 pub mod Tables
 pub mod Tests
 pub mod Values
 pub mod Laws
 pub mod Cases
-pub mod SpanLaws
 pub mod WalkLaws
 pub mod WalkSteps
