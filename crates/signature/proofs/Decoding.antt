@@ -115,76 +115,107 @@ at-within xs i a e = go (decLe (length xs) i)
     go (yes l) = none≢some (sym (at-out xs i l) ∙ e)
     go (no l) = omega arith
 
--- the rows have been read
-module _ (w : List ℕ) (n : ℕ) (u : List ℕ) (some-word : 0 < length w) (count : n ≡ getD w 0 0) (one : ¬ (n ≡ 0)) (most : n ≤ constructor-limit) (b : Bool) (h : RowsRead (drop 1 w) n u b) (is : b ≡ true) where
+-- the rows of n constructors have been read into u
+pub record Begun (w : List ℕ) (n : ℕ) (u : List ℕ) : Type 0 where
+  pub some-word : 0 < length w
+  pub count : n ≡ getD w 0 0
+  pub one : ¬ (n ≡ 0)
+  pub most : n ≤ constructor-limit
+  pub taken : read-constructors n (drop 1 w) ≡ some (rows u 0 n)
+  pub few-arguments : Arities u n
+
+module _ {w : List ℕ} {n : ℕ} {u : List ℕ} (b : Begun w n u) where
   signed : read-signature w ≡ (require (lawful (rows u 0 n)) >>= λ x. some (rows u 0 n))
-  signed = read-is w (some (rows u 0 n)) some-word (ap (λ x. read-constructors x (drop 1 w)) (sym count) ∙ h .taken is)
+  signed = read-is w (some (rows u 0 n)) (b .some-word) (ap (λ x. read-constructors x (drop 1 w)) (sym (b .count)) ∙ b .taken)
+
+  unlawful : (x : List ℕ) → lawful (rows u 0 n) ≡ false → Answer w false x
+  unlawful x e = refused w x (signed ∙ rw e)
+
+  pub unordered : (v x : List ℕ) (m : ℕ) → InOrder u n v m → m ≡ 0 → Answer w false x
+  unordered v x m o e = unlawful x (not-ordered (rows u 0 n) (sym e ∙ o .counted))
+
+  pub arities : (v : List ℕ) (m : ℕ) → InOrder u n v m → Arities v n
+  arities v m o c l = omega (arith, b .most, o .rows-same (stride * c + 1) (omega (arith, b .most)), b .few-arguments c l)
+
+-- their kinds are in order, m of them
+pub record Ranked (w : List ℕ) (n : ℕ) (u v : List ℕ) (m : ℕ) : Type 0 where
+  pub begun : Begun w n u
+  pub order : InOrder u n v m
+  pub some-kind : ¬ (m ≡ 0)
+
+module _ {w : List ℕ} {n : ℕ} {u v : List ℕ} {m : ℕ} (k : Ranked w n u v m) where
+  most : n ≤ constructor-limit
+  most = k .begun .most
 
   long : length (rows u 0 n) ≡ n
   long = counted-length (λ d. row u d) 0 n
 
-  unlawful : (v : List ℕ) → lawful (rows u 0 n) ≡ false → Answer w false v
-  unlawful v e = refused w v (signed ∙ rw e)
+  same : rows v 0 n ≡ rows u 0 n
+  same = rows-same u v kinds-at n (k .order .rows-same) (omega (arith, most)) (k .begun .few-arguments)
 
-  -- the kinds have been counted
-  module _ (v : List ℕ) (m : ℕ) (o : InOrder u n v m) where
-    pub unordered : (x : List ℕ) → m ≡ 0 → Answer w false x
-    unordered x e = unlawful x (not-ordered (rows u 0 n) (sym e ∙ o .counted))
+  kind-there : 0 < m
+  kind-there = let z : ¬ (m ≡ 0) = k .some-kind in omega arith
 
-    pub arities : Arities v n
-    arities c l = omega (arith, o .rows-same (stride * c + 1) (omega arith), h .arities is c l)
+  known : count-kinds (rows u 0 n) ≡ some m
+  known = kinds-known (count-kinds (rows u 0 n)) m (k .order .counted) kind-there
 
-    same : rows v 0 n ≡ rows u 0 n
-    same = rows-same u v kinds-at n (o .rows-same) (omega arith) (h .arities is)
+  tested : lawful (rows u 0 n) ≡ (Few (rows u 0 n) m && There (rows u 0 n) m && Small (rows u 0 n) m)
+  tested = let z : ¬ (n ≡ 0) = k .begun .one in lawful-is (rows u 0 n) m known (omega (arith, long)) (omega (arith, long, most)) (k .order .few)
 
-    module _ (some-kind : ¬ (m ≡ 0)) where
-      known : count-kinds (rows u 0 n) ≡ some m
-      known = kinds-known (count-kinds (rows u 0 n)) m (o .counted) (omega arith)
+  few-is : (f : Bool) → f ≡ all (λ i. leb (count-of v i) heads-limit) (count-up 0 m) → Few (rows u 0 n) m ≡ f
+  few-is f e = sym (e ∙ all-same (λ i. leb (count-of v i) heads-limit) (λ i. leb (length (heads (rows u 0 n) i)) heads-limit) 0 m (λ j l z. ap (λ y. leb y heads-limit) (k .order .noted kind-there j (omega arith) .1)))
 
-      tested : lawful (rows u 0 n) ≡ (Few (rows u 0 n) m && There (rows u 0 n) m && Small (rows u 0 n) m)
-      tested = lawful-is (rows u 0 n) m known (omega (arith, long)) (omega (arith, long)) (o .few)
+  pub many-heads : (x : List ℕ) (f : Bool) → f ≡ all (λ i. leb (count-of v i) heads-limit) (count-up 0 m) → f ≡ false → Answer w false x
+  many-heads x f e z = unlawful (k .begun) x (tested ∙ rw (few-is f e ∙ z))
 
-      few-is : (f : Bool) → f ≡ all (λ k. leb (count-of v k) heads-limit) (count-up 0 m) → Few (rows u 0 n) m ≡ f
-      few-is f e = sym (e ∙ all-same (λ k. leb (count-of v k) heads-limit) (λ k. leb (length (heads (rows u 0 n) k)) heads-limit) 0 m (λ j l z. ap (λ y. leb y heads-limit) (o .noted (omega arith) j (omega arith) .1)))
+  there-is : (g : Bool) → g ≡ There (rows v 0 n) m → There (rows u 0 n) m ≡ g
+  there-is g e = sym (e ∙ ap (λ z. There z m) same)
 
-      pub many-heads : (x : List ℕ) (f : Bool) → f ≡ all (λ k. leb (count-of v k) heads-limit) (count-up 0 m) → f ≡ false → Answer w false x
-      many-heads x f e z = unlawful x (tested ∙ rw (few-is f e ∙ z))
+  pub no-kind : (x : List ℕ) (g : Bool) → g ≡ There (rows v 0 n) m → g ≡ false → Answer w false x
+  no-kind x g e z = unlawful (k .begun) x (tested ∙ and-none (Few (rows u 0 n) m) (There (rows u 0 n) m) (Small (rows u 0 n) m) (there-is g e ∙ z))
 
-      there-is : (g : Bool) → g ≡ There (rows v 0 n) m → There (rows u 0 n) m ≡ g
-      there-is g e = sym (e ∙ ap (λ z. There z m) same)
+  pub fit : (g : Bool) → g ≡ There (rows v 0 n) m → g ≡ true → Fit v n
+  fit g e z = record { long = k .order .long; few = most; each = λ c l. record { kind = omega (arith, most, k .order .rows-same (stride * c) (omega (arith, most)), k .order .each kind-there c l, k .order .few); arity = arities (k .begun) v m (k .order) c l; arguments = λ j i. omega (arith, k .order .few, argument c l j i) } }
+    where
+      argument : (c : ℕ) → c < n → (j : ℕ) → j < arity-of v c → argument-of v c j < m
+      argument c l j i =
+          let p : all (λ i. ltb i m) (row v c .args) ≡ true = test-at (λ d. all (λ i. ltb i m) (d .args)) (rows v 0 n) c (row v c) (sym e ∙ z) (at-count (λ d. row v d) 0 n c l ∙ ap (λ i. some (row v i)) (zero-add c)) in
+          le-of (suc (argument-of v c j)) m (test-at (λ i. ltb i m) (row v c .args) j (argument-of v c j) p (at-count (λ i. getD v i 0) (stride * c + 2) (arity-of v c) j i))
 
-      pub no-kind : (x : List ℕ) (g : Bool) → g ≡ There (rows v 0 n) m → g ≡ false → Answer w false x
-      no-kind x g e z = unlawful x (tested ∙ and-none (Few (rows u 0 n) m) (There (rows u 0 n) m) (Small (rows u 0 n) m) (there-is g e ∙ z))
+  -- the table is whole
+  module _ (x : List ℕ) (f g r : Bool) (ef : f ≡ all (λ i. leb (count-of v i) heads-limit) (count-up 0 m)) (zf : f ≡ true) (eg : g ≡ There (rows v 0 n) m) (zg : g ≡ true) (h : KindsNoted v n m x r) where
+    exist : Exist m (rows u 0 n)
+    exist = there-is g eg ∙ zg
 
-      pub fit : (g : Bool) → g ≡ There (rows v 0 n) m → g ≡ true → Fit v n
-      fit g e z = record { long = o .long; few = most; each = λ c l. record { kind = omega (arith, o .rows-same (stride * c) (omega arith), o .each (omega arith) c l, o .few); arity = arities c l; arguments = λ j k. omega (arith, o .few, argument c l j k) } }
-        where
-          argument : (c : ℕ) → c < n → (j : ℕ) → j < arity-of v c → argument-of v c j < m
-          argument c l j k =
-              let p : all (λ i. ltb i m) (row v c .args) ≡ true = test-at (λ d. all (λ i. ltb i m) (d .args)) (rows v 0 n) c (row v c) (sym e ∙ z) (at-count (λ d. row v d) 0 n c l ∙ ap (λ i. some (row v i)) (zero-add c)) in
-              le-of (suc (argument-of v c j)) m (test-at (λ i. ltb i m) (row v c .args) j (argument-of v c j) p (at-count (λ i. getD v i 0) (stride * c + 2) (arity-of v c) j k))
+    answer : r ≡ lawful (rows u 0 n)
+    answer = h .small ∙ ap (λ z. all (λ i. leb (getD (sizes-after small-size z) i 0) small-size) (count-up 0 m)) same ∙ sym (tested ∙ rw (few-is f ef ∙ zf, exist) (small-same (rows u 0 n) m exist (k .order .few)))
 
-      -- the table is whole
-      module _ (f g : Bool) (ef : f ≡ all (λ k. leb (count-of v k) heads-limit) (count-up 0 m)) (zf : f ≡ true) (eg : g ≡ There (rows v 0 n) m) (zg : g ≡ true) (x : List ℕ) (r : Bool) (k : KindsNoted v n m x r) where
-        exist : Exist m (rows u 0 n)
-        exist = there-is g eg ∙ zg
+    kept : SameBelow kinds-at u x
+    kept i l = h .rows-same i l ∙ k .order .rows-same i l
 
-        answer : r ≡ lawful (rows u 0 n)
-        answer = k .small ∙ ap (λ z. all (λ i. leb (getD (sizes-after small-size z) i 0) small-size) (count-up 0 m)) same ∙ sym (tested ∙ rw (few-is f ef ∙ zf, exist) (small-same (rows u 0 n) m exist (o .few)))
+    row-of : (c : ℕ) (d : Constructor) → at (rows u 0 n) c ≡ some d → row x c ≡ d
+    row-of c d e =
+        let l : c < n = omega (arith, at-within (rows u 0 n) c d e, long) in
+        row-same u x kinds-at c kept (omega (arith, most)) (k .begun .few-arguments c l) ∙ ap (λ z. row u z) (sym (zero-add c)) ∙ at-count-is (λ z. row u z) 0 n c d e
 
-        kept : SameBelow kinds-at u x
-        kept i l = k .rows-same i l ∙ o .rows-same i l
+    table : Decoded (rows u 0 n) x
+    table = record {
+      n = m;
+      kinds-are = known;
+      long = h .long;
+      kind-count = h .kind-count;
+      constructor-count = h .constructor-count ∙ sym long;
+      kind = λ c d e. ap (λ z. z .kind) (row-of c d e);
+      arity = λ c d e. sym (counted-length (λ z. getD x z 0) (stride * c + 2) (arity-of x c)) ∙ ap (λ z. length (z .args)) (row-of c d e);
+      argument = λ c j i d e a. at-count-is (λ z. getD x z 0) (stride * c + 2) (arity-of x c) j i (ap (λ z. at (z .args) j) (row-of c d e) ∙ a);
+      first-head = λ i l. h .heads-same i l .0 ∙ k .order .noted kind-there i l .0;
+      head-count = λ i l. h .heads-same i l .1 ∙ k .order .noted kind-there i l .1;
+      lowest-least = λ i l. h .lowest-heads i l ∙ ap (λ z. lowest z (sizes-after small-size z) i) same ∙ head-same (rows u 0 n) m exist (k .order .few) i l;
+      smallest = λ i l. h .least-sizes i l ∙ ap (λ z. getD (sizes-after small-size z) i 0) same ∙ size-same (rows u 0 n) m exist (k .order .few) i l;
+    }
 
-        row-of : (c : ℕ) (d : Constructor) → at (rows u 0 n) c ≡ some d → row x c ≡ d
-        row-of c d e =
-            let l : c < n = omega (arith, at-within (rows u 0 n) c d e, long) in
-            row-same u x kinds-at c kept (omega arith) (h .arities is c l) ∙ ap (λ z. row u z) (sym (zero-add c)) ∙ at-count-is (λ z. row u z) 0 n c d e
-
-        table : Decoded (rows u 0 n) x
-        table = record { n = m; kinds-are = known; long = k .long; kind-count = k .kind-count; constructor-count = k .constructor-count ∙ sym long; kind = λ c d e. ap (λ z. z .kind) (row-of c d e); arity = λ c d e. sym (counted-length (λ z. getD x z 0) (stride * c + 2) (arity-of x c)) ∙ ap (λ z. length (z .args)) (row-of c d e); argument = λ c j i d e a. at-count-is (λ z. getD x z 0) (stride * c + 2) (arity-of x c) j i (ap (λ z. at (z .args) j) (row-of c d e) ∙ a); first-head = λ i l. k .heads-same i l .0 ∙ o .noted (omega arith) i l .0; head-count = λ i l. k .heads-same i l .1 ∙ o .noted (omega arith) i l .1; lowest-least = λ i l. k .lowest-heads i l ∙ ap (λ z. lowest z (sizes-after small-size z) i) same ∙ head-same (rows u 0 n) m exist (o .few) i l; smallest = λ i l. k .least-sizes i l ∙ ap (λ z. getD (sizes-after small-size z) i 0) same ∙ size-same (rows u 0 n) m exist (o .few) i l }
-
-        pub decoded : Answer w r x
-        decoded = (answer ∙ sym (ap is-some signed ∙ some-when (lawful (rows u 0 n)) (rows u 0 n)), λ sig e. subst (λ z. Decoded z x) (same-sig sig e) table)
-          where
-            same-sig : (sig : Signature) → read-signature w ≡ some sig → rows u 0 n ≡ sig
-            same-sig sig e = let (y, e₁, e₂) = bind-some (require (lawful (rows u 0 n))) (λ z. some (rows u 0 n)) sig (sym signed ∙ e) in some-inj (rows u 0 n) sig e₂
+    pub decoded : Answer w r x
+    decoded = (answer ∙ sym (ap is-some (signed (k .begun)) ∙ some-when (lawful (rows u 0 n)) (rows u 0 n)), λ sig e. subst (λ z. Decoded z x) (same-sig sig e) table)
+      where
+        same-sig : (sig : Signature) → read-signature w ≡ some sig → rows u 0 n ≡ sig
+        same-sig sig e = let (y, e₁, e₂) = bind-some (require (lawful (rows u 0 n))) (λ z. some (rows u 0 n)) sig (sym (signed (k .begun)) ∙ e) in some-inj (rows u 0 n) sig e₂
