@@ -1,11 +1,11 @@
 // Signatures and bookings, good and bad, through decode, lawful, part and part_number: a line for each case. The line
 // has the case, whether the signature is lawful, whether the booking is, the number of the refusal, and the part: its
 // length and its first words. What each line must be stands beside its case, with the rule of document 01.
+use booking::part;
+use booking::walk;
+use decoding::decode;
 use libc::STDOUT_FILENO;
-use signature::booking;
-use signature::decode;
 use signature::decoded;
-use signature::part;
 ghost use Prim.Native.Nat.{_+_, _*_, _≤_, _<_};
 ghost use lib.ListN.{length};
 
@@ -57,7 +57,7 @@ fn checked(ss: &[u16], b: &[u16]) {
         return;
     }
     yes(true);
-    yes(booking::lawful(&t, b));
+    yes(walk::lawful(&t, b));
 }
 
 fn case(n: usize, ss: &[u16], b: &[u16], place: usize) {

@@ -1,6 +1,5 @@
 pub mod Booleans
 pub mod Counting
-pub mod Decoding
 pub mod Heads
 pub mod KnownFacts
 pub mod LawfulFacts
@@ -8,19 +7,10 @@ pub mod Least
 pub mod LeastValue
 pub mod ListFacts
 pub mod Members
-pub mod Narrow
-pub mod Ordering
 pub mod PartFacts
-pub mod PartLaws
-pub mod Rows
 pub mod SetLaws
 pub mod SignatureBack
-pub mod Sizes
-pub mod SpanLaws
-pub mod Tables
 pub mod Tests
 pub mod Values
 pub mod Laws
 pub mod Cases
-pub mod WalkLaws
-pub mod WalkSteps

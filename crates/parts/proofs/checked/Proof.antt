@@ -2,7 +2,7 @@
 use mathlib.Core.Path.{sym, _∙_}
 use borrow.Author.Needs.{needs}
 use borrow.Author.Tests.{not-false}
-use Rattle.signature.proofs.PartLaws.{decoded-of}
+use Rattle.booking.proofs.PartLaws.{decoded-of}
 use Rattle.parts.proofs.checked.Statement.{statement}
 use Rattle.parts.proofs.checked.Tie as tie
 
