@@ -1,0 +1,4 @@
+// Patterns against bookings.
+
+pub mod span;
+pub mod takes;
