@@ -1,1 +1,3 @@
 pub mod SpanLaws
+pub mod GivenSteps
+pub mod FitSteps

@@ -1,4 +1,3 @@
 // Patterns against bookings.
-
 pub mod span;
 pub mod takes;
