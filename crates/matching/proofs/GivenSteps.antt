@@ -9,7 +9,7 @@ use lib.ListN.{length, getD, drop, length-append}
 use lib.Seq.{drop-append-seam}
 use Rattle.signature.specs.Decoded.{Known, Starts, arity-of}
 use Rattle.signature.specs.Lawful.{OfKind, OfKinds, of-kind, of-kinds-nil, of-kinds-cons}
-use Rattle.signature.specs.Limits.{constructor-limit}
+use Rattle.signature.specs.Limits.{constructor-limit, booking-limit}
 use Rattle.signature.specs.Signature.{Signature, arguments-at}
 use Rattle.signature.specs.Value.{Value, Values, con, vnil, vcons, code, codes, size}
 use Rattle.signature.proofs.Heads.{constructor-of, same-args}
@@ -70,6 +70,9 @@ given-whole {t} {ws} {bs} g =
       value-words = sym (b .is-code) ∙ sym (append-nil (code (g .value)));
     }
 
+pub booking-short : {t ws bs : List ℕ} → Asked t ws bs → 0 + length bs ≤ booking-limit
+booking-short {t} {ws} {bs} g = let b = booking-lawful (g .known .sig) bs (g .value) (g .booked) in omega (arith, b .at-most)
+
 -- a pattern by its first word
 abbrev View : Form → Pattern → Type 0
 View (is-head c) p = (ps : Patterns) × (p ≡ head c ps)
@@ -129,36 +132,42 @@ module _ {t ws bs : List ℕ} (g : Given t ws bs) where
 
   pub not-of : form (getD ws 0 0) ≡ is-not → (h : Given t (part ws 1) bs) × ((l : ℕ) → decide (g .pattern) (g .value) l ≡ swap (decide (h .pattern) (h .value) l))
   not-of e =
-      let (q, i) = seen g is-not e in
-      (record {
-        known = g .known;
-        kind = g .kind;
-        pattern = q;
-        value = g .value;
-        well = not-well (named-well g (neg q) i);
-        kinded = g .kinded;
-        pattern-rest = g .pattern-rest;
-        value-rest = g .value-rest;
-        pattern-words = behind ws (260 ∷ []) (pattern-code q ++ g .pattern-rest) 1 (named-words g (neg q) i) refl;
-        value-words = g .value-words;
-      }, λ l. ap (λ (x : Pattern). decide x (g .value) l) i)
+      let (q, i) = seen g is-not e in (
+        record {
+          known = g .known;
+          kind = g .kind;
+          pattern = q;
+          value = g .value;
+          well = not-well (named-well g (neg q) i);
+          kinded = g .kinded;
+          pattern-rest = g .pattern-rest;
+          value-rest = g .value-rest;
+          pattern-words = behind ws (260 ∷ []) (pattern-code q ++ g .pattern-rest) 1 (named-words g (neg q) i) refl;
+          value-words = g .value-words;
+        },
+        λ l. ap (λ (x : Pattern). decide x (g .value) l) i,
+      )
 
   two-of : (w : ℕ) (q r : Pattern) → ws ≡ w ∷ ((pattern-code q ++ pattern-code r) ++ g .pattern-rest) → WellFormed (g .known .sig) (g .kind) q × WellFormed (g .known .sig) (g .kind) r → (h : GivenTwo t (part ws 1) bs) × (h .first ≡ q) × (h .second ≡ r) × (h .value ≡ g .value)
-  two-of w q r e s =
-      (record {
-        known = g .known;
-        kind = g .kind;
-        first = q;
-        second = r;
-        value = g .value;
-        well-first = s .0;
-        well-second = s .1;
-        kinded = g .kinded;
-        pattern-rest = g .pattern-rest;
-        value-rest = g .value-rest;
-        pattern-words = behind ws (w ∷ []) ((pattern-code q ++ pattern-code r) ++ g .pattern-rest) 1 e refl ∙ append-assoc (pattern-code q) (pattern-code r) (g .pattern-rest);
-        value-words = g .value-words;
-      }, refl, refl, refl)
+  two-of w q r e s = (
+    record {
+      known = g .known;
+      kind = g .kind;
+      first = q;
+      second = r;
+      value = g .value;
+      well-first = s .0;
+      well-second = s .1;
+      kinded = g .kinded;
+      pattern-rest = g .pattern-rest;
+      value-rest = g .value-rest;
+      pattern-words = behind ws (w ∷ []) ((pattern-code q ++ pattern-code r) ++ g .pattern-rest) 1 e refl ∙ append-assoc (pattern-code q) (pattern-code r) (g .pattern-rest);
+      value-words = g .value-words;
+    },
+    refl,
+    refl,
+    refl,
+  )
 
   pub and-of : form (getD ws 0 0) ≡ is-and → (h : GivenTwo t (part ws 1) bs) × ((l : ℕ) → decide (g .pattern) (g .value) l ≡ join true (decide (h .first) (h .value) l) (decide (h .second) (h .value) l))
   unfolding two-of
@@ -204,20 +213,22 @@ module _ {t ws bs : List ℕ} (g : Given t ws bs) (x : ℕ) (e : form (getD ws 0
       let (ps, i) = seen g (is-head x) e in
       let (ks, q, s) = head-well (named-well g (head x ps) i) in
       let (vs, j, w, u) = same-con (g .known .sig) (g .kind) x ks (g .value) (g .value-rest) bs q (g .kinded) (g .value-words) h in
-      let (d, e₁, e₂, e₃) = constructor-of (g .known .sig) (g .kind) x ks q in
-      (record {
-        known = g .known;
-        kinds = ks;
-        patterns = ps;
-        values = vs;
-        well = s;
-        kinded = u;
-        pattern-rest = g .pattern-rest;
-        value-rest = g .value-rest;
-        pattern-words = behind ws (x ∷ []) (patterns-code ps ++ g .pattern-rest) 1 (named-words g (head x ps) i) refl;
-        value-words = w;
-        many = ap length (sym e₃) ∙ sym (g .known .decoded .arity x d e₁) ∙ sym a;
-      }, λ l. ap₂ (λ (y : Pattern) (z : Value). decide y z l) i j ∙ decide-same x ps vs l)
+      let (d, e₁, e₂, e₃) = constructor-of (g .known .sig) (g .kind) x ks q in (
+        record {
+          known = g .known;
+          kinds = ks;
+          patterns = ps;
+          values = vs;
+          well = s;
+          kinded = u;
+          pattern-rest = g .pattern-rest;
+          value-rest = g .value-rest;
+          pattern-words = behind ws (x ∷ []) (patterns-code ps ++ g .pattern-rest) 1 (named-words g (head x ps) i) refl;
+          value-words = w;
+          many = ap length (sym e₃) ∙ sym (g .known .decoded .arity x d e₁) ∙ sym a;
+        },
+        λ l. ap₂ (λ (y : Pattern) (z : Value). decide y z l) i j ∙ decide-same x ps vs l,
+      )
 
 -- arguments: none, or the first and the others
 pub none-left : {t ws bs : List ℕ} {n : ℕ} (g : GivenAll t ws bs n) (l : ℕ) → n ≡ 0 → decides (g .patterns) (g .values) l ≡ fit []
