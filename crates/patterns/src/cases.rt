@@ -1,5 +1,7 @@
 // The patterns. Constructor 0 has arguments of kinds 1 and 2; 1, 2 and 3 are of kind 1, 4 and 5 of kind 2. The bookings are 0 1 5, 0 2 5 and 0 3 4.
 use crate::show::line;
+ghost use Prim.Native.Nat.{_≤_};
+ghost use lib.ListN.{length};
 ghost use Rattle.signature.specs.Decoded.{Known};
 
 pub fn run(t: &[u16])
@@ -40,86 +42,31 @@ fn slips(t: &[u16])
     line(t, &[276u16]); // variable 15, the last
 }
 
-// 9: "And" of two "or"s of 8 and 8 wildcards weighs 64, of 5 and 13 weighs 65.
+// Among wildcards: an "or" of them from one place on, the last of them at another.
+fn ors(p: &mut [u16], from: usize, last: usize)
+    requires { ⌜ last ≤ length (now p) ⌝ }
+{
+    let mut i = from;
+    while i < last {
+        p[i] = 257;
+        i += 2;
+    }
+}
+
+// 9: "And" of two "or"s.
 fn weights(t: &[u16])
     requires { ⌜ Known (now t) ⌝ }
 {
-    line(
-        t,
-        &[
-            256u16,
-            257,
-            258,
-            257,
-            258,
-            257,
-            258,
-            257,
-            258,
-            257,
-            258,
-            257,
-            258,
-            257,
-            258,
-            258,
-            257,
-            258,
-            257,
-            258,
-            257,
-            258,
-            257,
-            258,
-            257,
-            258,
-            257,
-            258,
-            257,
-            258,
-            258,
-        ],
-    );
-    line(
-        t,
-        &[
-            256u16,
-            257,
-            258,
-            257,
-            258,
-            257,
-            258,
-            257,
-            258,
-            258,
-            257,
-            258,
-            257,
-            258,
-            257,
-            258,
-            257,
-            258,
-            257,
-            258,
-            257,
-            258,
-            257,
-            258,
-            257,
-            258,
-            257,
-            258,
-            257,
-            258,
-            257,
-            258,
-            257,
-            258,
-            258,
-        ],
-    );
+    let mut p = [258u16; 31];
+    p[0] = 256;
+    ors(&mut p, 1, 15);
+    ors(&mut p, 16, 30);
+    line(t, &p); // 8 and 8 wildcards: 64
+    let mut q = [258u16; 35];
+    q[0] = 256;
+    ors(&mut q, 1, 9);
+    ors(&mut q, 10, 34);
+    line(t, &q); // 5 and 13: 65
 }
 
 // 7.
@@ -137,23 +84,14 @@ fn malformed(t: &[u16])
     line(t, &[6u16]); // outside the signature
 }
 
-// A wildcard at each second word and at the last: with 257 at the others, an "or" of wildcards.
-fn ors(p: &mut [u16]) {
-    let mut i = 1;
-    while i < p.len() {
-        p[i - 1] = 257;
-        i += 2;
-    }
-}
-
 // "1 to 64 words": the two lengths nearest to 64 that an "or" of wildcards can have.
 fn lengths(t: &[u16])
     requires { ⌜ Known (now t) ⌝ }
 {
     let mut p = [258u16; 63];
-    ors(&mut p);
+    ors(&mut p, 0, 62);
     line(t, &p); // 32 wildcards
     let mut q = [258u16; 65];
-    ors(&mut q);
+    ors(&mut q, 0, 64);
     line(t, &q); // 33 wildcards: too long
 }

@@ -7,10 +7,10 @@ use Rattle.patterns.proofs.cases.ors.Statement.{statement}
 use Rattle.patterns.proofs.cases.ors.Tie as tie
 
 abbrev Inv-loop : tie.InvT-loop
-Inv-loop p₀ i₀ p i = (length p ≡ length p₀) × (1 ≤ i)
+Inv-loop p₀ from last i₀ p i = length p ≡ length p₀
 
 abbrev μ-loop : tie.MeasureT-loop
-μ-loop p₀ i₀ p i = length p - i
+μ-loop p₀ from last i₀ p i = last - i
 
 pub ors-spec : {M : Type 1} → statement M
 ors-spec =
@@ -18,12 +18,11 @@ ors-spec =
     (tie.spec
     Inv-loop
     μ-loop
-    (λ c. (refl, omega arith))
-    (λ c. omega (arith, c .before .loop .inv .1))
-    (λ c. omega (arith, c .before .loop .inv .1))
-    (λ c. omega (arith, c .before .loop .inv .1))
-    (λ c. omega (arith, c .before .loop .inv .1))
-    (λ c. simp length-set (omega arith))
-    (λ c. (length-set (c .before .loop .p) (c .before .loop .i - 1) 257 ∙ c .before .loop .inv .0, omega arith))
-    (λ c. c .before .loop .inv .0)
+    (λ c. refl)
+    (λ c. omega arith)
+    (λ c. omega arith)
+    (λ c. omega arith)
+    (λ c. omega arith)
+    (λ c. length-set (c .before .loop .p) (c .before .loop .i) 257 ∙ c .before .loop .inv)
+    (λ c. c .before .loop .inv)
     (λ c. tt))
