@@ -11,7 +11,7 @@ use Rattle.pattern.specs.Pattern.{Pattern, Patterns, pattern-code}
 use Rattle.pattern.specs.Read.{is-wild, is-absurd, is-var, form}
 use Rattle.pattern.proofs.Decided.{fit-swap}
 use Rattle.matching.specs.Bound.{join}
-use Rattle.matching.specs.Given.{Given, GivenTwo, GivenAll}
+use Rattle.matching.specs.Given.{Given}
 use Rattle.matching.proofs.GivenSteps.{seen, Uncons}
 
 -- leaves
@@ -66,16 +66,16 @@ pub second-answers : (s r q : Bool) (a b : Out) → r ≡ is-fit a → not (Bool
 second-answers s r q a b e h f = f ∙ second-settles s a b (test (is-fit a) r s false e h)
 
 -- arguments
+one-fails : (a b : Out) → is-fit a ≡ false → false ≡ is-fit (both a b)
+one-fails (fit σ) b e = true≢false e
+one-fails (fail σ) b e = refl
+
+one-passes : (a b : Out) → is-fit a ≡ true → is-fit b ≡ is-fit (both a b)
+one-passes (fit σ) (fit τ) e = refl
+one-passes (fit σ) (fail τ) e = refl
+one-passes (fail σ) b e = true≢false (sym e)
+
 module _ {t ws bs : List ℕ} {n : ℕ} {ps : Patterns} {vs : Values} (u : Uncons t ws bs n ps vs) where
-  one-fails : (a b : Out) → is-fit a ≡ false → false ≡ is-fit (both a b)
-  one-fails (fit σ) b e = true≢false e
-  one-fails (fail σ) b e = refl
-
-  one-passes : (a b : Out) → is-fit a ≡ true → is-fit b ≡ is-fit (both a b)
-  one-passes (fit σ) (fit τ) e = refl
-  one-passes (fit σ) (fail τ) e = refl
-  one-passes (fail σ) b e = true≢false (sym e)
-
   pub all-stop : (r : Bool) (l : ℕ) → r ≡ is-fit (decide (u .one .pattern) (u .one .value) l) → not r ≡ true → false ≡ is-fit (decides ps vs l)
   all-stop r l e h =
       let m = u .more _ _ refl refl in

@@ -3,22 +3,22 @@ use mathlib.Core.Path.{_≡_, refl, sym, ap, ap₂, _∙_, subst}
 use mathlib.Core.Bool.{true, false}
 use mathlib.Core.List.{List, [], _∷_, _++_, append-assoc, append-nil}
 use mathlib.Core.Option.{some}
-use Prim.Native.Nat.{ℕ, suc, _+_, _-_, _≤_, _<_}
+use Prim.Native.Nat.{ℕ, _+_, _-_, _≤_, _<_}
 use native.Mathlib.Omega.{arith}
-use lib.ListN.{length, getD, drop, length-append}
+use lib.ListN.{length, getD, length-append}
 use lib.Seq.{drop-append-seam}
-use Rattle.signature.specs.Decoded.{Known, Starts, arity-of}
+use Rattle.signature.specs.Decoded.{Starts, arity-of}
 use Rattle.signature.specs.Lawful.{OfKind, OfKinds, of-kind, of-kinds-nil, of-kinds-cons}
 use Rattle.signature.specs.Limits.{constructor-limit, booking-limit}
 use Rattle.signature.specs.Signature.{Signature, arguments-at}
-use Rattle.signature.specs.Value.{Value, Values, con, vnil, vcons, code, codes, size}
+use Rattle.signature.specs.Value.{Value, Values, con, code, codes, size}
 use Rattle.signature.proofs.Heads.{constructor-of, same-args}
 use Rattle.signature.proofs.Tests.{eqb-self, eqb-no}
 use Rattle.signature.proofs.Values.{length-code, some-size, booking-lawful}
-use Rattle.pattern.specs.Decide.{Out, fit, fail, swap, both, decide, decides}
+use Rattle.pattern.specs.Decide.{fit, fail, swap, both, decide, decides}
 use Rattle.pattern.specs.Given.{Opens}
 use Rattle.pattern.specs.Limits.{variable-count}
-use Rattle.pattern.specs.Pattern.{Pattern, Patterns, head, and, or, wild, absurd-pat, neg, var, pnil, pcons, pattern-code, patterns-code}
+use Rattle.pattern.specs.Pattern.{Pattern, Patterns, head, and, or, wild, absurd-pat, neg, var, pattern-code, patterns-code}
 use Rattle.pattern.specs.Read.{Form, is-head, is-var, is-and, is-or, is-wild, is-absurd, is-not, is-other, form}
 use Rattle.pattern.specs.WellFormed.{WellFormed, AllWellFormed, well-head, well-and, well-or, well-not, well-var, well-nil, well-cons}
 use Rattle.pattern.proofs.Opened.{shape, shape-is}
@@ -148,40 +148,31 @@ module _ {t ws bs : List ℕ} (g : Given t ws bs) where
         λ l. ap (λ (x : Pattern). decide x (g .value) l) i,
       )
 
-  two-of : (w : ℕ) (q r : Pattern) → ws ≡ w ∷ ((pattern-code q ++ pattern-code r) ++ g .pattern-rest) → WellFormed (g .known .sig) (g .kind) q × WellFormed (g .known .sig) (g .kind) r → (h : GivenTwo t (part ws 1) bs) × (h .first ≡ q) × (h .second ≡ r) × (h .value ≡ g .value)
-  two-of w q r e s = (
-    record {
-      known = g .known;
-      kind = g .kind;
-      first = q;
-      second = r;
-      value = g .value;
-      well-first = s .0;
-      well-second = s .1;
-      kinded = g .kinded;
-      pattern-rest = g .pattern-rest;
-      value-rest = g .value-rest;
-      pattern-words = behind ws (w ∷ []) ((pattern-code q ++ pattern-code r) ++ g .pattern-rest) 1 e refl ∙ append-assoc (pattern-code q) (pattern-code r) (g .pattern-rest);
-      value-words = g .value-words;
-    },
-    refl,
-    refl,
-    refl,
-  )
+  abbrev two-of : (w : ℕ) (q r : Pattern) → ws ≡ w ∷ ((pattern-code q ++ pattern-code r) ++ g .pattern-rest) → WellFormed (g .known .sig) (g .kind) q × WellFormed (g .known .sig) (g .kind) r → GivenTwo t (part ws 1) bs
+  two-of w q r e s = record {
+    known = g .known;
+    kind = g .kind;
+    first = q;
+    second = r;
+    value = g .value;
+    well-first = s .0;
+    well-second = s .1;
+    kinded = g .kinded;
+    pattern-rest = g .pattern-rest;
+    value-rest = g .value-rest;
+    pattern-words = behind ws (w ∷ []) ((pattern-code q ++ pattern-code r) ++ g .pattern-rest) 1 e refl ∙ append-assoc (pattern-code q) (pattern-code r) (g .pattern-rest);
+    value-words = g .value-words;
+  }
 
   pub and-of : form (getD ws 0 0) ≡ is-and → (h : GivenTwo t (part ws 1) bs) × ((l : ℕ) → decide (g .pattern) (g .value) l ≡ join true (decide (h .first) (h .value) l) (decide (h .second) (h .value) l))
-  unfolding two-of
   and-of e =
       let (q, r, i) = seen g is-and e in
-      let h = two-of 256 q r (named-words g (and q r) i) (and-well (named-well g (and q r) i)) in
-      (h .0, λ l. ap (λ (x : Pattern). decide x (g .value) l) i)
+      (two-of 256 q r (named-words g (and q r) i) (and-well (named-well g (and q r) i)), λ l. ap (λ (x : Pattern). decide x (g .value) l) i)
 
   pub or-of : form (getD ws 0 0) ≡ is-or → (h : GivenTwo t (part ws 1) bs) × ((l : ℕ) → decide (g .pattern) (g .value) l ≡ join false (decide (h .first) (h .value) l) (decide (h .second) (h .value) l))
-  unfolding two-of
   or-of e =
       let (q, r, i) = seen g is-or e in
-      let h = two-of 257 q r (named-words g (or q r) i) (or-well (named-well g (or q r) i)) in
-      (h .0, λ l. ap (λ (x : Pattern). decide x (g .value) l) i)
+      (two-of 257 q r (named-words g (or q r) i) (or-well (named-well g (or q r) i)), λ l. ap (λ (x : Pattern). decide x (g .value) l) i)
 
 -- two patterns
 abbrev pub first-of : {t ws bs : List ℕ} → GivenTwo t ws bs → Given t ws bs

@@ -1,15 +1,12 @@
 -- The laws of the matcher's answers hold.
-use mathlib.Core.Path.{_≡_, refl, sym, ap, _∙_, subst}
+use mathlib.Core.Path.{_≡_, refl, sym, _∙_, subst}
 use mathlib.Core.Bool.{Bool, true, false}
 use mathlib.Core.List.{List}
 use Prim.Native.Nat.{ℕ}
-use Rattle.signature.specs.Value.{Value}
-use Rattle.signature.proofs.Tests.{true≢false}
 use Rattle.pattern.specs.Ambiguous.{Ambiguous}
-use Rattle.pattern.specs.Decide.{Out, fit, fail, decide, is-fit}
+use Rattle.pattern.specs.Decide.{Out, fit, fail, decide}
 use Rattle.pattern.specs.Linear.{linear-plus}
 use Rattle.pattern.specs.Match.{Binds, Fits, Fails}
-use Rattle.pattern.specs.Pattern.{Pattern}
 use Rattle.pattern.specs.Places.{PlacesOf, bind-all, unbound}
 use Rattle.pattern.proofs.Decided.{Says, says-fits, says-fails, decide-says, decide-fits, decide-fails, fits-decide, fails-decide}
 use Rattle.pattern.proofs.Exclusive.{exclusive}

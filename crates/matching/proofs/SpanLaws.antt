@@ -9,9 +9,9 @@ use lib.Seq.{drop-drop, getD-drop}
 use Rattle.signature.specs.Decoded.{Known}
 use Rattle.signature.specs.Signature.{Signature}
 use Rattle.pattern.specs.Given.{Opens}
-use Rattle.pattern.specs.Pattern.{Pattern, Patterns, pnil, pcons, pattern-code, patterns-code}
+use Rattle.pattern.specs.Pattern.{Patterns, pnil, pcons, pattern-code, patterns-code}
 use Rattle.pattern.specs.Read.{Form, form}
-use Rattle.pattern.specs.WellFormed.{AllWellFormed, WellFormed, well-nil, well-cons}
+use Rattle.pattern.specs.WellFormed.{AllWellFormed, well-nil, well-cons}
 use Rattle.pattern.specs.Word.{part-count}
 use Rattle.pattern.proofs.Opened.{shape, inner, code-word, code-split, word-form, kind-count, inner-well, inner-count}
 use Rattle.pattern.proofs.PatternBack.{some-pattern-word}

@@ -7,7 +7,7 @@ use pattern::token::classify;
 use signature::decoded::arity_of;
 ghost use mathlib.Core.Path.{_≡_};
 ghost use mathlib.Core.Bool.{true};
-ghost use Prim.Native.Nat.{ℕ, _+_, _≤_};
+ghost use Prim.Native.Nat.{_+_, _≤_};
 ghost use lib.ListN.{length};
 ghost use Rattle.signature.specs.Limits.{booking-limit};
 ghost use Rattle.pattern.specs.Decide.{fit, decide, decides, is-fit};

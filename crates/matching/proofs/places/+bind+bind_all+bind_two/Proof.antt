@@ -1,5 +1,5 @@
 -- The bindings' cycle meets its contracts. The measure is twice the number of pattern words that are left, and one where they are the same as the caller's. Assumes nothing.
-use mathlib.Core.Path.{refl, sym, ap, _∙_}
+use mathlib.Core.Path.{sym, ap, _∙_}
 use Prim.Native.Nat.{ℕ, _+_, _*_, _<_}
 use native.Mathlib.Omega.{arith}
 use lib.ListN.{length, length-take, length-drop, length-set}

@@ -1,6 +1,6 @@
 -- `cases::ors` is safe and ends. Assumes nothing.
 use mathlib.Core.Path.{_≡_, refl, _∙_}
-use Prim.Native.Nat.{_-_, _≤_}
+use Prim.Native.Nat.{_-_}
 use native.Mathlib.Omega.{arith}
 use lib.ListN.{length, length-set}
 use Rattle.patterns.proofs.cases.ors.Statement.{statement}
