@@ -99,7 +99,7 @@ fn bind_all(t: &[u16], p: &[u16], b: &[u16], at: u16, n: u16, out: &mut [u16])
         return;
     }
     let i = span(t, p);
-    let j = signature::booking::span(t, b);
+    let j = booking::walk::span(t, b);
     if all_fit(t, &p[i..], &b[j..], n - 1) {
         bind(t, p, b, at, out);
         bind_all(t, &p[i..], &b[j..], at + j as u16, n - 1, out);

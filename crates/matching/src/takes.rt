@@ -67,6 +67,6 @@ pub fn all_fit(t: &[u16], p: &[u16], b: &[u16], n: u16) -> bool
         return false;
     }
     let i = span(t, p);
-    let j = signature::booking::span(t, b);
+    let j = booking::walk::span(t, b);
     all_fit(t, &p[i..], &b[j..], n - 1)
 }

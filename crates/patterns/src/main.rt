@@ -6,7 +6,7 @@ mod show;
 fn main() {
     let words = [6u16, 0, 2, 1, 2, 1, 0, 1, 0, 1, 0, 2, 0, 2, 0];
     let mut t = [0u16; signature::decoded::DECODED];
-    if !signature::decode::decode(&words, &mut t) {
+    if !decoding::decode::decode(&words, &mut t) {
         return;
     }
     cases::run(&t);

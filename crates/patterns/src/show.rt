@@ -48,7 +48,7 @@ fn answer(t: &[u16], p: &[u16], b: &[u16])
     if !pattern::read::well_formed(t, p) {
         return;
     }
-    if !signature::booking::lawful(t, b) {
+    if !booking::walk::lawful(t, b) {
         return;
     }
     if !takes(t, p, b) {

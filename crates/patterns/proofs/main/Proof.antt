@@ -2,7 +2,7 @@
 use mathlib.Core.Path.{sym}
 use borrow.Author.Needs.{needs}
 use Rattle.signature.specs.Cases.{words-T}
-use Rattle.signature.proofs.PartLaws.{decoded-of}
+use Rattle.booking.proofs.PartLaws.{decoded-of}
 use Rattle.patterns.proofs.Checked.{taken}
 use Rattle.patterns.proofs.main.Statement.{statement}
 use Rattle.patterns.proofs.main.Tie as tie

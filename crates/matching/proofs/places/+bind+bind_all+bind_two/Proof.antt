@@ -26,7 +26,7 @@ use Rattle.matching.proofs.span.span.Reads as span-span-reads
 use Rattle.matching.proofs.takes.all_fit.Reads as all-fit-reads
 use Rattle.matching.proofs.takes.fits.Reads as fits-reads
 use Rattle.pattern.proofs.token.classify.Reads as classify-reads
-use Rattle.signature.proofs.booking.span.Reads as booking-span-reads
+use Rattle.booking.proofs.walk.span.Reads as booking-span-reads
 use Rattle.signature.proofs.decoded.arity_of.Reads as arity-of-reads
 use Rattle.matching.proofs.places.+bind+bind_all+bind_two.{statement}
 use Rattle.matching.proofs.places.+bind+bind_all+bind_two.Tie.{close}

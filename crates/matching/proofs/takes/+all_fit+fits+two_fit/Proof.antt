@@ -22,7 +22,7 @@ use Rattle.matching.proofs.takes.two_fit.Kinds as two-fit-kinds
 use Rattle.matching.proofs.takes.+all_fit+fits+two_fit.Lts-two_fit as two-fit-lts
 use Rattle.matching.proofs.span.span.Reads as span-span-reads
 use Rattle.pattern.proofs.token.classify.Reads as classify-reads
-use Rattle.signature.proofs.booking.span.Reads as booking-span-reads
+use Rattle.booking.proofs.walk.span.Reads as booking-span-reads
 use Rattle.signature.proofs.decoded.arity_of.Reads as arity-of-reads
 use Rattle.matching.proofs.takes.+all_fit+fits+two_fit.{statement}
 use Rattle.matching.proofs.takes.+all_fit+fits+two_fit.Tie.{close}
