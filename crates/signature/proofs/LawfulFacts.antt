@@ -70,7 +70,7 @@ rising-kind k m i (c ∷ cs) d e a = go (eqb (c .kind) k) refl i a (λ i′. ris
         let (u, e₁, e₂) = bind-some (require (eqb (c .kind) (suc k))) _ m (rw q at e) in
         g j e₂ a′
 
-kinds-kind : (sig : Signature) (m i : ℕ) (d : Constructor) → count-kinds sig ≡ some m → at sig i ≡ some d → d .kind < m
+pub kinds-kind : (sig : Signature) (m i : ℕ) (d : Constructor) → count-kinds sig ≡ some m → at sig i ≡ some d → d .kind < m
 kinds-kind [] m i d e a = none≢some e
 kinds-kind (c ∷ cs) m i d e a = go i a (bind-some (require (eqb (c .kind) 0)) _ m e)
   where

@@ -1,0 +1,58 @@
+-- The call run, from what was decoded and read on the way; and that it is not refused on a compiled tree.
+use mathlib.Core.Path.{_≡_, refl, sym, ap, _∙_}
+use mathlib.Core.List.{List, [], _∷_, _++_}
+use mathlib.Core.Option.{Option, some, none}
+use mathlib.Core.Bool.{true, false}
+use Prim.Native.Nat.{ℕ}
+use lib.ListN.{length}
+use Rattle.signature.specs.Lists.{is-some}
+use Rattle.signature.specs.Read.{read-signature, read-booking}
+use Rattle.signature.specs.Signature.{Signature}
+use Rattle.signature.specs.Value.{Value, vnil, vcons}
+use Rattle.signature.proofs.Tests.{true≢false, pair-first}
+use Rattle.booking.proofs.PartLaws.{Of}
+use Rattle.tree.specs.Answer.{Answer}
+use Rattle.tree.specs.Leaf.{Treed}
+use Rattle.tree.specs.Limits.{default-plan}
+use Rattle.tree.specs.Run.{run, run-words}
+use Rattle.tree.specs.RunCall.{RunCall, refusal, run-at, run-signature}
+use Rattle.tree.specs.Tree.{Tree}
+use Rattle.tree.specs.Words.{layout}
+use Rattle.tree.proofs.Laws as tree-laws
+use Rattle.run.specs.Laws.{Laws}
+use Rattle.run.specs.Outcome.{answer-of, outcome}
+use Rattle.run.specs.Parts.{Booked}
+use Rattle.run.specs.declared.Ran.{Ran}
+
+there : {A : Type 0} (o : Option A) → true ≡ is-some o → (a : A) × (o ≡ some a)
+there none e = true≢false e
+there (some a) e = (a, refl)
+
+missing : {A : Type 0} (o : Option A) → false ≡ is-some o → o ≡ none
+missing none e = refl
+missing (some a) e = true≢false (sym e)
+
+pub refused-1 : (ss tree bs : List ℕ) (r : Ran) → false ≡ is-some (read-signature ss) → outcome r ≡ refusal 1 → RunCall ss tree bs (r .number) (answer-of r)
+refused-1 ss tree bs r e q = record { result-is = q ∙ rw (missing (read-signature ss) e) }
+
+module _ {ss t : List ℕ} (o : Of ss t) (tree bs : List ℕ) where
+  pub refused-13 : (r : Ran) → false ≡ is-some (read-booking (o .known .sig) bs) → outcome r ≡ refusal 13 → RunCall ss tree bs (r .number) (answer-of r)
+  refused-13 r e q = record { result-is = q ∙ rw (o .read, missing (read-booking (o .known .sig) bs) e) }
+
+  pub booked : true ≡ is-some (read-booking (o .known .sig) bs) → Booked t bs
+  booked e = let (v, r) = there (read-booking (o .known .sig) bs) e in record { known = o .known; value = v; read = r }
+
+  pub walked : (r : Ran) (e : true ≡ is-some (read-booking (o .known .sig) bs)) → ((k : Booked t bs) → outcome r ≡ run-at (run default-plan (length tree) (k .known .sig) tree 0 (vcons (k .value) vnil) 0 [])) → RunCall ss tree bs (r .number) (answer-of r)
+  walked r e f = go (there (read-booking (o .known .sig) bs) e)
+    where
+      go : (v : Value) × (read-booking (o .known .sig) bs ≡ some v) → RunCall ss tree bs (r .number) (answer-of r)
+      go (v, q) = record { result-is = f (record { known = o .known; value = v; read = q }) ∙ rw (o .read, q) }
+
+not-refused : (ss bs behind : List ℕ) (sig : Signature) (v : Value) (t : Tree) → read-signature ss ≡ some sig → read-booking sig bs ≡ some v → Treed sig (0 ∷ []) 0 t → (number : ℕ) (a : Answer) → RunCall ss (layout t 0 ++ behind) bs number a → number ≡ 0
+not-refused ss bs behind sig v t e f h number a c =
+    let (b, q) = tree-laws.laws .never-broken default-plan sig (ss, e) t h behind bs v f in
+    let w : run-signature (read-signature ss) (layout t 0 ++ behind) bs ≡ run-at (run-words default-plan sig (layout t 0 ++ behind) bs) = rw (e, f) in
+    pair-first (c .result-is ∙ w ∙ ap run-at q)
+
+pub laws : Laws
+laws = record { not-refused = not-refused }

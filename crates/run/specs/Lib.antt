@@ -1,0 +1,4 @@
+pub mod Outcome
+pub mod Parts
+pub mod Step
+pub mod Laws

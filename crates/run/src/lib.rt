@@ -1,0 +1,78 @@
+// A run of a tree over a booking, with refusals 1, 13 and 15.
+pub mod leaf;
+pub mod node;
+pub mod promises;
+
+use crate::leaf::TREE_BROKEN;
+use crate::node::Step;
+use booking::part::BOOKING_UNLAWFUL;
+use booking::part::SIGNATURE_UNLAWFUL;
+use booking::walk;
+use booking::walk::BOOKING_LIMIT;
+use decoding::decode;
+use signature::decoded;
+ghost use mathlib.Core.Path.{_≡_};
+ghost use mathlib.Core.List.{[]};
+ghost use lib.ListN.{length};
+ghost use Rattle.signature.specs.Value.{vcons, vnil};
+ghost use Rattle.tree.specs.Limits.{default-plan};
+ghost use Rattle.tree.specs.Run.{run as run-of};
+ghost use Rattle.tree.specs.RunCall.{run-at, RunCall};
+ghost use Rattle.run.specs.Outcome.{answer-of, outcome};
+ghost use Rattle.run.specs.Parts.{Booked};
+
+// The answer of a run: the refusal's number or 0, the rule, its plan, and a place for each variable.
+pub struct Ran {
+    pub number: u16,
+    pub rule: u16,
+    pub plan: u16,
+    pub places: [u16; 16],
+}
+
+// The walk: the tree from its node on, and the booking from its current place on. Each node visited takes a word at least.
+fn walk_tree(table: &[u16], tree: &[u16], book: &[u16]) -> Ran
+    requires { ⌜ Booked (now table) (now book) ⌝ }
+    ensures { λ r. ⌜ ((k : Booked (now (table .entry)) (now (book .entry))) → outcome r ≡ run-at (run-of default-plan (length (now (tree .entry))) (k .known .sig) (now (tree .entry)) 0 (vcons (k .value) vnil) 0 [])) ⌝ }
+{
+    let mut visits = [0u16; BOOKING_LIMIT];
+    let mut n = 0;
+    let mut t = tree;
+    let mut node = 0;
+    let mut b = book;
+    let mut place = 0;
+    loop {
+        let s = node::at_node(table, t, node, b);
+        match s {
+            Step::Broken => {
+                return leaf::refused(TREE_BROKEN);
+            }
+            Step::Default => {
+                return leaf::no_rule();
+            }
+            Step::Hit => {
+                return leaf::hit(t, &visits[..n]);
+            }
+            Step::On { tree: d, book: m } => {
+                visits[n] = place as u16;
+                n += 1;
+                t = &t[d..];
+                node += d;
+                b = &b[m..];
+                place += m;
+            }
+        }
+    }
+}
+
+pub fn run(ss: &[u16], tree: &[u16], b: &[u16]) -> Ran
+    ensures { λ r. ⌜ RunCall (now (ss .entry)) (now (tree .entry)) (now (b .entry)) (r .number) (answer-of r) ⌝ }
+{
+    let mut t = [0u16; decoded::DECODED];
+    if !decode::decode(ss, &mut t) {
+        return leaf::refused(SIGNATURE_UNLAWFUL);
+    }
+    if !walk::lawful(&t, b) {
+        return leaf::refused(BOOKING_UNLAWFUL);
+    }
+    walk_tree(&t, tree, b)
+}
