@@ -18,11 +18,11 @@ use Rattle.signature.proofs.PartFacts.{begins-words, begins-place, part-given, 
 use Rattle.signature.proofs.Tests.{true≢false}
 use Rattle.signature.proofs.Values.{booking-lawful, length-code}
 
-there : {A : Type 0} (o : Option A) → true ≡ is-some o → (a : A) × (o ≡ some a)
+pub there : {A : Type 0} (o : Option A) → true ≡ is-some o → (a : A) × (o ≡ some a)
 there none e = true≢false e
 there (some a) e = (a, refl)
 
-missing : {A : Type 0} (o : Option A) → false ≡ is-some o → o ≡ none
+pub missing : {A : Type 0} (o : Option A) → false ≡ is-some o → o ≡ none
 missing none e = refl
 missing (some a) e = true≢false (sym e)
 

@@ -1,7 +1,7 @@
 -- A hit leaf by its words, and its pairs taken off one by one.
 use mathlib.Core.Path.{_≡_, refl, sym, ap, _∙_}
 use mathlib.Core.List.{List, [], _∷_}
-use mathlib.Core.Option.{Option, none, some}
+use mathlib.Core.Option.{none, some}
 use mathlib.Core.Bool.{_&&_}
 use Prim.Native.Nat.{ℕ, zero, suc, _+_, _-_, _≤_, _<_}
 use native.Mathlib.Numerals.{add-one}
@@ -14,7 +14,6 @@ use Rattle.signature.proofs.ListFacts.{at-getD, at-out}
 use Rattle.signature.proofs.Tests.{leb-yes, leb-no}
 use Rattle.pattern.specs.Limits.{last-variable}
 use Rattle.pattern.specs.Places.{unbound}
-use Rattle.tree.specs.Answer.{Answer}
 use Rattle.tree.specs.Limits.{last-number}
 use Rattle.tree.specs.Run.{bound}
 use Rattle.tree.specs.RunCall.{refusal, run-at}

@@ -1,7 +1,7 @@
 -- The call run, from what was decoded and read on the way; and that it is not refused on a compiled tree.
-use mathlib.Core.Path.{_≡_, refl, sym, ap, _∙_}
+use mathlib.Core.Path.{_≡_, ap, _∙_}
 use mathlib.Core.List.{List, [], _∷_, _++_}
-use mathlib.Core.Option.{Option, some, none}
+use mathlib.Core.Option.{some}
 use mathlib.Core.Bool.{true, false}
 use Prim.Native.Nat.{ℕ}
 use lib.ListN.{length}
@@ -9,8 +9,8 @@ use Rattle.signature.specs.Lists.{is-some}
 use Rattle.signature.specs.Read.{read-signature, read-booking}
 use Rattle.signature.specs.Signature.{Signature}
 use Rattle.signature.specs.Value.{Value, vnil, vcons}
-use Rattle.signature.proofs.Tests.{true≢false, pair-first}
-use Rattle.booking.proofs.PartLaws.{Of}
+use Rattle.signature.proofs.Tests.{pair-first}
+use Rattle.booking.proofs.PartLaws.{Of, there, missing}
 use Rattle.tree.specs.Answer.{Answer}
 use Rattle.tree.specs.Leaf.{Treed}
 use Rattle.tree.specs.Limits.{default-plan}
@@ -23,14 +23,6 @@ use Rattle.run.specs.Laws.{Laws}
 use Rattle.run.specs.Outcome.{answer-of, outcome}
 use Rattle.run.specs.Parts.{Booked}
 use Rattle.run.specs.declared.Ran.{Ran}
-
-there : {A : Type 0} (o : Option A) → true ≡ is-some o → (a : A) × (o ≡ some a)
-there none e = true≢false e
-there (some a) e = (a, refl)
-
-missing : {A : Type 0} (o : Option A) → false ≡ is-some o → o ≡ none
-missing none e = refl
-missing (some a) e = true≢false (sym e)
 
 pub refused-1 : (ss tree bs : List ℕ) (r : Ran) → false ≡ is-some (read-signature ss) → outcome r ≡ refusal 1 → RunCall ss tree bs (r .number) (answer-of r)
 refused-1 ss tree bs r e q = record { result-is = q ∙ rw (missing (read-signature ss) e) }

@@ -1,23 +1,22 @@
 -- What a node asks for, by its first word and the first part left.
-use mathlib.Core.Path.{_≡_, refl, sym, ap, _∙_}
-use mathlib.Core.List.{List, [], _∷_, _++_, append-assoc}
+use mathlib.Core.Path.{_≡_, refl, ap}
+use mathlib.Core.List.{List, _∷_, _++_}
 use mathlib.Core.Option.{Option, none, some}
 use mathlib.Core.Bool.{Bool, true, false, cond}
 use Prim.Native.Nat.{ℕ, _+_, _≤_, _<_}
 use native.Mathlib.Omega.{arith}
 use lib.Dec.{eqb}
-use lib.ListN.{length, getD, length-append}
+use lib.ListN.{length, getD}
 use Rattle.signature.specs.Decoded.{Known, Starts}
 use Rattle.signature.specs.Lawful.{OfKind, of-kind, OfKinds, of-kinds-nil, of-kinds-cons}
 use Rattle.signature.specs.Lists.{at}
-use Rattle.signature.specs.Signature.{Signature, arguments-at}
-use Rattle.signature.specs.Value.{Value, Values, vnil, vcons, con, size, codes}
+use Rattle.signature.specs.Signature.{arguments-at}
+use Rattle.signature.specs.Value.{Values, vnil, vcons, con, size, codes}
 use Rattle.signature.proofs.KnownFacts.{constructors, is-constructor}
 use Rattle.signature.proofs.ListFacts.{at-getD, at-out}
 use Rattle.signature.proofs.Tests.{eqb-no}
 use Rattle.run.specs.Parts.{Parts}
-use Rattle.run.specs.Step.{link-to, or-0, link-step, step-at, word-step, test-step, skip-step}
-use Rattle.run.specs.declared.node.Step.{Step}
+use Rattle.run.specs.Step.{link-to, or-0, link-step, step-at}
 use Rattle.run.specs.declared.node.Step.the-variants.{Default, Hit, On, Broken}
 use Rattle.run.proofs.LinkLaws.{link-above}
 

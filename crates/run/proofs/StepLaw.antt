@@ -1,16 +1,16 @@
 -- The step on words is the definition's step on values.
-use mathlib.Core.Path.{_≡_, refl, sym, ap, ap₂, _∙_, subst}
+use mathlib.Core.Path.{_≡_, refl, sym, ap, _∙_, subst}
 use mathlib.Core.List.{List, [], _∷_, _++_, append-assoc}
 use mathlib.Core.Option.{Option, none, some}
 use mathlib.Core.Bool.{Bool, true, false, cond, _&&_}
-use Prim.Native.Nat.{ℕ, zero, suc, _+_, _-_, _≤_, _<_}
+use Prim.Native.Nat.{ℕ, suc, _+_, _-_, _≤_, _<_}
 use native.Mathlib.Nat.{add-zero}
 use native.Mathlib.Numerals.{add-one}
 use native.Mathlib.Omega.{arith}
 use lib.Dec.{eqb, leb, ltb}
 use lib.ListN.{length, drop, length-drop, length-append}
 use lib.Seq.{drop-drop}
-use Rattle.signature.specs.Lawful.{OfKinds, of-kinds-nil, of-kinds-cons, OfKind, of-kind}
+use Rattle.signature.specs.Lawful.{OfKinds, of-kinds-cons, of-kind}
 use Rattle.signature.specs.Lists.{_>>=_, require, at, first}
 use Rattle.signature.specs.Signature.{Signature, heads}
 use Rattle.signature.specs.Value.{Values, vnil, vcons, con, size, code, codes}
@@ -22,7 +22,7 @@ use Rattle.tree.specs.Answer.{Answer, no-rule}
 use Rattle.tree.specs.Run.{run, vjoin, at-hit, at-test, at-skip}
 use Rattle.tree.proofs.RunFuel.{run-enough}
 use Rattle.tree.proofs.TreeFacts.{kindeds-join}
-use Rattle.run.specs.Step.{link-to, link-step, hit-step, test-step, skip-step, word-step, step-at, hit-at}
+use Rattle.run.specs.Step.{link-step, hit-step, test-step, skip-step, word-step, step-at, hit-at}
 use Rattle.run.specs.declared.node.Step.{Step}
 use Rattle.run.specs.declared.node.Step.the-variants.{Default, Hit, On, Broken}
 

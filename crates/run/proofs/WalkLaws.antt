@@ -1,11 +1,11 @@
 -- The walk: the run from here on is the whole run.
 use mathlib.Core.Path.{_≡_, refl, sym, ap, _∙_, subst}
-use mathlib.Core.List.{List, [], _∷_, _++_, append-nil}
+use mathlib.Core.List.{List, [], _∷_, append-nil}
 use mathlib.Core.Option.{some}
 use Prim.Native.Nat.{ℕ, _+_, _-_, _≤_, _<_}
 use native.Mathlib.Numerals.{add-one}
 use native.Mathlib.Omega.{arith}
-use lib.ListN.{length, drop, take, set, length-drop}
+use lib.ListN.{length, drop, take, set}
 use lib.Seq.{drop-drop, take-suc-set}
 use Rattle.signature.specs.Lawful.{OfKinds, of-kinds-nil, of-kinds-cons}
 use Rattle.signature.specs.Limits.{booking-limit}

@@ -4,6 +4,7 @@ pub mod node;
 pub mod promises;
 
 use crate::leaf::TREE_BROKEN;
+use crate::leaf::VARIABLES;
 use crate::node::Step;
 use booking::part::BOOKING_UNLAWFUL;
 use booking::part::SIGNATURE_UNLAWFUL;
@@ -26,10 +27,10 @@ pub struct Ran {
     pub number: u16,
     pub rule: u16,
     pub plan: u16,
-    pub places: [u16; 16],
+    pub places: [u16; VARIABLES],
 }
 
-// The walk: the tree from its node on, and the booking from its current place on. Each node visited takes a word at least.
+// The tree from its node on, and the booking from its current place on. A visit takes a word at least, so there are never too many.
 fn walk_tree(table: &[u16], tree: &[u16], book: &[u16]) -> Ran
     requires { ⌜ Booked (now table) (now book) ⌝ }
     ensures { λ r. ⌜ ((k : Booked (now (table .entry)) (now (book .entry))) → outcome r ≡ run-at (run-of default-plan (length (now (tree .entry))) (k .known .sig) (now (tree .entry)) 0 (vcons (k .value) vnil) 0 [])) ⌝ }

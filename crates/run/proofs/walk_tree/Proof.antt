@@ -29,7 +29,7 @@ walk-tree-spec =
     (tie.spec
     Inv-loop
     μ-loop
-    (λ c. let k = c .before .before .before .pre in (omega arith, omega arith, few-words k, length-replicate {A = ℕ} booking-limit 0, omega arith, λ k. here-first k (c .before .before .before .args .tree .now) _))
+    (λ c. (omega arith, omega arith, few-words (c .before .before .before .pre), length-replicate {A = ℕ} booking-limit 0, omega arith, λ k. here-first k (c .before .before .before .args .tree .now) _))
     (λ c κs. let l = c .loop in parts-of (l .inv .5 (c .before .before .before .before .pre)))
     (λ c. search needs)
     (λ c κs. search needs)

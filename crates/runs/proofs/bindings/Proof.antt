@@ -1,7 +1,6 @@
 -- `bindings` is safe and ends.
 use Prim.Native.Nat.{_≤_, _-_}
 use native.Mathlib.Omega.{arith}
-use lib.ListN.{length}
 use borrow.Author.Needs.{needs}
 use Rattle.pattern.specs.Limits.{variable-count}
 use Rattle.runs.proofs.bindings.Statement.{statement}
