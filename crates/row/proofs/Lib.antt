@@ -9,3 +9,16 @@ pub mod RowTheorem
 pub mod Symmetric
 pub mod Cases
 pub mod Laws
+pub mod Building
+pub mod CellFacts
+pub mod CodedFacts
+pub mod Columns
+pub mod CursorFacts
+pub mod LockstepFacts
+pub mod Masks
+pub mod Meet
+pub mod Parts
+pub mod Products
+pub mod RowListFacts
+pub mod Turns
+pub mod Walk

@@ -5,3 +5,11 @@ pub mod Row
 pub mod RowFits
 pub mod Laws
 pub mod Cases
+pub mod Build
+pub mod Cell
+pub mod Coded
+pub mod Cursor
+pub mod Lockstep
+pub mod Mask
+pub mod Product
+pub mod RowList

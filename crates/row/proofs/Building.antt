@@ -1,0 +1,216 @@
+-- Building.
+use borrow.Author.Tests.{le-ltb, ne-eqb}
+use mathlib.Core.Path.{refl, _≡_, subst, sym}
+use mathlib.Core.List.{List, _∷_, [], _++_, map}
+use mathlib.Core.Option.{Option, none, some}
+use mathlib.Core.Bool.{Bool, true, false, not, cond}
+use Prim.Native.Nat.{ℕ, _<_, _≤_, _-_, _+_}
+use native.Mathlib.Omega.{arith}
+use lib.Dec.{eqb}
+use lib.ListN.{length, set, getD}
+use Rattle.signature.specs.Lists.{require, _>>=_, is-empty, memb, keep, somes}
+use Rattle.signature.specs.Signature.{Signature, heads}
+use Rattle.signature.proofs.Tests.{eqb-eq, true≢false}
+use Rattle.pattern.specs.Pattern.{Pattern, head, and, or, wild, absurd-pat, neg, var, pattern-code}
+use Rattle.row.specs.Build.{Plain, rows-of, Open, vars-of, leaf-entries, Enough, used-by, multiplies}
+use Rattle.row.specs.Cell.{Kinds}
+use Rattle.row.specs.Coded.{Typed, Known, Typeds}
+use Rattle.row.specs.Mask.{Within, mask}
+use Rattle.row.specs.Product.{Typed-all, Product, room-all}
+use Rattle.row.specs.Row.{Row, Rows, named, rcons, free, combines, combine, rnil, each, rows-plus, rows-minus}
+use Rattle.row.specs.RowList.{entries}
+use Rattle.row.proofs.Masks.{within-keep, mask-one, mask-nil}
+
+-- each row that is there has it
+abbrev If-some : {A : Type 0} → (A → Type 0) → Option A → Type 0
+If-some P none = Unit {0}
+If-some P (some a) = P a
+
+module _ (K : Kinds) (ar : List ℕ) where
+  typed-require : (b : Bool) (t : Row) (k : ℕ) → Typed K ar t k → If-some (λ t. Typed K ar t k) (require b >>= λ u. some t)
+  typed-require true t k h = h
+  typed-require false t k h = tt
+
+  typed-named : (zs : List ℕ) (c k : ℕ) (m : Option Rows) → Known K ar k c → If-some (λ ts. Typeds K ar ts (K .args c)) m → If-some (λ t. Typed K ar t k) (m >>= λ ts. some (named zs c ts))
+  typed-named zs c k none h t = tt
+  typed-named zs c k (some ts) h t = (h, t)
+
+  typed-cons : (k : ℕ) (ks : List ℕ) (m : Option Row) (n : Option Rows) → If-some (λ t. Typed K ar t k) m → If-some (λ ts. Typeds K ar ts ks) n
+      → If-some (λ ts. Typeds K ar ts (k ∷ ks)) (m >>= λ t. n >>= λ ts. some (rcons t ts))
+  typed-cons k ks none n h g = tt
+  typed-cons k ks (some t) none h g = tt
+  typed-cons k ks (some t) (some ts) h g = (h, g)
+
+  typed-free : (zs es : List ℕ) (k : ℕ) → k < 256 → Within (K .first k) es → If-some (λ t. Typed K ar t k) (require (not (is-empty es)) >>= λ u. some (free zs es))
+  typed-free zs [] k l w = tt
+  typed-free zs (e ∷ es) k l w = (l, refl, w)
+
+  typed-nn : (b : Bool) (zs : List ℕ) (c d k : ℕ) (rs ss : Rows) → eqb c d ≡ b → Known K ar k c → Typeds K ar rs (K .args c) → Typeds K ar ss (K .args d)
+      → ((ks : List ℕ) → Typeds K ar rs ks → Typeds K ar ss ks → If-some (λ ts. Typeds K ar ts ks) (combines rs ss))
+      → If-some (λ t. Typed K ar t k) (require b >>= λ u. combines rs ss >>= λ ts. some (named zs c ts))
+  typed-nn true zs c d k rs ss e h t u ih =
+      typed-named zs c k (combines rs ss) h (ih (K .args c) t (subst (λ (n : ℕ). Typeds K ar ss (K .args n)) (sym (eqb-eq c d e)) u))
+  typed-nn false zs c d k rs ss e h t u ih = tt
+
+  mutual
+    pub typed-combine : (r s : Row) (k : ℕ) → Typed K ar r k → Typed K ar s k → If-some (λ t. Typed K ar t k) (combine r s)
+    typed-combine (named xs c rs) (named ys d ss) k t u = typed-nn (eqb c d) (xs ++ ys) c d k rs ss refl (t .0) (t .1) (u .1) (λ ks a b. typed-combines rs ss ks a b)
+    typed-combine (named xs c rs) (free ys ds) k t u = typed-require (memb c ds) (named (xs ++ ys) c rs) k t
+    typed-combine (free xs cs) (named ys d ss) k t u = typed-require (memb d cs) (named (xs ++ ys) d ss) k u
+    typed-combine (free xs cs) (free ys ds) k t u = typed-free (xs ++ ys) (keep (λ c. memb c ds) cs) k (t .0) (within-keep (K .first k) (λ c. memb c ds) cs (t .2))
+
+    pub typed-combines : (rs ss : Rows) (ks : List ℕ) → Typeds K ar rs ks → Typeds K ar ss ks → If-some (λ ts. Typeds K ar ts ks) (combines rs ss)
+    typed-combines rnil rnil ks t u = t
+    typed-combines rnil (rcons s ss) ks t u = tt
+    typed-combines (rcons r rs) rnil ks t u = tt
+    typed-combines (rcons r rs) (rcons s ss) [] t u = absurd t
+    typed-combines (rcons r rs) (rcons s ss) (k ∷ ks) t u = typed-cons k ks (combine r s) (combines rs ss) (typed-combine r s k (t .0) (u .0)) (typed-combines rs ss ks (t .1) (u .1))
+
+  typed-append : (k : ℕ) (rs ss : List Row) → Typed-all K ar k rs → Typed-all K ar k ss → Typed-all K ar k (rs ++ ss)
+  typed-append k [] ss t u = u
+  typed-append k (r ∷ rs) ss t u = (t .0, typed-append k rs ss (t .1) u)
+
+  typed-somes : (k : ℕ) (m : Option Row) (ms : List (Option Row)) → If-some (λ t. Typed K ar t k) m → Typed-all K ar k (somes ms) → Typed-all K ar k (somes (m ∷ ms))
+  typed-somes k none ms h t = t
+  typed-somes k (some r) ms h t = (h, t)
+
+  typed-ones : (k : ℕ) (r : Row) (ss : List Row) (more : List (Option Row)) → Typed K ar r k → Typed-all K ar k ss → Typed-all K ar k (somes more) → Typed-all K ar k (somes (map (combine r) ss ++ more))
+  typed-ones k r [] more t u v = v
+  typed-ones k r (s ∷ ss) more t u v = typed-somes k (combine r s) (map (combine r) ss ++ more) (typed-combine r s k t (u .0)) (typed-ones k r ss more t (u .1) v)
+
+  typed-each : (k : ℕ) (rs ss : List Row) → Typed-all K ar k rs → Typed-all K ar k ss → Typed-all K ar k (somes (each combine rs ss))
+  typed-each k [] ss t u = tt
+  typed-each k (r ∷ rs) ss t u = typed-ones k r ss (each combine rs ss) (t .0) u (typed-each k rs ss (t .1) u)
+
+module _ (K : Kinds) (ar : List ℕ) where
+  module _ (sig : Signature) (k tag full : ℕ) (o : Open K sig k tag full) where
+    pub typed-rows : (p : Pattern) (b : Bool) → Plain p → Typed-all K ar k (rows-of sig k b p)
+    typed-rows (head c ps) b h = absurd h
+    typed-rows (and p q) true h = typed-each K ar k (rows-plus sig k p) (rows-plus sig k q) (typed-rows p true (h .0)) (typed-rows q true (h .1))
+    typed-rows (and p q) false h = typed-append K ar k (rows-minus sig k p) (rows-minus sig k q) (typed-rows p false (h .0)) (typed-rows q false (h .1))
+    typed-rows (or p q) true h = typed-append K ar k (rows-plus sig k p) (rows-plus sig k q) (typed-rows p true (h .0)) (typed-rows q true (h .1))
+    typed-rows (or p q) false h = typed-each K ar k (rows-minus sig k p) (rows-minus sig k q) (typed-rows p false (h .0)) (typed-rows q false (h .1))
+    typed-rows wild true h = ((o .kind, o .some, o .within), tt)
+    typed-rows wild false h = tt
+    typed-rows absurd-pat true h = tt
+    typed-rows absurd-pat false h = ((o .kind, o .some, o .within), tt)
+    typed-rows (neg p) true h = typed-rows p false h
+    typed-rows (neg p) false h = typed-rows p true h
+    typed-rows (var x) true h = ((o .kind, o .some, o .within), tt)
+    typed-rows (var x) false h = tt
+
+-- ---- the leaves, as they are written
+pub one-list : (t v f : ℕ) (o : List ℕ) → 5 ≤ length o → Product (3 ∷ (t ∷ (v ∷ (f ∷ [])))) 4 (set (set (set (set (set o 0 3) 1 t) 2 v) 3 f) 4 0)
+one-list t v f [] h = absurd (omega arith)
+one-list t v f (a ∷ []) h = absurd (omega arith)
+one-list t v f (a ∷ (b ∷ [])) h = absurd (omega arith)
+one-list t v f (a ∷ (b ∷ (c ∷ []))) h = absurd (omega arith)
+one-list t v f (a ∷ (b ∷ (c ∷ (d ∷ [])))) h = absurd (omega arith)
+one-list t v f (a ∷ (b ∷ (c ∷ (d ∷ (e ∷ o))))) h = record { size = refl; list = refl }
+
+pub no-list : (o : List ℕ) → 1 ≤ length o → Product [] 0 (set o 0 0)
+no-list [] h = absurd (omega arith)
+no-list (a ∷ o) h = record { size = refl; list = refl }
+
+-- a leaf's rows by the tests
+pub leaf-is : (w t f v n : ℕ) (b c : Bool) (o : List ℕ) → eqb w 259 ≡ c → v ≡ vars-of w
+    → Product (cond (cond c (not b) b) (3 ∷ (t ∷ (v ∷ (f ∷ [])))) []) n o → Product (leaf-entries w b t f) n o
+leaf-is w t f v n b c o e q h = rw (e, ← q) h
+
+-- ---- what a pattern is, by its first word
+module _ (K : Kinds) (sig : Signature) (k : ℕ) where
+  pub record Negated (p : Pattern) (b : Bool) (n m : ℕ) : Type 0 where
+    pub q : Pattern
+    pub code-is : pattern-code p ≡ 260 ∷ pattern-code q
+    pub plain : Plain q
+    pub enough : Enough K sig k q (not b) n m
+    pub rows-is : rows-of sig k b p ≡ rows-of sig k (not b) q
+
+  pub negated : (p : Pattern) (b : Bool) (n m : ℕ) (rest : List ℕ) → Plain p → Enough K sig k p b n m → getD (pattern-code p ++ rest) 0 0 ≡ 260 → Negated p b n m
+  negated (head c ps) b n m rest h e w = absurd h
+  negated (and p q) b n m rest h e w = absurd (omega (arith, w))
+  negated (or p q) b n m rest h e w = absurd (omega (arith, w))
+  negated wild b n m rest h e w = absurd (omega (arith, w))
+  negated absurd-pat b n m rest h e w = absurd (omega (arith, w))
+  negated (neg p) true n m rest h e w = record { q = p; code-is = refl; plain = h; enough = e; rows-is = refl }
+  negated (neg p) false n m rest h e w = record { q = p; code-is = refl; plain = h; enough = e; rows-is = refl }
+  negated (var x) b n m rest h e w = absurd (omega (arith, w))
+
+  -- two parts that are multiplied
+  pub record Multiplied (p : Pattern) (b : Bool) (n m : ℕ) : Type 0 where
+    pub word : ℕ
+    pub q : Pattern
+    pub r : Pattern
+    pub code-is : pattern-code p ≡ word ∷ (pattern-code q ++ pattern-code r)
+    pub plain : Plain q × Plain r
+    pub first : Enough K sig k q b m n
+    pub second : Enough K sig k r b (m - (used-by K sig k b q + 1)) n
+    pub room : room-all K k (rows-of sig k b q) (rows-of sig k b r) + 1 ≤ n
+    pub rows-is : rows-of sig k b p ≡ somes (each combine (rows-of sig k b q) (rows-of sig k b r))
+
+  pub multiplied : (p : Pattern) (b : Bool) (n m : ℕ) (rest : List ℕ) → Plain p → Enough K sig k p b n m → multiplies (getD (pattern-code p ++ rest) 0 0) b ≡ true → Multiplied p b n m
+  multiplied (head c ps) b n m rest h e w = absurd h
+  multiplied (and p q) true n m rest h e w = record { word = 256; q = p; r = q; code-is = refl; plain = h; first = e .0; second = e .1; room = e .2; rows-is = refl }
+  multiplied (and p q) false n m rest h e w = true≢false (sym w)
+  multiplied (or p q) true n m rest h e w = true≢false (sym w)
+  multiplied (or p q) false n m rest h e w = record { word = 257; q = p; r = q; code-is = refl; plain = h; first = e .0; second = e .1; room = e .2; rows-is = refl }
+  multiplied wild true n m rest h e w = true≢false (sym w)
+  multiplied wild false n m rest h e w = true≢false (sym w)
+  multiplied absurd-pat true n m rest h e w = true≢false (sym w)
+  multiplied absurd-pat false n m rest h e w = true≢false (sym w)
+  multiplied (neg p) true n m rest h e w = true≢false (sym w)
+  multiplied (neg p) false n m rest h e w = true≢false (sym w)
+  multiplied (var x) true n m rest h e w = absurd (omega (arith, eqb-eq (261 + x) 256 w))
+  multiplied (var x) false n m rest h e w = absurd (omega (arith, eqb-eq (261 + x) 257 w))
+
+  -- two parts that are added
+  pub record Added (p : Pattern) (b : Bool) (n m : ℕ) : Type 0 where
+    pub word : ℕ
+    pub q : Pattern
+    pub r : Pattern
+    pub code-is : pattern-code p ≡ word ∷ (pattern-code q ++ pattern-code r)
+    pub plain : Plain q × Plain r
+    pub first : Enough K sig k q b n m
+    pub second : Enough K sig k r b (n - used-by K sig k b q) m
+    pub rows-is : rows-of sig k b p ≡ rows-of sig k b q ++ rows-of sig k b r
+
+  pub added : (p : Pattern) (b : Bool) (n m : ℕ) (rest : List ℕ) → Plain p → Enough K sig k p b n m → multiplies (getD (pattern-code p ++ rest) 0 0) b ≡ false → getD (pattern-code p ++ rest) 0 0 < 258 → Added p b n m
+  added (head c ps) b n m rest h e w l = absurd h
+  added (and p q) true n m rest h e w l = true≢false w
+  added (and p q) false n m rest h e w l = record { word = 256; q = p; r = q; code-is = refl; plain = h; first = e .0; second = e .1; rows-is = refl }
+  added (or p q) true n m rest h e w l = record { word = 257; q = p; r = q; code-is = refl; plain = h; first = e .0; second = e .1; rows-is = refl }
+  added (or p q) false n m rest h e w l = true≢false w
+  added wild b n m rest h e w l = absurd (omega (arith, l))
+  added absurd-pat b n m rest h e w l = absurd (omega (arith, l))
+  added (neg p) b n m rest h e w l = absurd (omega (arith, l))
+  added (var x) b n m rest h e w l = absurd (omega (arith, l))
+
+  -- a leaf
+  pub record Leaf (p : Pattern) (b : Bool) (n w tag full : ℕ) : Type 0 where
+    pub code-is : pattern-code p ≡ w ∷ []
+    pub word : w ≤ 276
+    pub room : 5 ≤ n
+    pub rows-is : leaf-entries w b tag full ≡ entries K k (rows-of sig k b p)
+
+module _ (K : Kinds) (sig : Signature) (k : ℕ) where
+  module _ (tag full : ℕ) (o : Open K sig k tag full) where
+    one-row : (v : ℕ) (xs : List ℕ) → v ≡ mask 0 xs → _≡_ {A = List ℕ} (3 ∷ (tag ∷ (v ∷ (full ∷ [])))) (3 ∷ ((256 + k) ∷ (mask 0 xs ∷ (mask (K .first k) (heads sig k) ∷ []))))
+    one-row v xs e = rw (e, o .tag-is, o .full-is)
+
+var-row : (x : ℕ) → x < 16 → vars-of (261 + x) ≡ mask 0 (x ∷ [])
+var-row x h = let e : 261 + x - 261 ≡ x - 0 = omega arith in rw (le-ltb (261 + x) 261 (omega arith), e) (sym (mask-one 0 x))
+
+module _ (K : Kinds) (sig : Signature) (k : ℕ) where
+  module _ (tag full : ℕ) (o : Open K sig k tag full) where
+    pub leaf-of : (p : Pattern) (b : Bool) (n m : ℕ) (rest : List ℕ) → Plain p → Enough K sig k p b n m → ¬ (getD (pattern-code p ++ rest) 0 0 ≡ 260) → 258 ≤ getD (pattern-code p ++ rest) 0 0
+        → Leaf K sig k p b n (getD (pattern-code p ++ rest) 0 0) tag full
+    leaf-of (head c ps) b n m rest h e w l = absurd h
+    leaf-of (and p q) b n m rest h e w l = absurd (omega (arith, l))
+    leaf-of (or p q) b n m rest h e w l = absurd (omega (arith, l))
+    leaf-of wild true n m rest h e w l = record { code-is = refl; word = omega arith; room = e; rows-is = one-row K sig k tag full o 0 [] (sym (mask-nil 0)) }
+    leaf-of wild false n m rest h e w l = record { code-is = refl; word = omega arith; room = e; rows-is = refl }
+    leaf-of absurd-pat true n m rest h e w l = record { code-is = refl; word = omega arith; room = e; rows-is = refl }
+    leaf-of absurd-pat false n m rest h e w l = record { code-is = refl; word = omega arith; room = e; rows-is = one-row K sig k tag full o 0 [] (sym (mask-nil 0)) }
+    leaf-of (neg p) b n m rest h e w l = absurd (w refl)
+    leaf-of (var x) true n m rest h e w l = record { code-is = refl; word = omega (arith, h); room = e; rows-is = rw (ne-eqb (261 + x) 259 (λ z. omega (arith, z))) (one-row K sig k tag full o (vars-of (261 + x)) (x ∷ []) (var-row x h)) }
+    leaf-of (var x) false n m rest h e w l = record { code-is = refl; word = omega (arith, h); room = e; rows-is = rw (ne-eqb (261 + x) 259 (λ z. omega (arith, z))) }
