@@ -13,6 +13,7 @@ use Rattle.pattern.proofs.Decided.{Says, says-fits, says-fails, decide-
 use Rattle.pattern.proofs.Exclusive.{exclusive}
 use Rattle.pattern.proofs.Once.{fit-once, fail-once, once-fits, places-of, places-only, same-places}
 use Rattle.pattern.proofs.PatternBack.{pattern-words, words-pattern, pattern-read, pattern-was}
+use Rattle.pattern.proofs.StandsLaw.{light-is-each, heavy-is-some}
 use Rattle.pattern.proofs.Unique.{same-fits}
 
 which : {p : Pattern} {v : Value} {i : ℕ} {o : Out} → Says p v i o → ((σ : Binds) × Fits p v i σ) ⊎ ((σ : Binds) × Fails p v i σ)
@@ -34,4 +35,6 @@ laws = record {
   places = λ p v i σ l f. places-of σ (once-fits p l f);
   places-only = places-only;
   one-list = λ sig k p v i σ τ l n h f g. same-places σ τ unbound (once-fits p l f) (once-fits p l g) (same-fits sig p l n h f g);
+  light = light-is-each;
+  heavy = heavy-is-some;
 }

@@ -4,18 +4,21 @@ use mathlib.Core.Logic.{_⊎_}
 use mathlib.Core.List.{List, _++_}
 use mathlib.Core.Option.{some}
 use mathlib.Core.Bool.{true, false}
-use Prim.Native.Nat.{ℕ, _≤_}
+use Prim.Native.Nat.{ℕ, _≤_, _<_}
 use Rattle.signature.specs.Lawful.{OfKind}
 use Rattle.signature.specs.Lists.{Iff, memb}
 use Rattle.signature.specs.Signature.{Signature}
 use Rattle.signature.specs.Value.{Value}
 use Rattle.pattern.specs.Ambiguous.{Ambiguous}
 use Rattle.pattern.specs.Decide.{decide, is-fit}
+use Rattle.pattern.specs.Limits.{part-weight-limit}
 use Rattle.pattern.specs.Linear.{E, O, linear-plus, linear-minus}
 use Rattle.pattern.specs.Match.{Binds, Fits, Fails}
 use Rattle.pattern.specs.Pattern.{Pattern, pattern-code, pattern-depth}
 use Rattle.pattern.specs.Places.{Same, PlacesOf, bind-all, unbound, times, tick}
 use Rattle.pattern.specs.Read.{read-one, read-pattern}
+use Rattle.pattern.specs.Side.{Side, plus, Stands, weight-at}
+use Rattle.pattern.specs.Weight.{light-plus}
 use Rattle.pattern.specs.WellFormed.{WellFormed, PatternWords}
 
 pub record Laws : Type 0 where
@@ -39,3 +42,6 @@ pub record Laws : Type 0 where
   pub places : (p : Pattern) (v : Value) (i : ℕ) (σ : Binds) → linear-plus p ≡ true → Fits p v i σ → PlacesOf σ (bind-all σ unbound)
   pub places-only : (σ : Binds) (ps qs : List ℕ) → PlacesOf σ ps → PlacesOf σ qs → ps ≡ qs
   pub one-list : (sig : Signature) (k : ℕ) (p : Pattern) (v : Value) (i : ℕ) (σ τ : Binds) → linear-plus p ≡ true → (Ambiguous sig k p → ⊥) → OfKind sig k v → Fits p v i σ → Fits p v i τ → bind-all σ unbound ≡ bind-all τ unbound
+  -- 9: "Each part, at the side on which it stands, weighs at most 64", and some part does not
+  pub light : (p : Pattern) → Iff (light-plus p ≡ true) ((r : Side) (q : Pattern) → Stands plus p r q → weight-at r q ≤ part-weight-limit)
+  pub heavy : (p : Pattern) → Iff (light-plus p ≡ false) ((r : Side) × (q : Pattern) × Stands plus p r q × (part-weight-limit < weight-at r q))

@@ -11,3 +11,9 @@ pub mod Weight
 pub mod WellFormed
 pub mod Laws
 pub mod Cases
+pub mod Word
+pub mod End
+pub mod Side
+pub mod Given
+pub mod Weighing
+pub mod Linearity

@@ -9,3 +9,6 @@ pub mod Part
 pub mod Decoded
 pub mod Laws
 pub mod Cases
+pub mod Set
+pub mod Decoding
+pub mod Walk

@@ -1,0 +1,40 @@
+-- What the code's word of a pattern is, and how many patterns follow it.
+use mathlib.Core.List.{List}
+use Prim.Native.Nat.{ℕ, _<_}
+use Rattle.signature.specs.Decoded.{arity-of}
+use Rattle.signature.specs.Limits.{constructor-limit}
+use Rattle.pattern.specs.Read.{Form, is-head, is-var, is-and, is-or, is-wild, is-absurd, is-not, is-other}
+use Rattle.pattern.specs.declared.token.Word.{Word}
+use Rattle.pattern.specs.declared.token.Word.the-variants.{Head, And, Or, Wild, Absurd, Not, Var, Other}
+
+abbrev pub form-of : Word → Form
+form-of (Head c) = is-head c
+form-of And = is-and
+form-of Or = is-or
+form-of Wild = is-wild
+form-of Absurd = is-absurd
+form-of Not = is-not
+form-of (Var x) = is-var x
+form-of Other = is-other
+
+-- t is the table of a signature
+abbrev pub part-count : List ℕ → Form → ℕ
+part-count t (is-head c) = arity-of t c
+part-count t (is-var x) = 0
+part-count t is-and = 2
+part-count t is-or = 2
+part-count t is-wild = 0
+part-count t is-absurd = 0
+part-count t is-not = 1
+part-count t is-other = 0
+
+-- a constructor's number is one that a table has a row for
+abbrev pub head-small : Form → Type 0
+head-small (is-head c) = c < constructor-limit
+head-small (is-var x) = Unit {0}
+head-small is-and = Unit {0}
+head-small is-or = Unit {0}
+head-small is-wild = Unit {0}
+head-small is-absurd = Unit {0}
+head-small is-not = Unit {0}
+head-small is-other = Unit {0}
