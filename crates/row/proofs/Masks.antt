@@ -10,15 +10,11 @@ use lib.Bits.{bitAnd, and-step, and-shr, bitOr, or-step, or-shr, or-zero-r, or-z
 use lib.Dec.{eqb}
 use lib.Pow.{pow-mono, pow-lt}
 use Rattle.signature.specs.Lists.{memb, _or-else_, keep}
+use Rattle.signature.specs.Set.{bit}
 use Rattle.signature.proofs.Members.{memb-keep}
 use Rattle.signature.proofs.Tests.{eqb-eq, eqb-ne, eqb-self}
 use Rattle.pattern.specs.Limits.{pattern-limit}
 use Rattle.row.specs.Mask.{mask, Within}
-
--- bit i of s
-pub bit : ℕ → ℕ → ℕ
-bit s zero = s % 2
-bit s (suc i) = bit (s / 2) i
 
 abbrev pub one-if : Bool → ℕ
 one-if true = 1
@@ -74,7 +70,7 @@ below-pow : (n : ℕ) → n < 2 ^ n
 below-pow zero = omega arith
 below-pow (suc n) = let e : 2 ^ suc n ≡ 2 ^ n * 2 = pow-suc 2 n in omega (arith, below-pow n)
 
-bit-ext : (a b : ℕ) → ((i : ℕ) → bit a i ≡ bit b i) → a ≡ b
+pub bit-ext : (a b : ℕ) → ((i : ℕ) → bit a i ≡ bit b i) → a ≡ b
 bit-ext a b f = bit-ext-at (a + b) a b (omega (arith, below-pow a, pow-mono {i = a} {j = a + b} (omega arith))) (omega (arith, below-pow b, pow-mono {i = b} {j = a + b} (omega arith))) f
 
 or-assoc : (a b c : ℕ) → bitOr (bitOr a b) c ≡ bitOr a (bitOr b c)

@@ -6,11 +6,16 @@ use mathlib.Core.Bool.{false}
 use Prim.Native.Nat.{ℕ, _≤_, _<_, _+_}
 use lib.ListN.{length}
 use Rattle.signature.specs.Decoded.{decoded-length, arity-of}
-use Rattle.signature.specs.Lists.{is-empty}
+use Rattle.signature.specs.Lists.{is-empty, first}
+use Rattle.signature.specs.Signature.{Signature, heads, arguments}
 use Rattle.pattern.specs.Limits.{pattern-limit}
 use Rattle.row.specs.Cell.{Kinds, CRow, cn, cf, CRows, cnil, ccons, words}
 use Rattle.row.specs.Mask.{mask, Within}
 use Rattle.row.specs.Row.{Row, named, free, Rows, rnil, rcons}
+
+-- the kinds of a signature
+abbrev pub kinds-of : Signature → Kinds
+kinds-of sig = record { first = λ k. first (heads sig k); args = λ c. arguments sig c }
 
 -- constructor c of kind k
 pub record Known (K : Kinds) (ar : List ℕ) (k c : ℕ) : Type 0 where

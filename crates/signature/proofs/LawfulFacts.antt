@@ -50,7 +50,7 @@ rising-above k m (c ∷ cs) e = go (eqb (c .kind) k) refl (rising-above k m cs) 
     go true q f g = f (rw q at e)
     go false q f g = let (u, e₁, e₂) = bind-some (require (eqb (c .kind) (suc k))) _ m (rw q at e) in omega (arith, g e₂)
 
-kinds-above : (sig : Signature) (m : ℕ) → count-kinds sig ≡ some m → 0 < m
+pub kinds-above : (sig : Signature) (m : ℕ) → count-kinds sig ≡ some m → 0 < m
 kinds-above [] m e = none≢some e
 kinds-above (c ∷ cs) m e = let (u, e₁, e₂) = bind-some (require (eqb (c .kind) 0)) _ m e in rising-above 0 m cs e₂
 
@@ -70,7 +70,7 @@ rising-kind k m i (c ∷ cs) d e a = go (eqb (c .kind) k) refl i a (λ i′. ris
         let (u, e₁, e₂) = bind-some (require (eqb (c .kind) (suc k))) _ m (rw q at e) in
         g j e₂ a′
 
-kinds-kind : (sig : Signature) (m i : ℕ) (d : Constructor) → count-kinds sig ≡ some m → at sig i ≡ some d → d .kind < m
+pub kinds-kind : (sig : Signature) (m i : ℕ) (d : Constructor) → count-kinds sig ≡ some m → at sig i ≡ some d → d .kind < m
 kinds-kind [] m i d e a = none≢some e
 kinds-kind (c ∷ cs) m i d e a = go i a (bind-some (require (eqb (c .kind) 0)) _ m e)
   where

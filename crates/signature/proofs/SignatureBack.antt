@@ -41,7 +41,7 @@ kinds-is : (sig : Signature) (m : ℕ) → count-kinds sig ≡ some m → KindsS
 kinds-is [] m e = none≢some e
 kinds-is (c ∷ cs) m e = let (u, e₁, e₂) = bind-some (require (eqb (c .kind) 0)) _ m e in start-0 (eqb-eq (c .kind) 0 (require-some (eqb (c .kind) 0) u e₁)) (rising-is 0 m cs e₂)
 
-is-kinds : {sig : Signature} {m : ℕ} → KindsStart sig m → count-kinds sig ≡ some m
+pub is-kinds : {sig : Signature} {m : ℕ} → KindsStart sig m → count-kinds sig ≡ some m
 is-kinds (start-0 e h) = rw e (is-rising h)
 
 ctors-are : (n : ℕ) (ws : List ℕ) (sig : Signature) → read-constructors n ws ≡ some sig → (n ≡ length sig) × (ws ≡ constructor-words sig)
