@@ -10,6 +10,7 @@ pub mod Symmetric
 pub mod Cases
 pub mod Laws
 pub mod Building
+pub mod Growing
 pub mod Kinded
 pub mod CellFacts
 pub mod CodedFacts

@@ -73,7 +73,7 @@ each-task {ar} g = record {
   B = Row;
   read = λ s. code (g .K) s (g .kind);
   write = λ s. code (g .K) s (g .kind);
-  long = λ s. code-long (g .K) (g .kind) s;
+  long = λ s t. code-long (g .K) (g .kind) s;
   f = λ s. somes (combine (g .r) s ∷ []);
   cost = λ s. 1 + (length (code (g .K) (g .r) (g .kind)) + length (code (g .K) s (g .kind)));
   P = λ s. Typed (g .K) ar s (g .kind);
@@ -150,7 +150,7 @@ product-task {ar} g = record {
   B = Row;
   read = λ s. code (g .K) s (g .kind);
   write = λ s. code (g .K) s (g .kind);
-  long = λ s. code-long (g .K) (g .kind) s;
+  long = λ s t. code-long (g .K) (g .kind) s;
   f = λ r. ones r (g .ss);
   cost = λ r. room-for (g .K) (g .kind) r (g .ss);
   P = λ r. Typed (g .K) ar r (g .kind);
@@ -172,7 +172,7 @@ yields-each (r ∷ rs) ss = ap (λ (l : List Row). ones r ss ++ l) (yields-each 
     somes-append (some t ∷ a) b = ap (λ (l : List Row). t ∷ l) (somes-append a b)
 
 -- the end is written
-end-word : (o w : List ℕ) (n : ℕ) → Begins w n o → n + 1 ≤ length o → Product w n (set o n 0)
+pub end-word : (o w : List ℕ) (n : ℕ) → Begins w n o → n + 1 ≤ length o → Product w n (set o n 0)
 end-word o w n b h = record {
   size = b .0;
   list = rw (add-one n) (take-suc-set o n 0 (omega arith)) ∙ ap (λ (l : List ℕ). l ++ (0 ∷ [])) (b .1);

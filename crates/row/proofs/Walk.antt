@@ -64,7 +64,7 @@ pub record Task (y : List ℕ) : Type 1 where
   pub rest : List ℕ
   pub code-is : y ≡ (each-with read all ++ (0 ∷ [])) ++ rest
   pub each-is : Every P all
-  pub long : (s : A) → 1 ≤ length (read s)
+  pub long : (s : A) → P s → 1 ≤ length (read s)
   pub enough : (s : A) → P s → length (each-with write (f s)) ≤ cost s
 
 pub record Mid {y : List ℕ} (g : Task y) (at used : ℕ) (o : List ℕ) (todo : List (g .A)) : Type 0 where
@@ -99,6 +99,7 @@ start g o h = (
 pub record Head {y : List ℕ} (g : Task y) (at used : ℕ) (o : List ℕ) (s : g .A) : Type 0 where
   pub rest : List ℕ
   pub is : g .P s
+  pub len : getD y at 0 ≡ length (g .read s)
   pub code-is : from y (at + 1) ≡ g .read s ++ rest
   pub room : g .cost s ≤ length (from o used)
 
@@ -121,7 +122,7 @@ module _ {y : List ℕ} (g : Task y) (at used : ℕ) (o : List ℕ) where
   end-at [] m z =
       let e : each-with (g .write) (yields (g .f) (g .all)) ≡ m .done = m .target ∙ append-nil (m .done) in
       ((m .size ∙ ap length (sym e), m .list ∙ sym e), omega (arith, m .room))
-  end-at (s ∷ todo) m z = absurd (omega (arith, word-at y at _ _ (m .code-is) .0, g .long s))
+  end-at (s ∷ todo) m z = absurd (omega (arith, word-at y at _ _ (m .code-is) .0, g .long s (m .each-is .0)))
 
   pub end : Now g at used o → getD y at 0 ≤ 0 → Begins (each-with (g .write) (yields (g .f) (g .all))) used o × (used + g .spare ≤ length o)
   end m z = end-at (m .0) (m .1) z
@@ -133,6 +134,7 @@ module _ {y : List ℕ} (g : Task y) (at used : ℕ) (o : List ℕ) where
   head-at s todo m = record {
     rest = (each-with (g .read) todo ++ (0 ∷ [])) ++ g .rest;
     is = m .each-is .0;
+    len = word-at y at _ _ (m .code-is) .0;
     code-is = from-is y (at + 1) ∙ next-row s todo m;
     room = rw (from-is o used) (omega (arith, length-drop used o, m .room));
   }

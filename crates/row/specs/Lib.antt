@@ -9,6 +9,7 @@ pub mod Build
 pub mod Cell
 pub mod Coded
 pub mod Cursor
+pub mod Grow
 pub mod Lockstep
 pub mod Mask
 pub mod Product
