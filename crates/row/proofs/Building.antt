@@ -66,7 +66,7 @@ module _ (K : Kinds) (ar : List ℕ) where
     typed-combines (rcons r rs) (rcons s ss) [] t u = absurd t
     typed-combines (rcons r rs) (rcons s ss) (k ∷ ks) t u = typed-cons k ks (combine r s) (combines rs ss) (typed-combine r s k (t .0) (u .0)) (typed-combines rs ss ks (t .1) (u .1))
 
-  typed-append : (k : ℕ) (rs ss : List Row) → Typed-all K ar k rs → Typed-all K ar k ss → Typed-all K ar k (rs ++ ss)
+  pub typed-append : (k : ℕ) (rs ss : List Row) → Typed-all K ar k rs → Typed-all K ar k ss → Typed-all K ar k (rs ++ ss)
   typed-append k [] ss t u = u
   typed-append k (r ∷ rs) ss t u = (t .0, typed-append k rs ss (t .1) u)
 
@@ -78,7 +78,7 @@ module _ (K : Kinds) (ar : List ℕ) where
   typed-ones k r [] more t u v = v
   typed-ones k r (s ∷ ss) more t u v = typed-somes k (combine r s) (map (combine r) ss ++ more) (typed-combine r s k t (u .0)) (typed-ones k r ss more t (u .1) v)
 
-  typed-each : (k : ℕ) (rs ss : List Row) → Typed-all K ar k rs → Typed-all K ar k ss → Typed-all K ar k (somes (each combine rs ss))
+  pub typed-each : (k : ℕ) (rs ss : List Row) → Typed-all K ar k rs → Typed-all K ar k ss → Typed-all K ar k (somes (each combine rs ss))
   typed-each k [] ss t u = tt
   typed-each k (r ∷ rs) ss t u = typed-ones k r ss (each combine rs ss) (t .0) u (typed-each k rs ss (t .1) u)
 

@@ -3,6 +3,7 @@ pub mod Exists
 pub mod OverlapFacts
 pub mod Places
 pub mod RowBinds
+pub mod Rooms
 pub mod RowCount
 pub mod RowMeet
 pub mod RowTheorem
@@ -23,4 +24,5 @@ pub mod Parts
 pub mod Products
 pub mod RowListFacts
 pub mod Turns
+pub mod Typing
 pub mod Walk

@@ -9,6 +9,7 @@ use lib.ListN.{length}
 use Rattle.signature.specs.Lists.{is-empty}
 use Rattle.signature.specs.Signature.{Signature, heads}
 use Rattle.pattern.specs.Pattern.{Pattern, head, and, or, wild, absurd-pat, neg, var, pattern-code}
+use Rattle.pattern.specs.Weight.{light-plus, light-minus}
 use Rattle.row.specs.Cell.{Kinds}
 use Rattle.row.specs.Mask.{Within, mask}
 use Rattle.row.specs.Product.{room-all, Product}
@@ -18,6 +19,14 @@ use Rattle.row.specs.RowList.{entries}
 abbrev pub rows-of : Signature → ℕ → Bool → Pattern → List Row
 rows-of sig k true p = rows-plus sig k p
 rows-of sig k false p = rows-minus sig k p
+
+abbrev pub light-of : Bool → Pattern → Bool
+light-of true p = light-plus p
+light-of false p = light-minus p
+
+-- words of each slice for each word of a pattern: of a list of at most 64 rows, each with its number and 3 words for each word of the pattern, and the list's end
+abbrev pub room-unit : ℕ
+room-unit = 257
 
 -- no constructors; variables below 16
 abbrev pub Plain : Pattern → Type 0
