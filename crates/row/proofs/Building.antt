@@ -3,23 +3,28 @@ use borrow.Author.Tests.{le-ltb, ne-eqb}
 use mathlib.Core.Path.{refl, _≡_, subst, sym}
 use mathlib.Core.List.{List, _∷_, [], _++_, map}
 use mathlib.Core.Option.{Option, none, some}
-use mathlib.Core.Bool.{Bool, true, false, not, cond}
-use Prim.Native.Nat.{ℕ, _<_, _≤_, _-_, _+_}
+use mathlib.Core.Bool.{Bool, true, false, not, cond, _&&_}
+use Prim.Native.Nat.{ℕ, _<_, _≤_, _-_, _+_, _*_}
 use native.Mathlib.Omega.{arith}
-use lib.Dec.{eqb}
+use lib.Dec.{eqb, leb}
+use native.Mathlib.Nat.{le-trans}
 use lib.ListN.{length, set, getD}
 use Rattle.signature.specs.Lists.{require, _>>=_, is-empty, memb, keep, somes}
 use Rattle.signature.specs.Signature.{Signature, heads}
-use Rattle.signature.proofs.Tests.{eqb-eq, true≢false}
+use Rattle.signature.proofs.Booleans.{and-left, and-right}
+use Rattle.signature.proofs.Tests.{eqb-eq, true≢false, times-less, le-of}
 use Rattle.pattern.specs.Pattern.{Pattern, head, and, or, wild, absurd-pat, neg, var, pattern-code}
-use Rattle.row.specs.Build.{Plain, rows-of, Open, vars-of, leaf-entries, Enough, used-by, multiplies}
+use Rattle.pattern.specs.Weight.{weight-plus, weight-minus, light-plus, light-minus}
+use Rattle.pattern.specs.WellFormed.{WellFormed, well-and, well-or, well-not}
+use Rattle.row.specs.Build.{Plain, rows-of, Open, vars-of, leaf-entries, light-of, multiplies}
 use Rattle.row.specs.Cell.{Kinds}
 use Rattle.row.specs.Coded.{Typed, Known, Typeds}
 use Rattle.row.specs.Mask.{Within, mask}
-use Rattle.row.specs.Product.{Typed-all, Product, room-all}
+use Rattle.row.specs.Product.{Typed-all, Product}
 use Rattle.row.specs.Row.{Row, Rows, named, rcons, free, combines, combine, rnil, each, rows-plus, rows-minus}
 use Rattle.row.specs.RowList.{entries}
 use Rattle.row.proofs.Masks.{within-keep, mask-one, mask-nil}
+use Rattle.row.proofs.RowCount.{plus-count, minus-count}
 
 -- each row that is there has it
 abbrev If-some : {A : Type 0} → (A → Type 0) → Option A → Type 0
@@ -82,23 +87,6 @@ module _ (K : Kinds) (ar : List ℕ) where
   typed-each k [] ss t u = tt
   typed-each k (r ∷ rs) ss t u = typed-ones k r ss (each combine rs ss) (t .0) u (typed-each k rs ss (t .1) u)
 
-module _ (K : Kinds) (ar : List ℕ) where
-  module _ (sig : Signature) (k tag full : ℕ) (o : Open K sig k tag full) where
-    pub typed-rows : (p : Pattern) (b : Bool) → Plain p → Typed-all K ar k (rows-of sig k b p)
-    typed-rows (head c ps) b h = absurd h
-    typed-rows (and p q) true h = typed-each K ar k (rows-plus sig k p) (rows-plus sig k q) (typed-rows p true (h .0)) (typed-rows q true (h .1))
-    typed-rows (and p q) false h = typed-append K ar k (rows-minus sig k p) (rows-minus sig k q) (typed-rows p false (h .0)) (typed-rows q false (h .1))
-    typed-rows (or p q) true h = typed-append K ar k (rows-plus sig k p) (rows-plus sig k q) (typed-rows p true (h .0)) (typed-rows q true (h .1))
-    typed-rows (or p q) false h = typed-each K ar k (rows-minus sig k p) (rows-minus sig k q) (typed-rows p false (h .0)) (typed-rows q false (h .1))
-    typed-rows wild true h = ((o .kind, o .some, o .within), tt)
-    typed-rows wild false h = tt
-    typed-rows absurd-pat true h = tt
-    typed-rows absurd-pat false h = ((o .kind, o .some, o .within), tt)
-    typed-rows (neg p) true h = typed-rows p false h
-    typed-rows (neg p) false h = typed-rows p true h
-    typed-rows (var x) true h = ((o .kind, o .some, o .within), tt)
-    typed-rows (var x) false h = tt
-
 -- ---- the leaves, as they are written
 pub one-list : (t v f : ℕ) (o : List ℕ) → 5 ≤ length o → Product (3 ∷ (t ∷ (v ∷ (f ∷ [])))) 4 (set (set (set (set (set o 0 3) 1 t) 2 v) 3 f) 4 0)
 one-list t v f [] h = absurd (omega arith)
@@ -118,78 +106,96 @@ pub leaf-is : (w t f v n : ℕ) (b c : Bool) (o : List ℕ) → eqb w 259 ≡ c 
 leaf-is w t f v n b c o e q h = rw (e, ← q) h
 
 -- ---- what a pattern is, by its first word
-module _ (K : Kinds) (sig : Signature) (k : ℕ) where
-  pub record Negated (p : Pattern) (b : Bool) (n m : ℕ) : Type 0 where
+parts-of : (a b c : Bool) → (a && b && c) ≡ true → (a ≡ true) × (b ≡ true) × (c ≡ true)
+parts-of a b c e = (and-left a b (and-left (a && b) c e), and-right a b (and-left (a && b) c e), and-right (a && b) c e)
+
+module _ (sig : Signature) (k : ℕ) where
+  pub record Negated (p : Pattern) (b : Bool) : Type 0 where
     pub q : Pattern
     pub code-is : pattern-code p ≡ 260 ∷ pattern-code q
+    pub well : WellFormed sig k q
+    pub light : light-of (not b) q ≡ true
     pub plain : Plain q
-    pub enough : Enough K sig k q (not b) n m
     pub rows-is : rows-of sig k b p ≡ rows-of sig k (not b) q
 
-  pub negated : (p : Pattern) (b : Bool) (n m : ℕ) (rest : List ℕ) → Plain p → Enough K sig k p b n m → getD (pattern-code p ++ rest) 0 0 ≡ 260 → Negated p b n m
-  negated (head c ps) b n m rest h e w = absurd h
-  negated (and p q) b n m rest h e w = absurd (omega (arith, w))
-  negated (or p q) b n m rest h e w = absurd (omega (arith, w))
-  negated wild b n m rest h e w = absurd (omega (arith, w))
-  negated absurd-pat b n m rest h e w = absurd (omega (arith, w))
-  negated (neg p) true n m rest h e w = record { q = p; code-is = refl; plain = h; enough = e; rows-is = refl }
-  negated (neg p) false n m rest h e w = record { q = p; code-is = refl; plain = h; enough = e; rows-is = refl }
-  negated (var x) b n m rest h e w = absurd (omega (arith, w))
+  pub negated : (p : Pattern) (b : Bool) (rest : List ℕ) → WellFormed sig k p → light-of b p ≡ true → Plain p → getD (pattern-code p ++ rest) 0 0 ≡ 260 → Negated p b
+  negated (head c ps) b rest h l e w = absurd e
+  negated (and p q) b rest h l e w = absurd (omega (arith, w))
+  negated (or p q) b rest h l e w = absurd (omega (arith, w))
+  negated wild b rest h l e w = absurd (omega (arith, w))
+  negated absurd-pat b rest h l e w = absurd (omega (arith, w))
+  negated (neg p) true rest (well-not h) l e w = record { q = p; code-is = refl; well = h; light = l; plain = e; rows-is = refl }
+  negated (neg p) false rest (well-not h) l e w = record { q = p; code-is = refl; well = h; light = l; plain = e; rows-is = refl }
+  negated (var x) b rest h l e w = absurd (omega (arith, w))
+
+  -- two parts: their words and what holds of each
+  pub record Two (p : Pattern) (b : Bool) : Type 0 where
+    pub word : ℕ
+    pub q : Pattern
+    pub r : Pattern
+    pub code-is : pattern-code p ≡ word ∷ (pattern-code q ++ pattern-code r)
+    pub well : WellFormed sig k q × WellFormed sig k r
+    pub light : (light-of b q ≡ true) × (light-of b r ≡ true)
+    pub plain : Plain q × Plain r
 
   -- two parts that are multiplied
-  pub record Multiplied (p : Pattern) (b : Bool) (n m : ℕ) : Type 0 where
-    pub word : ℕ
-    pub q : Pattern
-    pub r : Pattern
-    pub code-is : pattern-code p ≡ word ∷ (pattern-code q ++ pattern-code r)
-    pub plain : Plain q × Plain r
-    pub first : Enough K sig k q b m n
-    pub second : Enough K sig k r b (m - (used-by K sig k b q + 1)) n
-    pub room : room-all K k (rows-of sig k b q) (rows-of sig k b r) + 1 ≤ n
-    pub rows-is : rows-of sig k b p ≡ somes (each combine (rows-of sig k b q) (rows-of sig k b r))
+  pub record Multiplied (p : Pattern) (b : Bool) : Type 0 where
+    pub two : Two p b
+    pub few : length (rows-of sig k b (two .q)) * length (rows-of sig k b (two .r)) ≤ 64
+    pub rows-is : rows-of sig k b p ≡ somes (each combine (rows-of sig k b (two .q)) (rows-of sig k b (two .r)))
 
-  pub multiplied : (p : Pattern) (b : Bool) (n m : ℕ) (rest : List ℕ) → Plain p → Enough K sig k p b n m → multiplies (getD (pattern-code p ++ rest) 0 0) b ≡ true → Multiplied p b n m
-  multiplied (head c ps) b n m rest h e w = absurd h
-  multiplied (and p q) true n m rest h e w = record { word = 256; q = p; r = q; code-is = refl; plain = h; first = e .0; second = e .1; room = e .2; rows-is = refl }
-  multiplied (and p q) false n m rest h e w = true≢false (sym w)
-  multiplied (or p q) true n m rest h e w = true≢false (sym w)
-  multiplied (or p q) false n m rest h e w = record { word = 257; q = p; r = q; code-is = refl; plain = h; first = e .0; second = e .1; room = e .2; rows-is = refl }
-  multiplied wild true n m rest h e w = true≢false (sym w)
-  multiplied wild false n m rest h e w = true≢false (sym w)
-  multiplied absurd-pat true n m rest h e w = true≢false (sym w)
-  multiplied absurd-pat false n m rest h e w = true≢false (sym w)
-  multiplied (neg p) true n m rest h e w = true≢false (sym w)
-  multiplied (neg p) false n m rest h e w = true≢false (sym w)
-  multiplied (var x) true n m rest h e w = absurd (omega (arith, eqb-eq (261 + x) 256 w))
-  multiplied (var x) false n m rest h e w = absurd (omega (arith, eqb-eq (261 + x) 257 w))
+  pub multiplied : (p : Pattern) (b : Bool) (rest : List ℕ) → WellFormed sig k p → light-of b p ≡ true → Plain p → multiplies (getD (pattern-code p ++ rest) 0 0) b ≡ true → Multiplied p b
+  multiplied (head c ps) b rest h l e w = absurd e
+  multiplied (and p q) true rest (well-and h i) l e w =
+      let s = parts-of (leb (weight-plus p * weight-plus q) 64) (light-plus p) (light-plus q) l in
+      record {
+        two = record { word = 256; q = p; r = q; code-is = refl; well = (h, i); light = (s .1, s .2); plain = e };
+        few = le-trans (times-less (length (rows-plus sig k p)) (weight-plus p) (length (rows-plus sig k q)) (weight-plus q) (plus-count sig p k) (plus-count sig q k)) (le-of (weight-plus p * weight-plus q) 64 (s .0));
+        rows-is = refl;
+      }
+  multiplied (and p q) false rest h l e w = true≢false (sym w)
+  multiplied (or p q) true rest h l e w = true≢false (sym w)
+  multiplied (or p q) false rest (well-or h i) l e w =
+      let s = parts-of (leb (weight-minus p * weight-minus q) 64) (light-minus p) (light-minus q) l in
+      record {
+        two = record { word = 257; q = p; r = q; code-is = refl; well = (h, i); light = (s .1, s .2); plain = e };
+        few = le-trans (times-less (length (rows-minus sig k p)) (weight-minus p) (length (rows-minus sig k q)) (weight-minus q) (minus-count sig p k) (minus-count sig q k)) (le-of (weight-minus p * weight-minus q) 64 (s .0));
+        rows-is = refl;
+      }
+  multiplied wild true rest h l e w = true≢false (sym w)
+  multiplied wild false rest h l e w = true≢false (sym w)
+  multiplied absurd-pat true rest h l e w = true≢false (sym w)
+  multiplied absurd-pat false rest h l e w = true≢false (sym w)
+  multiplied (neg p) true rest h l e w = true≢false (sym w)
+  multiplied (neg p) false rest h l e w = true≢false (sym w)
+  multiplied (var x) true rest h l e w = absurd (omega (arith, eqb-eq (261 + x) 256 w))
+  multiplied (var x) false rest h l e w = absurd (omega (arith, eqb-eq (261 + x) 257 w))
 
   -- two parts that are added
-  pub record Added (p : Pattern) (b : Bool) (n m : ℕ) : Type 0 where
-    pub word : ℕ
-    pub q : Pattern
-    pub r : Pattern
-    pub code-is : pattern-code p ≡ word ∷ (pattern-code q ++ pattern-code r)
-    pub plain : Plain q × Plain r
-    pub first : Enough K sig k q b n m
-    pub second : Enough K sig k r b (n - used-by K sig k b q) m
-    pub rows-is : rows-of sig k b p ≡ rows-of sig k b q ++ rows-of sig k b r
+  pub record Added (p : Pattern) (b : Bool) : Type 0 where
+    pub two : Two p b
+    pub rows-is : rows-of sig k b p ≡ rows-of sig k b (two .q) ++ rows-of sig k b (two .r)
 
-  pub added : (p : Pattern) (b : Bool) (n m : ℕ) (rest : List ℕ) → Plain p → Enough K sig k p b n m → multiplies (getD (pattern-code p ++ rest) 0 0) b ≡ false → getD (pattern-code p ++ rest) 0 0 < 258 → Added p b n m
-  added (head c ps) b n m rest h e w l = absurd h
-  added (and p q) true n m rest h e w l = true≢false w
-  added (and p q) false n m rest h e w l = record { word = 256; q = p; r = q; code-is = refl; plain = h; first = e .0; second = e .1; rows-is = refl }
-  added (or p q) true n m rest h e w l = record { word = 257; q = p; r = q; code-is = refl; plain = h; first = e .0; second = e .1; rows-is = refl }
-  added (or p q) false n m rest h e w l = true≢false w
-  added wild b n m rest h e w l = absurd (omega (arith, l))
-  added absurd-pat b n m rest h e w l = absurd (omega (arith, l))
-  added (neg p) b n m rest h e w l = absurd (omega (arith, l))
-  added (var x) b n m rest h e w l = absurd (omega (arith, l))
+  pub added : (p : Pattern) (b : Bool) (rest : List ℕ) → WellFormed sig k p → light-of b p ≡ true → Plain p → multiplies (getD (pattern-code p ++ rest) 0 0) b ≡ false → getD (pattern-code p ++ rest) 0 0 < 258 → Added p b
+  added (head c ps) b rest h l e w z = absurd e
+  added (and p q) true rest h l e w z = true≢false w
+  added (and p q) false rest (well-and h i) l e w z =
+      let s = parts-of (leb (weight-minus p + weight-minus q) 64) (light-minus p) (light-minus q) l in
+      record { two = record { word = 256; q = p; r = q; code-is = refl; well = (h, i); light = (s .1, s .2); plain = e }; rows-is = refl }
+  added (or p q) true rest (well-or h i) l e w z =
+      let s = parts-of (leb (weight-plus p + weight-plus q) 64) (light-plus p) (light-plus q) l in
+      record { two = record { word = 257; q = p; r = q; code-is = refl; well = (h, i); light = (s .1, s .2); plain = e }; rows-is = refl }
+  added (or p q) false rest h l e w z = true≢false w
+  added wild b rest h l e w z = absurd (omega (arith, z))
+  added absurd-pat b rest h l e w z = absurd (omega (arith, z))
+  added (neg p) b rest h l e w z = absurd (omega (arith, z))
+  added (var x) b rest h l e w z = absurd (omega (arith, z))
 
+module _ (K : Kinds) (sig : Signature) (k : ℕ) where
   -- a leaf
-  pub record Leaf (p : Pattern) (b : Bool) (n w tag full : ℕ) : Type 0 where
+  pub record Leaf (p : Pattern) (b : Bool) (w tag full : ℕ) : Type 0 where
     pub code-is : pattern-code p ≡ w ∷ []
     pub word : w ≤ 276
-    pub room : 5 ≤ n
     pub rows-is : leaf-entries w b tag full ≡ entries K k (rows-of sig k b p)
 
 module _ (K : Kinds) (sig : Signature) (k : ℕ) where
@@ -202,15 +208,15 @@ var-row x h = let e : 261 + x - 261 ≡ x - 0 = omega arith in rw (le-ltb (261 +
 
 module _ (K : Kinds) (sig : Signature) (k : ℕ) where
   module _ (tag full : ℕ) (o : Open K sig k tag full) where
-    pub leaf-of : (p : Pattern) (b : Bool) (n m : ℕ) (rest : List ℕ) → Plain p → Enough K sig k p b n m → ¬ (getD (pattern-code p ++ rest) 0 0 ≡ 260) → 258 ≤ getD (pattern-code p ++ rest) 0 0
-        → Leaf K sig k p b n (getD (pattern-code p ++ rest) 0 0) tag full
-    leaf-of (head c ps) b n m rest h e w l = absurd h
-    leaf-of (and p q) b n m rest h e w l = absurd (omega (arith, l))
-    leaf-of (or p q) b n m rest h e w l = absurd (omega (arith, l))
-    leaf-of wild true n m rest h e w l = record { code-is = refl; word = omega arith; room = e; rows-is = one-row K sig k tag full o 0 [] (sym (mask-nil 0)) }
-    leaf-of wild false n m rest h e w l = record { code-is = refl; word = omega arith; room = e; rows-is = refl }
-    leaf-of absurd-pat true n m rest h e w l = record { code-is = refl; word = omega arith; room = e; rows-is = refl }
-    leaf-of absurd-pat false n m rest h e w l = record { code-is = refl; word = omega arith; room = e; rows-is = one-row K sig k tag full o 0 [] (sym (mask-nil 0)) }
-    leaf-of (neg p) b n m rest h e w l = absurd (w refl)
-    leaf-of (var x) true n m rest h e w l = record { code-is = refl; word = omega (arith, h); room = e; rows-is = rw (ne-eqb (261 + x) 259 (λ z. omega (arith, z))) (one-row K sig k tag full o (vars-of (261 + x)) (x ∷ []) (var-row x h)) }
-    leaf-of (var x) false n m rest h e w l = record { code-is = refl; word = omega (arith, h); room = e; rows-is = rw (ne-eqb (261 + x) 259 (λ z. omega (arith, z))) }
+    pub leaf-of : (p : Pattern) (b : Bool) (rest : List ℕ) → WellFormed sig k p → Plain p → ¬ (getD (pattern-code p ++ rest) 0 0 ≡ 260) → 258 ≤ getD (pattern-code p ++ rest) 0 0
+        → Leaf K sig k p b (getD (pattern-code p ++ rest) 0 0) tag full
+    leaf-of (head c ps) b rest s h w l = absurd h
+    leaf-of (and p q) b rest s h w l = absurd (omega (arith, l))
+    leaf-of (or p q) b rest s h w l = absurd (omega (arith, l))
+    leaf-of wild true rest s h w l = record { code-is = refl; word = omega arith; rows-is = one-row K sig k tag full o 0 [] (sym (mask-nil 0)) }
+    leaf-of wild false rest s h w l = record { code-is = refl; word = omega arith; rows-is = refl }
+    leaf-of absurd-pat true rest s h w l = record { code-is = refl; word = omega arith; rows-is = refl }
+    leaf-of absurd-pat false rest s h w l = record { code-is = refl; word = omega arith; rows-is = one-row K sig k tag full o 0 [] (sym (mask-nil 0)) }
+    leaf-of (neg p) b rest s h w l = absurd (w refl)
+    leaf-of (var x) true rest s h w l = record { code-is = refl; word = omega (arith, h); rows-is = rw (ne-eqb (261 + x) 259 (λ z. omega (arith, z))) (one-row K sig k tag full o (vars-of (261 + x)) (x ∷ []) (var-row x h)) }
+    leaf-of (var x) false rest s h w l = record { code-is = refl; word = omega (arith, h); rows-is = rw (ne-eqb (261 + x) 259 (λ z. omega (arith, z))) }

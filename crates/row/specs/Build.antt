@@ -3,16 +3,19 @@ use mathlib.Core.Path.{_≡_}
 use mathlib.Core.List.{List, _∷_, [], _++_}
 use mathlib.Core.Option.{some}
 use mathlib.Core.Bool.{Bool, true, false, cond, not}
-use Prim.Native.Nat.{ℕ, _<_, _^_, _-_, _+_, _≤_}
+use Prim.Native.Nat.{ℕ, _<_, _^_, _-_, _+_, _*_, _≤_}
 use lib.Dec.{eqb, ltb}
 use lib.ListN.{length}
+use Rattle.signature.specs.Decoded.{Known}
 use Rattle.signature.specs.Lists.{is-empty}
 use Rattle.signature.specs.Signature.{Signature, heads}
 use Rattle.pattern.specs.Pattern.{Pattern, head, and, or, wild, absurd-pat, neg, var, pattern-code}
 use Rattle.pattern.specs.Weight.{light-plus, light-minus}
+use Rattle.pattern.specs.WellFormed.{WellFormed}
 use Rattle.row.specs.Cell.{Kinds}
+use Rattle.row.specs.Coded.{kinds-of}
 use Rattle.row.specs.Mask.{Within, mask}
-use Rattle.row.specs.Product.{room-all, Product}
+use Rattle.row.specs.Product.{Product}
 use Rattle.row.specs.Row.{Row, rows-plus, rows-minus}
 use Rattle.row.specs.RowList.{entries}
 
@@ -65,30 +68,19 @@ pub record Open (K : Kinds) (sig : Signature) (k tag full : ℕ) : Type 0 where
 abbrev pub used-by : Kinds → Signature → ℕ → Bool → Pattern → ℕ
 used-by K sig k b p = length (entries K k (rows-of sig k b p))
 
-module _ (K : Kinds) (sig : Signature) (k : ℕ) where
-  -- room in a slice of n and a workspace of m words: what each call of the builder asks
-  abbrev pub Enough : Pattern → Bool → ℕ → ℕ → Type 0
-  Enough (head c ps) b n m = ⊥
-  Enough (and p q) true n m = Enough p true m n × Enough q true (m - (used-by K sig k true p + 1)) n × (room-all K k (rows-plus sig k p) (rows-plus sig k q) + 1 ≤ n)
-  Enough (and p q) false n m = Enough p false n m × Enough q false (n - used-by K sig k false p) m
-  Enough (or p q) true n m = Enough p true n m × Enough q true (n - used-by K sig k true p) m
-  Enough (or p q) false n m = Enough p false m n × Enough q false (m - (used-by K sig k false p + 1)) n × (room-all K k (rows-minus sig k p) (rows-minus sig k q) + 1 ≤ n)
-  Enough wild b n m = 5 ≤ n
-  Enough absurd-pat b n m = 5 ≤ n
-  Enough (neg p) true n m = Enough p false n m
-  Enough (neg p) false n m = Enough p true n m
-  Enough (var x) b n m = 5 ≤ n
-
-pub record GivenPat (ar : List ℕ) (tag full : ℕ) (w : List ℕ) (b : Bool) (n m : ℕ) : Type 0 where
-  pub K : Kinds
-  pub sig : Signature
+pub record GivenPat (t : List ℕ) (tag full : ℕ) (w : List ℕ) (b : Bool) (n m : ℕ) : Type 0 where
+  pub known : Known t
   pub k : ℕ
+  pub there : k < known .decoded .n
   pub p : Pattern
   pub rest : List ℕ
   pub code-is : w ≡ pattern-code p ++ rest
+  pub well : WellFormed (known .sig) k p
+  pub light : light-of b p ≡ true
   pub plain : Plain p
-  pub opened : Open K sig k tag full
-  pub enough : Enough K sig k p b n m
+  pub opened : Open (kinds-of (known .sig)) (known .sig) k tag full
+  pub room : room-unit * length (pattern-code p) ≤ n
+  pub work-room : room-unit * length (pattern-code p) ≤ m
 
 -- what was read and written
 pub record Made (K : Kinds) (sig : Signature) (k : ℕ) (b : Bool) (p : Pattern) (used read : ℕ) (o : List ℕ) : Type 0 where

@@ -6,6 +6,7 @@ ghost use lib.ListN.{length};
 ghost use Rattle.row.specs.RowList.{entries};
 ghost use mathlib.Core.List.{[], _∷_};
 ghost use Rattle.row.specs.RowList.{from};
+ghost use Rattle.row.specs.Coded.{kinds-of};
 ghost use Rattle.row.specs.Build.{multiplies, vars-of, leaf-entries, GivenPat, Made};
 ghost use Rattle.row.specs.Product.{GivenProduct, Product, products};
 
@@ -94,7 +95,7 @@ pub fn rows(
     work: &mut [u64],
 ) -> Built
     requires { ⌜ GivenPat (now t) tag full (now p) plus (length (now out)) (length (now work)) ⌝ }
-    ensures { λ r. ⌜ ((g : GivenPat (now (t .entry)) tag full (now (p .entry)) plus (length (now (out .entry))) (length (now (work .entry)))) → Made (g .K) (g .sig) (g .k) plus (g .p) (r .used) (r .read) (now (out .exit))) ⌝ }
+    ensures { λ r. ⌜ ((g : GivenPat (now (t .entry)) tag full (now (p .entry)) plus (length (now (out .entry))) (length (now (work .entry)))) → Made (kinds-of (g .known .sig)) (g .known .sig) (g .k) plus (g .p) (r .used) (r .read) (now (out .exit))) ⌝ }
 {
     let w = p[0];
     if w == 260 {
