@@ -5,6 +5,7 @@ pub mod Row
 pub mod RowFits
 pub mod Laws
 pub mod Cases
+pub mod Arguments
 pub mod Build
 pub mod Cell
 pub mod Coded
