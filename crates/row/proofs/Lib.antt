@@ -21,6 +21,7 @@ pub mod CursorFacts
 pub mod LockstepFacts
 pub mod Masks
 pub mod Meet
+pub mod OneMore
 pub mod Parts
 pub mod Products
 pub mod RowListFacts
