@@ -10,6 +10,7 @@ pub mod RowTheorem
 pub mod Symmetric
 pub mod Cases
 pub mod Laws
+pub mod ArgSteps
 pub mod Behind
 pub mod Building
 pub mod Growing

@@ -9,8 +9,8 @@ use borrow.Author.Tests.{lt-ltb, le-ltb}
 use lib.Dec.{ltb}
 use lib.ListN.{length, set, take, drop, getD, length-append, length-take, length-drop}
 use lib.Seq.{take-take, take-at}
-use Rattle.signature.proofs.Tests.{times-less}
-use Rattle.row.specs.Arguments.{GivenNext, GivenNextMinus, next-rows, Short}
+use Rattle.signature.proofs.Tests.{times-less, true≢false}
+use Rattle.row.specs.Arguments.{GivenNext, GivenNextMinus, GivenNextAt, next-made, next-rows, Short}
 use Rattle.row.specs.Grow.{words-list, ListFirst, RowFirst, GivenGrow, GivenAppends, Filled, grown, appends, grown-room, appends-room}
 use Rattle.row.specs.Product.{Product}
 use Rattle.row.specs.RowList.{from, Begins, costs}
@@ -81,7 +81,7 @@ module _ {lists : List ℕ} {at : ℕ} (tag full : ℕ) (o : List ℕ) (g : Give
 
   module _ (n : ℕ) (o₁ : List ℕ) (same : length o₁ ≡ length o) (f : (q : GivenGrow lists (3 ∷ (tag ∷ (0 ∷ (full ∷ (0 ∷ []))))) (length o)) → Product (words-list (grown (q .left .rows) (q .right .rows))) n o₁) where
     made-wild : Product (words-list (grown (g .next .left .rows) ((tag ∷ (0 ∷ (full ∷ []))) ∷ []))) n o₁
-    unfolding wild-given wild-list
+    unfolding wild-given
     made-wild = f wild-given
 
     pub first-given : (k : ℕ) → k ≡ length (from o₁ n) → (n ≤ length o₁) × GivenAppends (from lists 1) (getD lists 0 0) (from lists at) k
@@ -121,3 +121,21 @@ module _ {lists : List ℕ} {at : ℕ} (tag full : ℕ) (o : List ℕ) (g : Give
           ∙ each-append (λ (w : List ℕ). w) (grown (g .v ∷ g .vs) (W ∷ [])) (appends (g .v) (g .next .right .rows))
           ∙ ap (λ (l : List (List ℕ)). words-list (grown l (W ∷ [])) ++ B) (sym (g .first)) in
           subst (λ (l : List ℕ). Product l (n + m) (set (back o₁ n ys) (n + m) 0)) (sym r) (end-word (back o₁ n ys) (A ++ B) (n + m) b minus-end)
+
+-- ---- by the side
+module _ (lists : List ℕ) (at k : ℕ) where
+  pub at-plus : (b : Bool) → b ≡ true → GivenNextAt b lists at k → GivenNext lists at k
+  at-plus true e g = g
+  at-plus false e g = true≢false (sym e)
+
+  pub at-minus : (b : Bool) → b ≡ false → GivenNextAt b lists at k → GivenNextMinus lists at k
+  at-minus true e g = true≢false e
+  at-minus false e g = g
+
+  pub made-plus : (b : Bool) (tag full r : ℕ) (o : List ℕ) → b ≡ true → ((q : GivenNext lists at k) → Product (words-list (next-rows true [] (q .left .rows) (q .right .rows))) r o) → (g : GivenNextAt b lists at k) → Product (next-made b tag full lists at k g) r o
+  made-plus true tag full r o e f g = f g
+  made-plus false tag full r o e f g = true≢false (sym e)
+
+  pub made-minus : (b : Bool) (tag full r : ℕ) (o : List ℕ) → b ≡ false → ((q : GivenNextMinus lists at k) → Product (words-list (next-rows false (tag ∷ (0 ∷ (full ∷ []))) (q .next .left .rows) (q .next .right .rows))) r o) → (g : GivenNextAt b lists at k) → Product (next-made b tag full lists at k g) r o
+  made-minus true tag full r o e f g = true≢false e
+  made-minus false tag full r o e f g = f g

@@ -1,7 +1,14 @@
 // The rows of a pattern.
 use crate::list::product;
+use signature::decoded::count_of;
+use signature::decoded::first_of;
+use signature::set::full;
+ghost use lib.Dec.{ltb};
+ghost use Rattle.signature.specs.Decoded.{decoded-length, count-of, first-of};
+ghost use Rattle.signature.specs.Limits.{kind-limit};
+ghost use Rattle.signature.specs.Set.{set-limit, bit, bit-if};
 ghost use mathlib.Core.Path.{_≡_};
-ghost use Prim.Native.Nat.{_+_, _≤_, _<_};
+ghost use Prim.Native.Nat.{ℕ, _+_, _-_, _≤_, _<_};
 ghost use lib.ListN.{length};
 ghost use Rattle.row.specs.RowList.{entries};
 ghost use mathlib.Core.List.{[], _∷_};
@@ -77,6 +84,24 @@ fn times(t: &[u16], lists: &[u64], at: usize, out: &mut [u64]) -> usize
     ensures { λ r. ⌜ ((g : GivenProduct (now (t .entry)) (now (lists .entry)) (from (now (lists .entry)) at) (now (out .entry))) → Product (entries (g .K) (g .kind) (products g)) r (now (out .exit))) ⌝ }
 {
     product(t, lists, &lists[at..], out)
+}
+
+// The set of all heads of a kind.
+fn full_of(t: &[u16], k: usize) -> u64
+    requires { ⌜ (length (now t) ≡ decoded-length) × (k < kind-limit) × (count-of (now t) k ≤ set-limit) ⌝ }
+    ensures { λ r. ⌜ ((j : ℕ) → bit r j ≡ bit-if (ltb j (count-of (now (t .entry)) k)) 1 0) ⌝ }
+{
+    full(count_of(t, k) as u32)
+}
+
+// A constructor's place among the heads of the kind whose tag is given.
+fn place_of(t: &[u16], tag: u64, c: usize) -> u32
+    requires { ⌜ (length (now t) ≡ decoded-length) × (256 ≤ tag) × (tag < 256 + kind-limit) × (first-of (now t) (tag - 256) ≤ c) × (c < first-of (now t) (tag - 256) + set-limit) ⌝ }
+    ensures { λ r. ⌜ (r ≡ c - first-of (now (t .entry)) (tag - 256)) × (r < set-limit) ⌝ }
+{
+    let k = (tag - 256) as usize;
+    let f = first_of(t, k) as usize;
+    (c - f) as u32
 }
 
 pub struct Built {

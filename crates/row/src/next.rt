@@ -5,7 +5,7 @@ use crate::grow::count;
 ghost use mathlib.Core.List.{[], _∷_};
 ghost use mathlib.Core.Bool.{true, false};
 ghost use lib.ListN.{length};
-ghost use Rattle.row.specs.Arguments.{GivenNext, GivenNextMinus, next-rows};
+ghost use Rattle.row.specs.Arguments.{GivenNext, GivenNextMinus, GivenNextAt, next-made, next-rows};
 ghost use Rattle.row.specs.Grow.{words-list};
 ghost use Rattle.row.specs.Product.{Product};
 
@@ -37,4 +37,22 @@ pub fn next_minus(tag: u64, full: u64, lists: &[u64], at: usize, out: &mut [u64]
     let end = n + m;
     out[end] = 0;
     end
+}
+
+// One argument more, on one side.
+pub fn next_rows(
+    plus: bool,
+    tag: u64,
+    full: u64,
+    lists: &[u64],
+    at: usize,
+    out: &mut [u64],
+) -> usize
+    requires { ⌜ GivenNextAt plus (now lists) at (length (now out)) ⌝ }
+    ensures { λ r. ⌜ ((g : GivenNextAt plus (now (lists .entry)) at (length (now (out .entry)))) → Product (next-made plus tag full (now (lists .entry)) at (length (now (out .entry))) g) r (now (out .exit))) ⌝ }
+{
+    if plus {
+        return next_plus(lists, at, out);
+    }
+    next_minus(tag, full, lists, at, out)
 }
