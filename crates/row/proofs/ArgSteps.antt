@@ -25,12 +25,12 @@ use Rattle.row.proofs.Behind.{behind-nil}
 use Rattle.row.proofs.Walk.{from-is}
 
 -- ---- lists that are begun are short
-list-le : (n : ℕ) (vs : List (List ℕ)) → Short n vs → length (words-list vs) ≤ length vs * (1 + n)
+pub list-le : (n : ℕ) (vs : List (List ℕ)) → Short n vs → length (words-list vs) ≤ length vs * (1 + n)
 list-le n [] s = omega arith
 list-le n (v ∷ vs) s = rw (suc-mul (length vs) (1 + n)) (simp length-append (omega (arith, list-le n vs (s .1), s .0)))
 
 -- ---- which argument is next
-record NextArg (sig : Signature) (b : Bool) (n : ℕ) (ks : List ℕ) (ps : Patterns) (k : ℕ) (js : List ℕ) : Type 0 where
+pub record NextArg (sig : Signature) (b : Bool) (n : ℕ) (ks : List ℕ) (ps : Patterns) (k : ℕ) (js : List ℕ) : Type 0 where
   pub p : Pattern
   pub qs : Patterns
   pub kinds-are : ks ≡ k ∷ js
@@ -42,7 +42,7 @@ record NextArg (sig : Signature) (b : Bool) (n : ℕ) (ks : List ℕ) (ps : Patt
   pub there : k < n
   pub theres : All (λ j. j < n) js
 
-next-arg : (sig : Signature) (b : Bool) (n k : ℕ) (js ks : List ℕ) (ps : Patterns) → ks ≡ k ∷ js → AllWellFormed sig ks ps → lights-of b ps ≡ true → All (λ j. j < n) ks → NextArg sig b n ks ps k js
+pub next-arg : (sig : Signature) (b : Bool) (n k : ℕ) (js ks : List ℕ) (ps : Patterns) → ks ≡ k ∷ js → AllWellFormed sig ks ps → lights-of b ps ≡ true → All (λ j. j < n) ks → NextArg sig b n ks ps k js
 next-arg sig b n k js ks ps e h l a = go ps (subst (λ (z : List ℕ). AllWellFormed sig z ps) e h) l (subst (λ (z : List ℕ). All (λ j. j < n) z) e a)
   where
     split : (b : Bool) (p : Pattern) (qs : Patterns) → lights-of b (pcons p qs) ≡ true → (light-of b p ≡ true) × (lights-of b qs ≡ true)
@@ -54,7 +54,7 @@ next-arg sig b n k js ks ps e h l a = go ps (subst (λ (z : List ℕ). AllWellFo
         let y = split b p qs z in
         record { p = p; qs = qs; kinds-are = e; parts-are = refl; well = w; wells = ws; light = y .0; lights = y .1; there = t; theres = ts }
 
-drop-next : (j : ℕ) (l : List ℕ) → j < length l → drop j l ≡ getD l j 0 ∷ drop (j + 1) l
+pub drop-next : (j : ℕ) (l : List ℕ) → j < length l → drop j l ≡ getD l j 0 ∷ drop (j + 1) l
 drop-next j [] h = absurd (omega arith)
 drop-next Prim.Native.Nat.zero (x ∷ l) h = refl
 drop-next (suc j) (x ∷ l) h = let z : suc j + 1 ≡ suc (j + 1) = omega arith in rw z (drop-next j l (omega arith))
@@ -67,7 +67,7 @@ no-drop j l h = none-long (drop j l) (omega (arith, length-drop j l))
     none-long (x ∷ l) h = absurd (omega arith)
 
 module _ {t : List ℕ} {c j : ℕ} {w : List ℕ} {b : Bool} {used : ℕ} {o : List ℕ} {m : ℕ} (g : GivenArgs t c j w b used o m) where
-  args-count : arity-of t c ≡ length (arguments (g .known .sig) c)
+  pub args-count : arity-of t c ≡ length (arguments (g .known .sig) c)
   args-count = arity-is (g .known) c (g .head)
 
   -- none is left

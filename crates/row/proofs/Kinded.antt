@@ -64,7 +64,7 @@ module _ {t : List ℕ} (g : Known t) where
         let q = consecutive-of (g .sig) k (g .decoded .n) (g .decoded .kinds-are) in
         subst (λ (f : ℕ). Consecutive f (heads (g .sig) k)) (sym (first-run (q .1) some-head)) (q .1)
 
-    few-heads : length (heads (g .sig) k) ≤ 64
+    pub few-heads : length (heads (g .sig) k) ≤ 64
     few-heads = words-of g .few-heads k (omega (arith, kinds-same))
 
     pub within-kind : Within (first (heads (g .sig) k)) (heads (g .sig) k)

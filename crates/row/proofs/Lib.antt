@@ -22,6 +22,7 @@ pub mod CursorFacts
 pub mod LockstepFacts
 pub mod Masks
 pub mod Meet
+pub mod NextLists
 pub mod OneMore
 pub mod Parts
 pub mod Products

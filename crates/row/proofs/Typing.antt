@@ -24,7 +24,7 @@ use Rattle.row.proofs.Building.{typed-each, typed-append}
 use Rattle.row.proofs.Kinded.{known-head, open-kind, kinds-same, kind-there}
 use Rattle.row.proofs.Masks.{within-keep}
 
-every-append : {A : Type 0} (P : A → Type 0) (xs ys : List A) → Every P xs → Every P ys → Every P (xs ++ ys)
+pub every-append : {A : Type 0} (P : A → Type 0) (xs ys : List A) → Every P xs → Every P ys → Every P (xs ++ ys)
 every-append P [] ys h g = g
 every-append P (a ∷ xs) ys h g = (h .0, every-append P xs ys (h .1) g)
 
