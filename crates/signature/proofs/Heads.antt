@@ -97,7 +97,7 @@ module _ (sig : Signature) where
         (vcons v vs, of-kinds-cons h g, omega arith, omega (arith, depth-size v))
 
 -- numbers from f without gaps
-data Consecutive : ℕ → List ℕ → Type 0 where
+pub data Consecutive : ℕ → List ℕ → Type 0 where
   consecutive-nil : {f : ℕ} → Consecutive f []
   consecutive-cons : {f : ℕ} {xs : List ℕ} → Consecutive (suc f) xs → Consecutive f (f ∷ xs)
 
@@ -144,7 +144,7 @@ consecutive-ahead (c ∷ cs) n k k₀ m e l = go (eqb (c .kind) k₀) (eqb (c .k
         let x : ¬ (suc k₀ ≡ k) = λ w. y (z ∙ w) in
         rw r (g e₂ (omega arith))
 
-consecutive-of : (sig : Signature) (k m : ℕ) → count-kinds sig ≡ some m → (f : ℕ) × Consecutive f (heads sig k)
+pub consecutive-of : (sig : Signature) (k m : ℕ) → count-kinds sig ≡ some m → (f : ℕ) × Consecutive f (heads sig k)
 consecutive-of [] k m e = none≢some e
 consecutive-of (c ∷ cs) k m e = go k (bind-some (require (eqb (c .kind) 0)) _ m e)
   where

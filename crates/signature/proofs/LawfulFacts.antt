@@ -50,7 +50,7 @@ rising-above k m (c ∷ cs) e = go (eqb (c .kind) k) refl (rising-above k m cs) 
     go true q f g = f (rw q at e)
     go false q f g = let (u, e₁, e₂) = bind-some (require (eqb (c .kind) (suc k))) _ m (rw q at e) in omega (arith, g e₂)
 
-kinds-above : (sig : Signature) (m : ℕ) → count-kinds sig ≡ some m → 0 < m
+pub kinds-above : (sig : Signature) (m : ℕ) → count-kinds sig ≡ some m → 0 < m
 kinds-above [] m e = none≢some e
 kinds-above (c ∷ cs) m e = let (u, e₁, e₂) = bind-some (require (eqb (c .kind) 0)) _ m e in rising-above 0 m cs e₂
 
