@@ -50,7 +50,7 @@ pub record OpensAll (t ws : List ℕ) (n : ℕ) (ps : Patterns) : Type 0 where
   pub words : ws ≡ patterns-code ps ++ rest
   pub many : count ps ≡ n
 
-code-word : Pattern → ℕ
+pub code-word : Pattern → ℕ
 code-word (head c ps) = c
 code-word (and p q) = 256
 code-word (or p q) = 257
@@ -59,7 +59,7 @@ code-word absurd-pat = 259
 code-word (neg p) = 260
 code-word (var x) = 261 + x
 
-code-split : (p : Pattern) → pattern-code p ≡ code-word p ∷ patterns-code (inner p)
+pub code-split : (p : Pattern) → pattern-code p ≡ code-word p ∷ patterns-code (inner p)
 unfolding code-word
 code-split (head c ps) = refl
 code-split (and p q) = ap (λ z. 256 ∷ (pattern-code p ++ z)) (sym (append-nil (pattern-code q)))
@@ -73,7 +73,7 @@ pub inner-length : (p : Pattern) → 1 + length (patterns-code (inner p)) ≡ le
 inner-length p = omega (arith, ap length (code-split p))
 
 module _ (sig : Signature) where
-  word-form : {k : ℕ} {p : Pattern} → WellFormed sig k p → form (code-word p) ≡ shape p
+  pub word-form : {k : ℕ} {p : Pattern} → WellFormed sig k p → form (code-word p) ≡ shape p
   unfolding code-word
   word-form (well-head {c = c} l e s) = form-head c l
   word-form (well-and s u) = refl
@@ -83,11 +83,11 @@ module _ (sig : Signature) where
   word-form well-absurd = refl
   word-form (well-var {x = x} l) = let back : 261 + x - 261 ≡ x = omega arith in form-var (261 + x) (omega arith) (omega arith) ∙ ap is-var back
 
-  kind-count : {ks : List ℕ} {ps : Patterns} → AllWellFormed sig ks ps → count ps ≡ length ks
+  pub kind-count : {ks : List ℕ} {ps : Patterns} → AllWellFormed sig ks ps → count ps ≡ length ks
   kind-count well-nil = refl
   kind-count (well-cons s u) = ap suc (kind-count u)
 
-  inner-well : {k : ℕ} {p : Pattern} → WellFormed sig k p → (ks : List ℕ) × AllWellFormed sig ks (inner p)
+  pub inner-well : {k : ℕ} {p : Pattern} → WellFormed sig k p → (ks : List ℕ) × AllWellFormed sig ks (inner p)
   inner-well (well-head {ks = ks} l e s) = (ks, s)
   inner-well (well-and {k = k} s u) = (k ∷ (k ∷ []), well-cons s (well-cons u well-nil))
   inner-well (well-or {k = k} s u) = (k ∷ (k ∷ []), well-cons s (well-cons u well-nil))
@@ -96,7 +96,7 @@ module _ (sig : Signature) where
   inner-well well-absurd = ([], well-nil)
   inner-well (well-var l) = ([], well-nil)
 
-inner-count : {t : List ℕ} (g : Known t) {k : ℕ} {p : Pattern} → WellFormed (g .sig) k p → count (inner p) ≡ part-count t (shape p)
+pub inner-count : {t : List ℕ} (g : Known t) {k : ℕ} {p : Pattern} → WellFormed (g .sig) k p → count (inner p) ≡ part-count t (shape p)
 inner-count g (well-head {k = k} {c = c} {ks = ks} l e s) =
     let (d, e₁, q, a) = constructor-of (g .sig) k c ks e in
     kind-count (g .sig) s ∙ ap length (sym a) ∙ sym (g .decoded .arity c d e₁)

@@ -54,6 +54,7 @@ module _ {A B C : Type 0} where
 abbrev pub open-row : Signature → ℕ → Row
 open-row sig k = free [] (heads sig k)
 
+-- "wildcards elsewhere": one for each kind
 abbrev pub open-rows : Signature → List ℕ → Rows
 open-rows sig [] = rnil
 open-rows sig (k ∷ ks) = rcons (open-row sig k) (open-rows sig ks)

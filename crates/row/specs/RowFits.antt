@@ -35,6 +35,7 @@ abbrev pub kept-fits : Option Row → Value → Bool
 kept-fits none v = false
 kept-fits (some r) v = row-fits r v
 
+-- the same of the arguments' rows
 abbrev pub kept-fit : Option Rows → Values → Bool
 kept-fit none vs = false
 kept-fit (some rs) vs = rows-fit rs vs
@@ -43,6 +44,7 @@ kept-fit (some rs) vs = rows-fit rs vs
 abbrev pub fits-some : List Row → Value → Bool
 fits-some rs v = any (λ r. row-fits r v) rs
 
+-- the same of lists of the arguments' rows
 abbrev pub fits-somes : List Rows → Values → Bool
 fits-somes rss vs = any (λ rs. rows-fit rs vs) rss
 

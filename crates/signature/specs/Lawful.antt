@@ -45,6 +45,7 @@ pub data KindsRise : ℕ → Signature → ℕ → Type 0 where
   rise-same : {k n : ℕ} {c : Constructor} {cs : Signature} → c .kind ≡ k → KindsRise k cs n → KindsRise k (c ∷ cs) n
   rise-next : {k n : ℕ} {c : Constructor} {cs : Signature} → c .kind ≡ suc k → KindsRise (suc k) cs n → KindsRise k (c ∷ cs) n
 
+-- "Kinds start at 0": n kinds in all
 pub data KindsStart : Signature → ℕ → Type 0 where
   start-0 : {n : ℕ} {c : Constructor} {cs : Signature} → c .kind ≡ 0 → KindsRise 0 cs n → KindsStart (c ∷ cs) n
 

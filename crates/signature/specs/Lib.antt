@@ -10,5 +10,3 @@ pub mod Decoded
 pub mod Laws
 pub mod Cases
 pub mod Set
-pub mod Decoding
-pub mod Walk

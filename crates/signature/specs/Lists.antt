@@ -28,15 +28,17 @@ memb x [] = false
 memb x (y ∷ ys) = eqb x y or-else memb x ys
 
 module _ {A : Type 0} where
-  -- the test passes for each; for one; the element at an index
+  -- the test passes for each
   abbrev pub all : (A → Bool) → List A → Bool
   all f [] = true
   all f (x ∷ xs) = f x && all f xs
 
+  -- the test passes for some
   abbrev pub any : (A → Bool) → List A → Bool
   any f [] = false
   any f (x ∷ xs) = f x or-else any f xs
 
+  -- the element at an index
   abbrev pub at : List A → ℕ → Option A
   at [] i = none
   at (x ∷ xs) zero = some x
@@ -53,10 +55,12 @@ abbrev pub is-some : {A : Type 0} → Option A → Bool
 is-some none = false
 is-some (some a) = true
 
+-- the list has none
 abbrev pub is-empty : {A : Type 0} → List A → Bool
 is-empty [] = true
 is-empty (x ∷ xs) = false
 
+-- one list of many
 abbrev pub concat : {A : Type 0} → List (List A) → List A
 concat [] = []
 concat (xs ∷ xss) = xs ++ concat xss

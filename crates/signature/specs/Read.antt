@@ -33,19 +33,22 @@ abbrev pub count-kinds : Signature → Option ℕ
 count-kinds [] = none
 count-kinds (c ∷ cs) = require (eqb (c .kind) 0) >>= λ u. kinds-from 0 cs
 
--- the fewest words of a value of each kind, 7 for none of at most 6; a value nested at most d deep counts
+-- 7 stands for the size of a kind that has no value of at most 6 words
 abbrev pub with-arg : Option ℕ → ℕ → ℕ
 with-arg none t = over-small
 with-arg (some n) t = n + t
 
+-- the fewest words of arguments of these kinds, by the kinds' fewest words
 abbrev pub total : List ℕ → List ℕ → ℕ
 total least [] = 0
 total least (k ∷ ks) = with-arg (at least k) (total least ks)
 
+-- the fewest words of a value of kind k, by the kinds' fewest words
 abbrev pub best : Signature → List ℕ → ℕ → ℕ
 best [] least k = over-small
 best (c ∷ cs) least k = cond (eqb (c .kind) k) (min (suc (total least (c .args))) (best cs least k)) (best cs least k)
 
+-- the fewest words of a value of each kind, nested at most d deep
 abbrev pub least : ℕ → Signature → ℕ → List ℕ
 least zero sig n = map (λ k. over-small) (count-up 0 n)
 least (suc d) sig n = let before = least d sig n in map (λ k. min over-small (best sig before k)) (count-up 0 n)
@@ -55,6 +58,7 @@ abbrev pub lawful-kinds : Signature → Option ℕ → Bool
 lawful-kinds sig none = false
 lawful-kinds sig (some n) = leb 1 (length sig) && leb (length sig) constructor-limit && leb n kind-limit && all (λ k. leb (length (heads sig k)) heads-limit) (count-up 0 n) && all (λ c. all (λ k. ltb k n) (c .args)) sig && all (λ m. leb m small-size) (least small-size sig n)
 
+-- a lawful signature
 abbrev pub lawful : Signature → Bool
 lawful sig = lawful-kinds sig (count-kinds sig)
 

@@ -31,6 +31,7 @@ arguments-at sig k c = do
   _ ← require (eqb (d .kind) k)
   some (d .args)
 
+-- no arguments where there is no constructor
 abbrev pub arguments-or-none : Option Constructor → List ℕ
 arguments-or-none none = []
 arguments-or-none (some d) = d .args

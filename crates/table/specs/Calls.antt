@@ -39,6 +39,7 @@ abbrev pub on-signature : Option Signature → Bool → List ℕ → Start
 on-signature none long table = refused 1
 on-signature (some sig) long table = cond long (on-sound sig (sound sig table)) (refused 2)
 
+-- where a call on a table starts from
 abbrev pub start : List ℕ → Bool → List ℕ → Start
 start ss long table = on-signature (read-signature ss) long table
 
@@ -86,6 +87,7 @@ pub record Shows (sig : Signature) (rs : List Rule) (ws : List ℕ) (witness : L
   pub length-is : e .shown ≡ length booking
   pub witness-is : witness′ ≡ booking ++ drop (length booking) witness
 
+-- an entry is lent a witness buffer too
 abbrev pub enter-start : List ℕ → List ℕ → List ℕ → Start
 enter-start ss before witness = start ss (long-table before && long-witness witness) before
 

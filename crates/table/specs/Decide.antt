@@ -20,6 +20,7 @@ abbrev pub answer-by : Rule → Out → Option Answer
 answer-by r (fail σ) = none
 answer-by r (fit σ) = some (record { rule = r .number; plan = r .plan; places = bind-all σ unbound })
 
+-- the answer that is there, or else the other
 abbrev pub or-none : Option Answer → Answer → Answer
 or-none none a = a
 or-none (some b) a = b

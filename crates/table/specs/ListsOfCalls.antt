@@ -34,11 +34,12 @@ changed (withdraw n) rs = take-out n rs
 abbrev pub reckon-rules : Signature → ListCall → List Rule → List Rule
 reckon-rules sig c rs = cond (eqb (reckon-number sig c rs) 0) (changed c rs) rs
 
--- "At the start no rule is held": the rules that a list leaves, and the numbers reckoned
+-- the rules that a list leaves: "At the start no rule is held"
 abbrev pub rules-left : Signature → List ListCall → List Rule → List Rule
 rules-left sig [] rs = rs
 rules-left sig (c ∷ cs) rs = rules-left sig cs (reckon-rules sig c rs)
 
+-- the numbers reckoned, one for each call
 abbrev pub numbers-reckoned : Signature → List ListCall → List Rule → List ℕ
 numbers-reckoned sig [] rs = []
 numbers-reckoned sig (c ∷ cs) rs = reckon-number sig c rs ∷ numbers-reckoned sig cs (reckon-rules sig c rs)

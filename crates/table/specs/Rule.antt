@@ -10,6 +10,7 @@ use Rattle.pattern.specs.Weight.{weight}
 use Rattle.tree.specs.Limits.{last-number}
 use Rattle.table.specs.Limits.{table-length}
 
+-- number, plan and pattern words
 pub record Rule : Type 0 where
   pub number : ℕ
   pub plan : ℕ
@@ -19,6 +20,7 @@ pub record Rule : Type 0 where
 abbrev pub rule-words : Rule → List ℕ
 rule-words r = r .number ∷ (r .plan ∷ (length (r .pattern) ∷ r .pattern))
 
+-- one rule behind the other
 abbrev pub rules-words : List Rule → List ℕ
 rules-words [] = []
 rules-words (r ∷ rs) = rule-words r ++ rules-words rs

@@ -9,19 +9,23 @@ use Rattle.signature.specs.Lists.{_>>=_, require, all}
 use Rattle.table.specs.Rule.{Rule}
 use Rattle.text.specs.Limits.{digit-limit, last-word, list-limit, text-limit}
 
--- "fixed byte strings such as sig= and book=", as bytes
+-- sig= in bytes: "fixed byte strings such as sig= and book="
 abbrev pub key-sig : List ℕ
 key-sig = 115 ∷ 105 ∷ 103 ∷ 61 ∷ []
 
+-- rule=
 abbrev pub key-rule : List ℕ
 key-rule = 114 ∷ 117 ∷ 108 ∷ 101 ∷ 61 ∷ []
 
+-- plan=
 abbrev pub key-plan : List ℕ
 key-plan = 112 ∷ 108 ∷ 97 ∷ 110 ∷ 61 ∷ []
 
+-- pat=
 abbrev pub key-pat : List ℕ
 key-pat = 112 ∷ 97 ∷ 116 ∷ 61 ∷ []
 
+-- book=
 abbrev pub key-book : List ℕ
 key-book = 98 ∷ 111 ∷ 111 ∷ 107 ∷ 61 ∷ []
 
@@ -41,24 +45,28 @@ ended [] = none
 ended (f ∷ []) = elim f [ [] ↦ some [] | b ∷ bs ↦ none ]
 ended (f ∷ (g ∷ gs)) = ended (g ∷ gs) >>= λ ls. some (f ∷ ls)
 
--- "Numbers have 1 to 5 digits, no leading zero (0 itself is 0), at most 65,535"
+-- a decimal digit
 abbrev pub digit : ℕ → Bool
 digit b = leb 48 b && leb b 57
 
+-- what digits are worth behind a number n
 abbrev pub worth : ℕ → List ℕ → ℕ
 worth n [] = n
 worth n (b ∷ bs) = worth (10 * n + (b - 48)) bs
 
+-- "no leading zero (0 itself is 0)"
 abbrev pub leading-zero : List ℕ → Bool
 leading-zero [] = false
 leading-zero (b ∷ []) = false
 leading-zero (b ∷ (c ∷ bs)) = eqb b 48
 
+-- "Numbers have 1 to 5 digits, no leading zero (0 itself is 0), at most 65,535"
 abbrev pub number : List ℕ → Option ℕ
 number bs = do
   _ ← require (leb 1 (length bs) && leb (length bs) digit-limit && all digit bs && not (leading-zero bs) && leb (worth 0 bs) last-word)
   some (worth 0 bs)
 
+-- one number for each part
 abbrev pub numbers : List (List ℕ) → Option (List ℕ)
 numbers [] = some []
 numbers (f ∷ fs) = do
@@ -79,10 +87,11 @@ after-key [] bs = some bs
 after-key (k ∷ ks) [] = none
 after-key (k ∷ ks) (b ∷ bs) = require (eqb k b) >>= λ u. after-key ks bs
 
--- a line of a list; a line "and one for rule= and plan="
+-- a line of a list
 abbrev pub list-after : List ℕ → List ℕ → Option (List ℕ)
 list-after key bs = after-key key bs >>= λ rest. list rest
 
+-- "and one for rule= and plan="
 abbrev pub number-after : List ℕ → List ℕ → Option ℕ
 number-after key bs = after-key key bs >>= λ rest. number rest
 

@@ -19,6 +19,7 @@ pub record ListOk (ns : List ℕ) : Type 0 where
   pub at-most : length ns ≤ list-limit
   pub words : All (λ n. n ≤ last-word) ns
 
+-- "one for rule= and plan="; the pattern is a list
 pub record RuleOk (r : Rule) : Type 0 where
   pub number-ok : r .number ≤ last-word
   pub plan-ok : r .plan ≤ last-word

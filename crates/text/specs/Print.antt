@@ -17,10 +17,11 @@ use Rattle.table.specs.Rule.{Rule, add-rule}
 use Rattle.text.specs.Format.{key-rule, key-plan, Text, read-text}
 use Rattle.text.specs.Limits.{digit-limit}
 
--- the bytes of bind= and refused=
+-- bind=
 abbrev pub key-bind : List ℕ
 key-bind = 98 ∷ 105 ∷ 110 ∷ 100 ∷ 61 ∷ []
 
+-- refused=
 abbrev pub key-refused : List ℕ
 key-refused = 114 ∷ 101 ∷ 102 ∷ 117 ∷ 115 ∷ 101 ∷ 100 ∷ 61 ∷ []
 
@@ -63,6 +64,7 @@ pub data EnteredAll : Type 0 where
   stopped : ℕ → EnteredAll
   entered : List Rule → EnteredAll
 
+-- the rules of the text entered behind those that are in
 abbrev pub enter-all : Signature → List Rule → List Rule → EnteredAll
 enter-all sig [] rs = entered rs
 enter-all sig (q ∷ qs) rs =
@@ -75,6 +77,7 @@ abbrev pub print-decided : Signature → List Rule → Option Value → List ℕ
 print-decided sig rs none = print-refused 13
 print-decided sig rs (some v) = print-answer (direct default-plan sig rs v)
 
+-- what is printed when the rules are in, or one was refused
 abbrev pub print-entered : Signature → List ℕ → EnteredAll → List ℕ
 print-entered sig bs (stopped n) = print-refused n
 print-entered sig bs (entered rs) = print-decided sig rs (read-booking sig bs)

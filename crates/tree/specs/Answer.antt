@@ -3,6 +3,7 @@ use mathlib.Core.List.{List}
 use Prim.Native.Nat.{ℕ}
 use Rattle.pattern.specs.Places.{unbound}
 
+-- rule, plan and the places of variables 0 to 15
 pub record Answer : Type 0 where
   pub rule : ℕ
   pub plan : ℕ

@@ -1,0 +1,4 @@
+pub mod WalkLaws
+pub mod WalkSteps
+pub mod SpanLaws
+pub mod PartLaws

@@ -1,0 +1,221 @@
+-- What decoding answers, step by step.
+use mathlib.Core.Path.{_≡_, refl, sym, ap, ap₂, _∙_, subst}
+use mathlib.Core.List.{List, [], _∷_}
+use mathlib.Core.Option.{Option, none, some}
+use mathlib.Core.Bool.{Bool, true, false, _&&_}
+use Prim.Native.Nat.{ℕ, zero, suc, _+_, _*_, _≤_, _<_}
+use native.Mathlib.Nat.{zero-add}
+use native.Mathlib.Decide.{decLe}
+use native.Mathlib.Omega.{arith}
+use lib.ListN.{length, getD, drop}
+use lib.Dec.{leb, ltb, eqb}
+use Rattle.signature.specs.Limits.{constructor-limit, kind-limit, heads-limit, small-size}
+use Rattle.signature.specs.Lists.{_>>=_, require, at, all, count-up, is-some}
+use Rattle.signature.specs.Lawful.{SignatureWords}
+use Rattle.signature.specs.Read.{read-constructors, read-signature, count-kinds, lawful, lawful-kinds, least}
+use Rattle.signature.specs.Signature.{Signature, Constructor, heads}
+use Rattle.signature.specs.Decoded.{Decoded, stride, kinds-at, arity-of, argument-of, count-of}
+use Rattle.decoding.specs.Decoding.{row, rows, SameBelow, Arities, RowsRead, InOrder, kinds-or-0, Fit, KindsNoted, sizes-after, lowest}
+use Rattle.signature.proofs.Booleans.{and-false}
+use Rattle.signature.proofs.Members.{some-when}
+use Rattle.signature.proofs.ListFacts.{at-count, at-count-is, at-out, test-at}
+use Rattle.signature.proofs.Counting.{counted-length}
+use Rattle.signature.proofs.Tests.{none≢some, some-inj, bind-some, leb-yes, leb-no, le-of}
+use Rattle.signature.proofs.SignatureBack.{signature-is}
+use Rattle.decoding.proofs.Rows.{row-same, rows-same}
+use Rattle.decoding.proofs.Ordering.{rising}
+use Rattle.decoding.proofs.Narrow.{Exist, size-same, small-same, head-same}
+
+-- both promises of decoding
+abbrev pub Answer : List ℕ → Bool → List ℕ → Type 0
+Answer w r u = (r ≡ is-some (read-signature w)) × ((sig : Signature) → read-signature w ≡ some sig → Decoded sig u)
+
+refused : (w u : List ℕ) → read-signature w ≡ none → Answer w false u
+refused w u e = (rw e, λ sig f. none≢some (sym e ∙ f))
+
+-- the constructor count is wrong, or there is none
+module _ (w u : List ℕ) where
+  never : ((sig : Signature) → SignatureWords w sig → ⊥) → Answer w false u
+  never f = refused w u (go (read-signature w) refl)
+    where
+      go : (o : Option Signature) → read-signature w ≡ o → read-signature w ≡ none
+      go none e = e
+      go (some sig) e = absurd (f sig (signature-is w sig e))
+
+  counts : (sig : Signature) → SignatureWords w sig → getD w 0 0 ≡ length sig
+  counts sig h = ap (λ z. getD z 0 0) (h .is-code)
+
+  pub no-words : length w ≡ 0 → Answer w false u
+  no-words l = never (λ sig h. omega (arith, ap length (h .is-code)))
+
+  pub no-constructors : (n : ℕ) → n ≡ getD w 0 0 → n ≡ 0 → Answer w false u
+  no-constructors n e l = never (λ sig h. omega (arith, counts sig h, h .some-constructor))
+
+  pub many-constructors : (n : ℕ) → n ≡ getD w 0 0 → constructor-limit < n → Answer w false u
+  many-constructors n e l = never (λ sig h. omega (arith, counts sig h, h .at-most))
+
+read-is : (w : List ℕ) (o : Option Signature) → 0 < length w → read-constructors (getD w 0 0) (drop 1 w) ≡ o → read-signature w ≡ (o >>= λ sig. require (lawful sig) >>= λ x. some sig)
+read-is [] o l e = absurd (omega arith)
+read-is (n ∷ ws) o l e = ap (λ z. z >>= λ sig. require (lawful sig) >>= λ x. some sig) e
+
+pub not-read : (w u v : List ℕ) (n : ℕ) (b : Bool) → 0 < length w → n ≡ getD w 0 0 → RowsRead (drop 1 w) n u b → b ≡ false → Answer w false v
+not-read w u v n b l e h z = refused w v (read-is w none l (ap (λ x. read-constructors x (drop 1 w)) (sym e) ∙ h .refused z))
+
+-- the tests of `lawful`
+abbrev Few : Signature → ℕ → Bool
+Few sig m = all (λ k. leb (length (heads sig k)) heads-limit) (count-up 0 m)
+
+abbrev There : Signature → ℕ → Bool
+There sig m = all (λ c. all (λ k. ltb k m) (c .args)) sig
+
+abbrev Small : Signature → ℕ → Bool
+Small sig m = all (λ j. leb j small-size) (least small-size sig m)
+
+lawful-is : (sig : Signature) (m : ℕ) → count-kinds sig ≡ some m → 1 ≤ length sig → length sig ≤ constructor-limit → m ≤ kind-limit → lawful sig ≡ (Few sig m && There sig m && Small sig m)
+lawful-is sig m e a b c = ap (lawful-kinds sig) e ∙ rw (leb-yes 1 (length sig) a, leb-yes (length sig) constructor-limit b, leb-yes m kind-limit c)
+
+kinds-positive : (sig : Signature) (m : ℕ) → count-kinds sig ≡ some m → 0 < m
+kinds-positive [] m e = none≢some e
+kinds-positive (c ∷ cs) m e = let (u, e₁, e₂) = bind-some (require (eqb (c .kind) 0)) _ m e in omega (arith, rising 0 m cs e₂)
+
+kinds-known : (o : Option ℕ) (m : ℕ) → m ≡ kinds-or-0 o → 0 < m → o ≡ some m
+kinds-known none m e l = absurd (omega arith)
+kinds-known (some j) m e l = go (leb j kind-limit) refl
+  where
+    go : (b : Bool) → leb j kind-limit ≡ b → some j ≡ some m
+    go true q = ap some (sym (e ∙ (rw q)))
+    go false q = absurd (let z : m ≡ 0 = e ∙ (rw q) in omega arith)
+
+and-none : (a b c : Bool) → b ≡ false → (a && b && c) ≡ false
+and-none true b c e = rw e
+and-none false b c e = refl
+
+not-ordered : (sig : Signature) → 0 ≡ kinds-or-0 (count-kinds sig) → lawful sig ≡ false
+not-ordered sig h = go (count-kinds sig) refl
+  where
+    far : (j : ℕ) → kind-limit < j → lawful-kinds sig (some j) ≡ false
+    far j l = rw (leb-no j kind-limit l, and-false (leb 1 (length sig) && leb (length sig) constructor-limit))
+
+    go : (o : Option ℕ) → count-kinds sig ≡ o → lawful-kinds sig o ≡ false
+    go none e = refl
+    go (some j) e = on (decLe j kind-limit)
+      where
+        on : Dec (j ≤ kind-limit) → lawful-kinds sig (some j) ≡ false
+        on (yes l) = absurd (let z : 0 ≡ j = h ∙ ap kinds-or-0 e ∙ (rw (leb-yes j kind-limit l)) in omega (arith, kinds-positive sig j e))
+        on (no l) = far j (omega arith)
+
+all-same : (f g : ℕ → Bool) (i n : ℕ) → ((j : ℕ) → i ≤ j → j < i + n → f j ≡ g j) → all f (count-up i n) ≡ all g (count-up i n)
+all-same f g i zero e = refl
+all-same f g i (suc n) e = ap₂ _&&_ (e i (omega arith) (omega arith)) (all-same f g (suc i) n (λ j l m. e j (omega arith) (omega arith)))
+
+at-within : {A : Type 0} (xs : List A) (i : ℕ) (a : A) → at xs i ≡ some a → i < length xs
+at-within xs i a e = go (decLe (length xs) i)
+  where
+    go : Dec (length xs ≤ i) → i < length xs
+    go (yes l) = none≢some (sym (at-out xs i l) ∙ e)
+    go (no l) = omega arith
+
+-- the rows of n constructors have been read into u
+pub record Begun (w : List ℕ) (n : ℕ) (u : List ℕ) : Type 0 where
+  pub some-word : 0 < length w
+  pub count : n ≡ getD w 0 0
+  pub one : ¬ (n ≡ 0)
+  pub most : n ≤ constructor-limit
+  pub taken : read-constructors n (drop 1 w) ≡ some (rows u 0 n)
+  pub few-arguments : Arities u n
+
+module _ {w : List ℕ} {n : ℕ} {u : List ℕ} (b : Begun w n u) where
+  signed : read-signature w ≡ (require (lawful (rows u 0 n)) >>= λ x. some (rows u 0 n))
+  signed = read-is w (some (rows u 0 n)) (b .some-word) (ap (λ x. read-constructors x (drop 1 w)) (sym (b .count)) ∙ b .taken)
+
+  unlawful : (x : List ℕ) → lawful (rows u 0 n) ≡ false → Answer w false x
+  unlawful x e = refused w x (signed ∙ rw e)
+
+  pub unordered : (v x : List ℕ) (m : ℕ) → InOrder u n v m → m ≡ 0 → Answer w false x
+  unordered v x m o e = unlawful x (not-ordered (rows u 0 n) (sym e ∙ o .counted))
+
+  pub arities : (v : List ℕ) (m : ℕ) → InOrder u n v m → Arities v n
+  arities v m o c l = omega (arith, b .most, o .rows-same (stride * c + 1) (omega (arith, b .most)), b .few-arguments c l)
+
+-- their kinds are in order, m of them
+pub record Ranked (w : List ℕ) (n : ℕ) (u v : List ℕ) (m : ℕ) : Type 0 where
+  pub begun : Begun w n u
+  pub order : InOrder u n v m
+  pub some-kind : ¬ (m ≡ 0)
+
+module _ {w : List ℕ} {n : ℕ} {u v : List ℕ} {m : ℕ} (k : Ranked w n u v m) where
+  most : n ≤ constructor-limit
+  most = k .begun .most
+
+  long : length (rows u 0 n) ≡ n
+  long = counted-length (λ d. row u d) 0 n
+
+  same : rows v 0 n ≡ rows u 0 n
+  same = rows-same u v kinds-at n (k .order .rows-same) (omega (arith, most)) (k .begun .few-arguments)
+
+  kind-there : 0 < m
+  kind-there = let z : ¬ (m ≡ 0) = k .some-kind in omega arith
+
+  known : count-kinds (rows u 0 n) ≡ some m
+  known = kinds-known (count-kinds (rows u 0 n)) m (k .order .counted) kind-there
+
+  tested : lawful (rows u 0 n) ≡ (Few (rows u 0 n) m && There (rows u 0 n) m && Small (rows u 0 n) m)
+  tested = let z : ¬ (n ≡ 0) = k .begun .one in lawful-is (rows u 0 n) m known (omega (arith, long)) (omega (arith, long, most)) (k .order .few)
+
+  few-is : (f : Bool) → f ≡ all (λ i. leb (count-of v i) heads-limit) (count-up 0 m) → Few (rows u 0 n) m ≡ f
+  few-is f e = sym (e ∙ all-same (λ i. leb (count-of v i) heads-limit) (λ i. leb (length (heads (rows u 0 n) i)) heads-limit) 0 m (λ j l z. ap (λ y. leb y heads-limit) (k .order .noted kind-there j (omega arith) .1)))
+
+  pub many-heads : (x : List ℕ) (f : Bool) → f ≡ all (λ i. leb (count-of v i) heads-limit) (count-up 0 m) → f ≡ false → Answer w false x
+  many-heads x f e z = unlawful (k .begun) x (tested ∙ rw (few-is f e ∙ z))
+
+  there-is : (g : Bool) → g ≡ There (rows v 0 n) m → There (rows u 0 n) m ≡ g
+  there-is g e = sym (e ∙ ap (λ z. There z m) same)
+
+  pub no-kind : (x : List ℕ) (g : Bool) → g ≡ There (rows v 0 n) m → g ≡ false → Answer w false x
+  no-kind x g e z = unlawful (k .begun) x (tested ∙ and-none (Few (rows u 0 n) m) (There (rows u 0 n) m) (Small (rows u 0 n) m) (there-is g e ∙ z))
+
+  pub fit : (g : Bool) → g ≡ There (rows v 0 n) m → g ≡ true → Fit v n
+  fit g e z = record { long = k .order .long; few = most; each = λ c l. record { kind = omega (arith, most, k .order .rows-same (stride * c) (omega (arith, most)), k .order .each kind-there c l, k .order .few); arity = arities (k .begun) v m (k .order) c l; arguments = λ j i. omega (arith, k .order .few, argument c l j i) } }
+    where
+      argument : (c : ℕ) → c < n → (j : ℕ) → j < arity-of v c → argument-of v c j < m
+      argument c l j i =
+          let p : all (λ i. ltb i m) (row v c .args) ≡ true = test-at (λ d. all (λ i. ltb i m) (d .args)) (rows v 0 n) c (row v c) (sym e ∙ z) (at-count (λ d. row v d) 0 n c l ∙ ap (λ i. some (row v i)) (zero-add c)) in
+          le-of (suc (argument-of v c j)) m (test-at (λ i. ltb i m) (row v c .args) j (argument-of v c j) p (at-count (λ i. getD v i 0) (stride * c + 2) (arity-of v c) j i))
+
+  -- the table is whole
+  module _ (x : List ℕ) (f g r : Bool) (ef : f ≡ all (λ i. leb (count-of v i) heads-limit) (count-up 0 m)) (zf : f ≡ true) (eg : g ≡ There (rows v 0 n) m) (zg : g ≡ true) (h : KindsNoted v n m x r) where
+    exist : Exist m (rows u 0 n)
+    exist = there-is g eg ∙ zg
+
+    answer : r ≡ lawful (rows u 0 n)
+    answer = h .small ∙ ap (λ z. all (λ i. leb (getD (sizes-after small-size z) i 0) small-size) (count-up 0 m)) same ∙ sym (tested ∙ rw (few-is f ef ∙ zf, exist) (small-same (rows u 0 n) m exist (k .order .few)))
+
+    kept : SameBelow kinds-at u x
+    kept i l = h .rows-same i l ∙ k .order .rows-same i l
+
+    row-of : (c : ℕ) (d : Constructor) → at (rows u 0 n) c ≡ some d → row x c ≡ d
+    row-of c d e =
+        let l : c < n = omega (arith, at-within (rows u 0 n) c d e, long) in
+        row-same u x kinds-at c kept (omega (arith, most)) (k .begun .few-arguments c l) ∙ ap (λ z. row u z) (sym (zero-add c)) ∙ at-count-is (λ z. row u z) 0 n c d e
+
+    table : Decoded (rows u 0 n) x
+    table = record {
+      n = m;
+      kinds-are = known;
+      long = h .long;
+      kind-count = h .kind-count;
+      constructor-count = h .constructor-count ∙ sym long;
+      kind = λ c d e. ap (λ z. z .kind) (row-of c d e);
+      arity = λ c d e. sym (counted-length (λ z. getD x z 0) (stride * c + 2) (arity-of x c)) ∙ ap (λ z. length (z .args)) (row-of c d e);
+      argument = λ c j i d e a. at-count-is (λ z. getD x z 0) (stride * c + 2) (arity-of x c) j i (ap (λ z. at (z .args) j) (row-of c d e) ∙ a);
+      first-head = λ i l. h .heads-same i l .0 ∙ k .order .noted kind-there i l .0;
+      head-count = λ i l. h .heads-same i l .1 ∙ k .order .noted kind-there i l .1;
+      lowest-least = λ i l. h .lowest-heads i l ∙ ap (λ z. lowest z (sizes-after small-size z) i) same ∙ head-same (rows u 0 n) m exist (k .order .few) i l;
+      smallest = λ i l. h .least-sizes i l ∙ ap (λ z. getD (sizes-after small-size z) i 0) same ∙ size-same (rows u 0 n) m exist (k .order .few) i l;
+    }
+
+    pub decoded : Answer w r x
+    decoded = (answer ∙ sym (ap is-some (signed (k .begun)) ∙ some-when (lawful (rows u 0 n)) (rows u 0 n)), λ sig e. subst (λ z. Decoded z x) (same-sig sig e) table)
+      where
+        same-sig : (sig : Signature) → read-signature w ≡ some sig → rows u 0 n ≡ sig
+        same-sig sig e = let (y, e₁, e₂) = bind-some (require (lawful (rows u 0 n))) (λ z. some (rows u 0 n)) sig (sym (signed (k .begun)) ∙ e) in some-inj (rows u 0 n) sig e₂

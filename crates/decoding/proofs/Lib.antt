@@ -1,0 +1,6 @@
+pub mod Rows
+pub mod Ordering
+pub mod Sizes
+pub mod Narrow
+pub mod Tables
+pub mod Decoding

@@ -1,0 +1,191 @@
+-- Reading the constructors' words into rows.
+use mathlib.Core.Path.{_≡_, refl, sym, ap, ap₂, _∙_}
+use mathlib.Core.List.{List, [], _∷_, _++_, append-assoc, append-nil}
+use mathlib.Core.Option.{Option, none, some}
+use mathlib.Core.Bool.{Bool, true, false}
+use Prim.Native.Nat.{ℕ, zero, suc, _+_, _-_, _*_, _≤_, _<_}
+use native.Mathlib.Numerals.{add-one}
+use native.Mathlib.Nat.{sub-zero, zero-add, add-zero, add-suc, suc-add}
+use native.Mathlib.Omega.{arith}
+use lib.ListN.{length, getD, set, take, drop, length-drop, length-set}
+use lib.Seq.{drop-cons, drop-drop, drop-length, getD-set-same, getD-set-other}
+use lib.Dec.{leb, eqb}
+use Rattle.signature.specs.Limits.{argument-limit, constructor-limit}
+use Rattle.signature.specs.Lists.{_>>=_, require, split}
+use Rattle.signature.specs.Read.{read-constructors}
+use Rattle.signature.specs.Signature.{Signature, Constructor}
+use Rattle.signature.specs.Decoded.{decoded-length, stride, kind-of, arity-of}
+use Rattle.decoding.specs.Decoding.{words-from, row, rows, SameBelow, read-constructor, Copied, RowRead, Arities, RowsRead}
+use Rattle.signature.proofs.Tests.{leb-yes, leb-no, true≢false, eqb-eq, eqb-ne}
+use Rattle.signature.proofs.Counting.{counted-same, counted-more, set-is, set-apart}
+
+-- copying
+pub copied-none : (w : List ℕ) (from : ℕ) (t : List ℕ) (to : ℕ) → Copied w from t to 0 t
+copied-none w from t to = record { long = refl; there = λ j l. absurd (omega arith); before = λ i l. refl }
+
+pub copied-more : (w : List ℕ) (from : ℕ) (t : List ℕ) (to n : ℕ) (u : List ℕ) → to + n < length t → Copied w from t to n u → Copied w from t to (n + 1) (set u (to + n) (getD w (from + n) 0))
+copied-more w from t to n u l h = record { long = length-set u (to + n) (getD w (from + n) 0) ∙ h .long; there = there; before = λ i m. set-apart u (to + n) i (getD w (from + n) 0) (omega arith) ∙ h .before i m }
+  where
+    there : (j : ℕ) → j < n + 1 → getD (set u (to + n) (getD w (from + n) 0)) (to + j) 0 ≡ getD w (from + j) 0
+    there j m = go (eqb j n) refl
+      where
+        go : (b : Bool) → eqb j n ≡ b → getD (set u (to + n) (getD w (from + n) 0)) (to + j) 0 ≡ getD w (from + j) 0
+        go true q = let e : j ≡ n = eqb-eq j n q in rw e (getD-set-same u (to + n) (getD w (from + n) 0) 0 (omega (arith, h .long)))
+        go false q =
+            let e : ¬ (j ≡ n) = eqb-ne j n q in
+            getD-set-other u (to + n) (to + j) (getD w (from + n) 0) 0 (λ p. e (omega arith)) ∙ h .there j (omega arith)
+
+-- one constructor, then the others
+pub read-one : (n : ℕ) (ws : List ℕ) → read-constructors (suc n) ws ≡ (read-constructor ws >>= λ r. read-constructors n (r .1) >>= λ cs. some (r .0 ∷ cs))
+read-one n [] = refl
+read-one n (k ∷ []) = refl
+read-one n (k ∷ (m ∷ ws)) = go (leb m argument-limit) (split m ws)
+  where
+    found : List ℕ × List ℕ → Option (Constructor × List ℕ)
+    found r = some (record { kind = k; args = r .0 }, r .1)
+
+    go : (b : Bool) (o : Option (List ℕ × List ℕ)) → (require b >>= λ u. o >>= λ r. read-constructors n (r .1) >>= λ cs. some (record { kind = k; args = r .0 } ∷ cs)) ≡ ((require b >>= λ u. o >>= λ r. found r) >>= λ r. read-constructors n (r .1) >>= λ cs. some (r .0 ∷ cs))
+    go false o = refl
+    go true none = refl
+    go true (some r) = refl
+
+-- what a place has no constructor for
+two-words : (w : List ℕ) (p : ℕ) → p + 2 ≤ length w → drop p w ≡ getD w p 0 ∷ (getD w (p + 1) 0 ∷ drop (p + 2) w)
+two-words w p l =
+    let e : suc (suc p) ≡ p + 2 = omega arith in
+    drop-cons w p 0 (omega arith) ∙ ap (λ z. getD w p 0 ∷ z) (drop-cons w (suc p) 0 (omega arith) ∙ ap₂ (λ i j. getD w i 0 ∷ drop j w) (sym (add-one p)) e)
+
+few-words : (ws : List ℕ) → length ws < 2 → read-constructor ws ≡ none
+few-words [] l = refl
+few-words (k ∷ []) l = refl
+few-words (k ∷ (m ∷ ws)) l = absurd (omega arith)
+
+pub row-short : (w : List ℕ) (p : ℕ) → length w - p < 2 → read-constructor (drop p w) ≡ none
+row-short w p l = few-words (drop p w) (omega (arith, length-drop p w))
+
+pub row-wide : (w : List ℕ) (p : ℕ) → p + 2 ≤ length w → argument-limit < getD w (p + 1) 0 → read-constructor (drop p w) ≡ none
+row-wide w p l m = rw (two-words w p l, leb-no (getD w (p + 1) 0) argument-limit m)
+
+split-none : (m : ℕ) (ws : List ℕ) → length ws < m → split m ws ≡ none
+split-none zero ws l = absurd (omega arith)
+split-none (suc m) [] l = refl
+split-none (suc m) (w ∷ ws) l = rw (split-none m ws (omega arith))
+
+pub row-cut : (w : List ℕ) (p : ℕ) → p + 2 ≤ length w → getD w (p + 1) 0 ≤ argument-limit → length w - p - 2 < getD w (p + 1) 0 → read-constructor (drop p w) ≡ none
+row-cut w p l m n =
+    let s : split (getD w (p + 1) 0) (drop (p + 2) w) ≡ none = split-none (getD w (p + 1) 0) (drop (p + 2) w) (omega (arith, length-drop (p + 2) w)) in
+    rw (two-words w p l, leb-yes (getD w (p + 1) 0) argument-limit m, s)
+
+split-some : (m : ℕ) (ws : List ℕ) → m ≤ length ws → split m ws ≡ some (take m ws, drop m ws)
+split-some zero ws l = refl
+split-some (suc m) [] l = absurd (omega arith)
+split-some (suc m) (w ∷ ws) l = rw (split-some m ws (omega arith))
+
+words-taken : (u w : List ℕ) (b a m : ℕ) → a + m ≤ length w → ((j : ℕ) → j < m → getD u (b + j) 0 ≡ getD w (a + j) 0) → take m (drop a w) ≡ words-from u b m
+words-taken u w b a zero l h = refl
+words-taken u w b a (suc m) l h =
+    let e : getD u b 0 ≡ getD w a 0 = rw (add-zero b, add-zero a) at (h 0 (omega arith)) in
+    rw (drop-cons w a 0 (omega arith), e) (ap (λ z. getD w a 0 ∷ z) (words-taken u w (suc b) (suc a) m (omega arith) (λ j k. rw (suc-add b j, suc-add a j, ← add-suc b j, ← add-suc a j) (h (suc j) (omega arith)))))
+
+module _ (w : List ℕ) (p : ℕ) (t : List ℕ) (c m : ℕ) (u : List ℕ) where
+  abbrev pub Begun : List ℕ
+  Begun = set (set t (stride * c) (getD w p 0)) (stride * c + 1) (getD w (p + 1) 0)
+
+  pub row-taken : length t ≡ decoded-length → c < constructor-limit → m ≡ getD w (p + 1) 0 → m ≤ argument-limit → p + 2 + m ≤ length w → Copied w (p + 2) Begun (stride * c + 2) m u → RowRead w p t c u (m + 2)
+  row-taken lt lc em la lw h = record { long = long; within = omega arith; refused = λ z. absurd (omega arith); taken = λ z. taken; arity = λ z. omega (arith, arity); before = before }
+    where
+      long : length u ≡ length t
+      long = h .long ∙ length-set (set t (stride * c) (getD w p 0)) (stride * c + 1) (getD w (p + 1) 0) ∙ length-set t (stride * c) (getD w p 0)
+
+      kind : kind-of u c ≡ getD w p 0
+      kind = h .before (stride * c) (omega arith) ∙ set-apart (set t (stride * c) (getD w p 0)) (stride * c + 1) (stride * c) (getD w (p + 1) 0) (omega arith) ∙ set-is t (stride * c) (stride * c) (getD w p 0) (omega arith) refl
+
+      arity : arity-of u c ≡ m
+      arity = h .before (stride * c + 1) (omega arith) ∙ set-is (set t (stride * c) (getD w p 0)) (stride * c + 1) (stride * c + 1) (getD w (p + 1) 0) (omega (arith, length-set t (stride * c) (getD w p 0))) refl ∙ sym em
+
+      before : SameBelow (stride * c) t u
+      before i l = h .before i (omega arith) ∙ set-apart (set t (stride * c) (getD w p 0)) (stride * c + 1) i (getD w (p + 1) 0) (omega arith) ∙ set-apart t (stride * c) i (getD w p 0) l
+
+      cut : split m (drop (p + 2) w) ≡ some (words-from u (stride * c + 2) m, drop (p + (m + 2)) w)
+      cut =
+          let e : p + 2 + m ≡ p + (m + 2) = omega arith in
+          split-some m (drop (p + 2) w) (omega (arith, length-drop (p + 2) w)) ∙ ap₂ (λ a b. some (a, b)) (words-taken u w (stride * c + 2) (p + 2) m lw (h .there)) (drop-drop m (p + 2) w ∙ ap (λ z. drop z w) e)
+
+      taken : read-constructor (drop p w) ≡ some (row u c, drop (p + (m + 2)) w)
+      taken = rw (two-words w p (omega arith), ← em, leb-yes m argument-limit la, cut, kind, arity)
+
+-- rows that nothing has written since
+pub row-same : (t u : List ℕ) (m c : ℕ) → SameBelow m t u → stride * c + stride ≤ m → arity-of t c ≤ argument-limit → row u c ≡ row t c
+row-same t u m c h l a =
+    let k : kind-of u c ≡ kind-of t c = h (stride * c) (omega arith) in
+    let n : arity-of u c ≡ arity-of t c = h (stride * c + 1) (omega arith) in
+    ap₂ (λ x xs. record { kind = x; args = xs }) k (ap (words-from u (stride * c + 2)) n ∙ counted-same (λ j. getD u j 0) (λ j. getD t j 0) (stride * c + 2) (arity-of t c) (λ j z. h (stride * c + 2 + j) (omega arith)))
+
+pub rows-same : (t u : List ℕ) (m n : ℕ) → SameBelow m t u → stride * n ≤ m → Arities t n → rows u 0 n ≡ rows t 0 n
+rows-same t u m n h l a = counted-same (λ d. row u d) (λ d. row t d) 0 n (λ j z. rw (zero-add j) (row-same t u m j h (omega arith) (a j z)))
+
+-- the turns of the reader
+abbrev pub behind : Signature → Option Signature → Option Signature
+behind cs o = o >>= λ ds. some (cs ++ ds)
+
+behind-one : (cs : Signature) (d : Constructor) (o : Option Signature) → behind cs (o >>= λ ds. some (d ∷ ds)) ≡ behind (cs ++ (d ∷ [])) o
+behind-one cs d none = refl
+behind-one cs d (some ds) = ap some (sym (append-assoc cs (d ∷ []) ds))
+
+behind-none : (o : Option Signature) → o ≡ behind [] o
+behind-none none = refl
+behind-none (some ds) = refl
+
+pub rows-none : (t ws : List ℕ) (n : ℕ) → read-constructors n ws ≡ behind (rows t 0 0) (read-constructors (n - 0) ws)
+rows-none t ws n = rw (sub-zero n) (behind-none (read-constructors n ws))
+
+pub rows-more : (w t u : List ℕ) (p c n m : ℕ) (o : Option Signature) → c < n → RowRead w p t c u m → 0 < m → Arities t c → o ≡ behind (rows t 0 c) (read-constructors (n - c) (drop p w)) → o ≡ behind (rows u 0 (c + 1)) (read-constructors (n - (c + 1)) (drop (p + m) w))
+rows-more w t u p c n m o l h k a e =
+    let s : n - c ≡ suc (n - (c + 1)) = omega arith in
+    let r : rows u 0 c ≡ rows t 0 c = rows-same t u (stride * c) c (h .before) (omega arith) a in
+    let q : rows u 0 (c + 1) ≡ rows u 0 c ++ (row u c ∷ []) = counted-more (λ d. row u d) 0 c ∙ ap (λ z. rows u 0 c ++ (row u z ∷ [])) (zero-add c) in
+    let f : read-constructors (n - c) (drop p w) ≡ (read-constructors (n - (c + 1)) (drop (p + m) w) >>= λ cs. some (row u c ∷ cs)) = rw (s, read-one (n - (c + 1)) (drop p w), h .taken k) in
+    e ∙ ap (λ z. behind (rows t 0 c) z) f ∙ behind-one (rows t 0 c) (row u c) (read-constructors (n - (c + 1)) (drop (p + m) w)) ∙ ap (λ z. behind z (read-constructors (n - (c + 1)) (drop (p + m) w))) (ap (λ z. z ++ (row u c ∷ [])) (sym r) ∙ sym q)
+
+pub rows-refused : (w t u : List ℕ) (p c n m : ℕ) (o : Option Signature) → c < n → RowRead w p t c u m → m ≡ 0 → o ≡ behind (rows t 0 c) (read-constructors (n - c) (drop p w)) → o ≡ none
+rows-refused w t u p c n m o l h k e =
+    let s : n - c ≡ suc (n - (c + 1)) = omega arith in
+    let f : read-constructors (n - c) (drop p w) ≡ none = rw (s, read-one (n - (c + 1)) (drop p w), h .refused k) in
+    e ∙ ap (λ z. behind (rows t 0 c) z) f
+
+pub arities-more : (w t u : List ℕ) (p c m : ℕ) → RowRead w p t c u m → 0 < m → Arities t c → Arities u (c + 1)
+arities-more w t u p c m h k a j l = go (eqb j c) refl
+  where
+    go : (b : Bool) → eqb j c ≡ b → arity-of u j ≤ argument-limit
+    go true q = let e : j ≡ c = eqb-eq j c q in rw e (h .arity k)
+    go false q =
+        let e : ¬ (j ≡ c) = eqb-ne j c q in
+        let s : arity-of u j ≡ arity-of t j = h .before (stride * j + 1) (omega arith) in
+        let b : arity-of t j ≤ argument-limit = a j (omega arith) in
+        omega arith
+
+-- what the reader hands back
+pub read-refused : (ws : List ℕ) (n : ℕ) (u : List ℕ) → length u ≡ decoded-length → read-constructors n ws ≡ none → RowsRead ws n u false
+read-refused ws n u l e = record { long = l; refused = λ z. e; taken = λ z. true≢false (sym z); arities = λ z. true≢false (sym z) }
+
+pub read-whole : (w u : List ℕ) (p c n : ℕ) → c ≤ n → n ≤ c → p ≤ length w → length u ≡ decoded-length → Arities u c → read-constructors n (drop 1 w) ≡ behind (rows u 0 c) (read-constructors (n - c) (drop p w)) → RowsRead (drop 1 w) n u (eqb p (length w))
+read-whole w u p c n l m k long a e = go (eqb p (length w)) refl
+  where
+    same : c ≡ n
+    same = omega arith
+
+    left : n - c ≡ 0
+    left = omega arith
+
+    go : (b : Bool) → eqb p (length w) ≡ b → RowsRead (drop 1 w) n u (eqb p (length w))
+    go true q =
+        let z : p ≡ length w = eqb-eq p (length w) q in
+        let f : read-constructors n (drop 1 w) ≡ some (rows u 0 n) = e ∙ rw (left, z, drop-length w, same, append-nil) in
+        rw q (record { long = long; refused = λ y. true≢false y; taken = λ y. f; arities = λ y j i. a j (omega arith) })
+    go false q =
+        let z : ¬ (p ≡ length w) = eqb-ne p (length w) q in
+        let f : read-constructors n (drop 1 w) ≡ none = e ∙ rw (left, drop-cons w p 0 (omega arith)) in
+        rw q (read-refused (drop 1 w) n u long f)
+
+pub row-refused : (w : List ℕ) (p : ℕ) (t : List ℕ) (c : ℕ) → p ≤ length w → read-constructor (drop p w) ≡ none → RowRead w p t c t 0
+row-refused w p t c l e = record { long = refl; within = omega arith; refused = λ z. e; taken = λ z. absurd (omega arith); arity = λ z. absurd (omega arith); before = λ i m. refl }

@@ -1,0 +1,38 @@
+-- `decode::read_row` meets its contract.
+use mathlib.Core.Path.{_∙_}
+use native.Mathlib.Omega.{arith}
+use lib.ListN.{length-set}
+use borrow.Author.Needs.{needs}
+use Rattle.decoding.proofs.Rows.{row-short, row-wide, row-cut, row-refused, row-taken}
+use Rattle.decoding.proofs.decode.read_row.Statement.{statement}
+use Rattle.decoding.proofs.decode.read_row.Tie as tie
+
+pub read-row-spec : {M : Type 1} → statement M
+read-row-spec =
+    tie.close
+    (tie.spec
+    (λ c. search needs)
+    (λ c. row-refused _ _ _ _ (c .before .before .before .pre .0) (row-short (c .before .before .before .args .w .now) (c .before .before .before .args .place) (omega arith)))
+    (λ c. search needs)
+    (λ c. search needs)
+    (λ c. search needs)
+    (λ c κs. search needs)
+    (λ c. row-refused _ _ _ _ (c .before .before .before .before .before .before .pre .0) (row-wide (c .before .before .before .before .before .before .args .w .now) (c .before .before .before .before .before .before .args .place) (omega arith) (omega arith)))
+    (λ c. row-refused _ _ _ _ (c .before .before .before .before .before .before .before .pre .0) (row-cut (c .before .before .before .before .before .before .before .args .w .now) (c .before .before .before .before .before .before .before .args .place) (omega arith) (omega arith) (omega arith)))
+    (λ c. search needs)
+    (λ c. search needs)
+    (λ c. search needs)
+    (λ c. search needs)
+    (λ c. search needs)
+    (λ c. search needs)
+    (λ c. search needs)
+    (λ c. search needs)
+    (λ c. search needs)
+    (λ c. search needs)
+    (λ c. rw length-set (omega arith))
+    (λ c. search needs)
+    (λ c. search needs)
+    (λ c κs. (omega arith, rw (length-set, length-set) (omega arith)))
+    (λ c. search needs)
+    (λ c. c .before .before .copy-words .ensures .long ∙ simp length-set)
+    (λ c. let a = c .before .before .before .before .before .before .before .before .before .before .before .before .before .args in row-taken (a .w .now) (a .place) (a .t .now) (a .c) (c .before .before .before .before .before .before .before .before .wide .result) (c .before .before .copy-words .last .1 .1 .0) (c .before .before .before .before .before .before .before .before .before .before .before .before .before .pre .1) (c .before .before .before .before .before .before .before .before .before .before .before .before .before .pre .2) (c .before .before .before .before .before .before .before .before .wide .ensures) (omega arith) (omega arith) (c .before .before .copy-words .ensures)))

@@ -1,0 +1,138 @@
+-- What the steps of decoding leave in the table.
+use mathlib.Core.Path.{_≡_}
+use mathlib.Core.List.{List, [], _∷_, map}
+use mathlib.Core.Option.{Option, none, some}
+use mathlib.Core.Bool.{Bool, true, false, cond}
+use Prim.Native.Nat.{ℕ, suc, _+_, _*_, _≤_, _<_, min}
+use lib.Dec.{eqb, ltb, leb}
+use lib.ListN.{length, getD, drop}
+use Rattle.signature.specs.Limits.{argument-limit, constructor-limit, kind-limit, over-small, small-size}
+use Rattle.signature.specs.Lists.{_>>=_, require, split, count-up, first, keep, all}
+use Rattle.signature.specs.Read.{read-constructors, count-kinds, best, least, total}
+use Rattle.signature.specs.Signature.{Signature, Constructor, heads, arguments}
+use Rattle.signature.specs.Decoded.{decoded-length, stride, kinds-at, kind-of, arity-of, argument-of, first-of, count-of, least-head-of, least-size-of, kinds-of, constructors-of}
+
+-- m words from place i on
+abbrev pub words-from : List ℕ → ℕ → ℕ → List ℕ
+words-from t i m = map (λ j. getD t j 0) (count-up i m)
+
+-- constructor c, and m constructors from c on, as the table's rows have them
+abbrev pub row : List ℕ → ℕ → Constructor
+row t c = record { kind = kind-of t c; args = words-from t (stride * c + 2) (arity-of t c) }
+
+abbrev pub rows : List ℕ → ℕ → ℕ → Signature
+rows t c m = map (λ d. row t d) (count-up c m)
+
+-- the first m words of both tables are the same
+abbrev pub SameBelow : ℕ → List ℕ → List ℕ → Type 0
+SameBelow m t u = (i : ℕ) → i < m → getD u i 0 ≡ getD t i 0
+
+-- the first constructor of the words, and the words behind it
+abbrev pub read-constructor : List ℕ → Option (Constructor × List ℕ)
+read-constructor [] = none
+read-constructor (k ∷ []) = none
+read-constructor (k ∷ (m ∷ ws)) = do
+  _ ← require (leb m argument-limit)
+  r ← split m ws
+  some (record { kind = k; args = r .0 }, r .1)
+
+-- n words of w have been copied into t, which is u now
+pub record Copied (w : List ℕ) (from : ℕ) (t : List ℕ) (to n : ℕ) (u : List ℕ) : Type 0 where
+  pub long : length u ≡ length t
+  pub there : (j : ℕ) → j < n → getD u (to + j) 0 ≡ getD w (from + j) 0
+  pub before : SameBelow to t u
+
+-- the constructor at a place has been read into row c of u, with so many words, or there is none
+pub record RowRead (w : List ℕ) (place : ℕ) (t : List ℕ) (c : ℕ) (u : List ℕ) (m : ℕ) : Type 0 where
+  pub long : length u ≡ length t
+  pub within : place + m ≤ length w
+  pub refused : m ≡ 0 → read-constructor (drop place w) ≡ none
+  pub taken : 0 < m → read-constructor (drop place w) ≡ some (row u c, drop (place + m) w)
+  pub arity : 0 < m → arity-of u c ≤ argument-limit
+  pub before : SameBelow (stride * c) t u
+
+abbrev pub Arities : List ℕ → ℕ → Type 0
+Arities t n = (c : ℕ) → c < n → arity-of t c ≤ argument-limit
+
+-- the words have been read into the rows of u, if they are n constructors
+pub record RowsRead (ws : List ℕ) (n : ℕ) (u : List ℕ) (r : Bool) : Type 0 where
+  pub long : length u ≡ decoded-length
+  pub refused : r ≡ false → read-constructors n ws ≡ none
+  pub taken : r ≡ true → read-constructors n ws ≡ some (rows u 0 n)
+  pub arities : r ≡ true → Arities u n
+
+-- the number of kinds once a constructor of kind k follows, 0 where it may not
+abbrev pub next-kinds : ℕ → ℕ → ℕ
+next-kinds k n = cond (eqb (suc k) n) n (cond (eqb k n) (cond (ltb n kind-limit) (suc n) 0) 0)
+
+-- the number of kinds, 0 where their order or their number is unlawful
+abbrev pub kinds-or-0 : Option ℕ → ℕ
+kinds-or-0 none = 0
+kinds-or-0 (some n) = cond (leb n kind-limit) n 0
+
+-- constructor c has been counted to kind k, which is new if it is the n-th
+pub record HeadNoted (t : List ℕ) (k c n : ℕ) (u : List ℕ) : Type 0 where
+  pub long : length u ≡ length t
+  pub rows-same : SameBelow kinds-at t u
+  pub others : (j : ℕ) → (j ≡ k → ⊥) → (first-of u j ≡ first-of t j) × (count-of u j ≡ count-of t j)
+  pub new : k ≡ n → (first-of u k ≡ c) × (count-of u k ≡ 1)
+  pub old : (k ≡ n → ⊥) → (first-of u k ≡ first-of t k) × (count-of u k ≡ suc (count-of t k))
+
+-- each kind below n has its first constructor and their count
+abbrev pub HeadsNoted : Signature → ℕ → List ℕ → Type 0
+HeadsNoted sig n t = (k : ℕ) → k < n → (first-of t k ≡ first (heads sig k)) × (count-of t k ≡ length (heads sig k))
+
+pub record InOrder (t : List ℕ) (n : ℕ) (u : List ℕ) (r : ℕ) : Type 0 where
+  pub long : length u ≡ decoded-length
+  pub rows-same : SameBelow kinds-at t u
+  pub counted : r ≡ kinds-or-0 (count-kinds (rows t 0 n))
+  pub few : r ≤ kind-limit
+  pub noted : 0 < r → HeadsNoted (rows t 0 n) r u
+  pub each : 0 < r → (c : ℕ) → c < n → kind-of t c < r
+
+-- a row that names no kind past the limit, and no argument
+pub record RowFit (t : List ℕ) (c : ℕ) : Type 0 where
+  pub kind : kind-of t c < kind-limit
+  pub arity : arity-of t c ≤ argument-limit
+  pub arguments : (j : ℕ) → j < arity-of t c → argument-of t c j < kind-limit
+
+pub record Fit (t : List ℕ) (n : ℕ) : Type 0 where
+  pub long : length t ≡ decoded-length
+  pub few : n ≤ constructor-limit
+  pub each : (c : ℕ) → c < n → RowFit t c
+
+-- a size for each kind up to the limit
+pub record Sizes (a : List ℕ) : Type 0 where
+  pub long : length a ≡ kind-limit
+  pub each : (k : ℕ) → getD a k 0 ≤ over-small
+
+-- each kind's size, by the sizes before
+unfoldable pub next-sizes : Signature → List ℕ → List ℕ
+next-sizes sig before = map (λ k. min over-small (best sig before k)) (count-up 0 kind-limit)
+
+-- each kind's size after d rounds
+unfoldable pub sizes-after : ℕ → Signature → List ℕ
+sizes-after d sig = least d sig kind-limit
+
+-- the lowest head of kind k that reaches the kind's size
+abbrev pub lowest : Signature → List ℕ → ℕ → ℕ
+lowest sig sizes k = first (keep (λ c. eqb (suc (total sizes (arguments sig c))) (getD sizes k 0)) (heads sig k))
+
+-- the kinds' least constructors and sizes have been written, for n kinds
+pub record LeastNoted (t : List ℕ) (n : ℕ) (hs sizes u : List ℕ) : Type 0 where
+  pub long : length u ≡ length t
+  pub rows-same : SameBelow kinds-at t u
+  pub heads-same : (k : ℕ) → (first-of u k ≡ first-of t k) × (count-of u k ≡ count-of t k)
+  pub lowest-heads : (k : ℕ) → k < n → least-head-of u k ≡ getD hs k 0
+  pub least-sizes : (k : ℕ) → k < n → least-size-of u k ≡ getD sizes k 0
+
+-- the table of n constructors and so many kinds is whole; r says whether every kind has a value of at most 6 words
+pub record KindsNoted (t : List ℕ) (n kinds : ℕ) (u : List ℕ) (r : Bool) : Type 0 where
+  pub long : length u ≡ decoded-length
+  pub rows-same : SameBelow kinds-at t u
+  pub heads-same : (k : ℕ) → k < kinds → (first-of u k ≡ first-of t k) × (count-of u k ≡ count-of t k)
+  pub kind-count : kinds-of u ≡ kinds
+  pub constructor-count : constructors-of u ≡ n
+  pub lowest-heads : (k : ℕ) → k < kinds → least-head-of u k ≡ lowest (rows t 0 n) (sizes-after small-size (rows t 0 n)) k
+  pub least-sizes : (k : ℕ) → k < kinds → least-size-of u k ≡ getD (sizes-after small-size (rows t 0 n)) k 0
+  pub small : r ≡ all (λ k. leb (getD (sizes-after small-size (rows t 0 n)) k 0) small-size) (count-up 0 kinds)

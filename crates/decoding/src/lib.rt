@@ -1,0 +1,2 @@
+// Checking and decoding a signature.
+pub mod decode;

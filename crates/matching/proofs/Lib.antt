@@ -1,0 +1,5 @@
+pub mod SpanLaws
+pub mod GivenSteps
+pub mod FitSteps
+pub mod BindSteps
+pub mod Laws

@@ -1,0 +1,20 @@
+-- `main` runs the cases on the table of a lawful signature. Assumes nothing.
+use mathlib.Core.Path.{sym}
+use borrow.Author.Needs.{needs}
+use Rattle.signature.specs.Cases.{words-T}
+use Rattle.booking.proofs.PartLaws.{decoded-of}
+use Rattle.patterns.proofs.Checked.{taken}
+use Rattle.patterns.proofs.main.Statement.{statement}
+use Rattle.patterns.proofs.main.Tie as tie
+
+pub main-spec : {M : Type 1} → statement M
+main-spec =
+    tie.close
+    (tie.spec
+    (λ c. search needs)
+    (λ c. search needs)
+    (λ c κs. search needs)
+    (λ c. search needs)
+    (λ c. search needs)
+    (λ c κs. decoded-of words-T _ (sym (taken _ _ (c .before .before .before .decode .ensures .0) (c .before .if1 .left))) (c .before .before .before .decode .ensures .1) .known)
+    (λ c. search needs))
