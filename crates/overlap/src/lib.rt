@@ -1,0 +1,2 @@
+// Whether two patterns share a booking, and which.
+pub mod pair;
