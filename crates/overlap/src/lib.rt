@@ -1,2 +1,3 @@
 // Whether two patterns share a booking, and which.
+pub mod lists;
 pub mod pair;
