@@ -1,3 +1,4 @@
 // Whether two patterns share a booking, and which.
 pub mod lists;
 pub mod pair;
+pub mod promises;
