@@ -1,3 +1,4 @@
 pub mod Laws
+pub mod LeastFacts
 pub mod Lockstep
 pub mod Search
