@@ -38,7 +38,7 @@ long : (sig : Signature) (n d : ℕ) → length (least d sig n) ≡ n
 long sig n zero = counted-length (λ j. over-small) 0 n
 long sig n (suc d) = counted-length (λ j. min over-small (best sig (least d sig n) j)) 0 n
 
-fewest-cons : {t : List ℕ} (g : Known t) (k : ℕ) (ks : List ℕ) → k < g .decoded .n → fewest g (k ∷ ks) ≡ least-size (g .sig) (g .decoded .n) k + fewest g ks
+pub fewest-cons : {t : List ℕ} (g : Known t) (k : ℕ) (ks : List ℕ) → k < g .decoded .n → fewest g (k ∷ ks) ≡ least-size (g .sig) (g .decoded .n) k + fewest g ks
 fewest-cons g k ks l = rw (at-getD (least small-size (g .sig) (g .decoded .n)) k (omega (arith, long (g .sig) (g .decoded .n) small-size))) refl
 
 -- ---- in the loop: w is written behind the first word, and the kinds still to come

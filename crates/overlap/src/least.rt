@@ -1,8 +1,10 @@
 // Least values.
 use signature::decoded::argument_of;
 use signature::decoded::arity_of;
+use signature::decoded::first_of;
 use signature::decoded::least_head_of;
-ghost use Rattle.overlap.specs.Least.{GivenHead, Written};
+use signature::set::lowest;
+ghost use Rattle.overlap.specs.Least.{GivenHead, Written, GivenPlace, Placed};
 
 // A constructor and the least values of its arguments, first in out; how many words.
 pub fn with_least(t: &[u16], c: u16, out: &mut [u16]) -> usize
@@ -20,4 +22,13 @@ pub fn with_least(t: &[u16], c: u16, out: &mut [u16]) -> usize
     }
     out[0] = c;
     at
+}
+
+// A value of kind k under the lowest head that is allowed, first in out; how many words.
+pub fn lowest_value(t: &[u16], k: usize, allowed: u64, out: &mut [u16]) -> usize
+    requires { ⌜ GivenPlace (now t) k allowed (now out) ⌝ }
+    ensures { λ r. ⌜ ((g : GivenPlace (now (t .entry)) k allowed (now (out .entry))) → Placed g r (now (out .exit))) ⌝ }
+{
+    let c = first_of(t, k) + lowest(allowed) as u16;
+    with_least(t, c, out)
 }
