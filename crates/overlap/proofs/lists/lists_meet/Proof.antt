@@ -1,0 +1,49 @@
+-- `overlap::lists::lists_meet` meets its contract. Assumes nothing.
+use mathlib.Core.Path.{sym, _∙_}
+use Prim.Native.Nat.{_+_, _-_, _≤_, _<_}
+use native.Mathlib.Omega.{arith}
+use lib.ListN.{length, getD}
+use Rattle.overlap.specs.Lists.{TwoLists}
+use Rattle.overlap.proofs.Search.{Now, start, there, list-task, given2, found2, past2, end2}
+use Rattle.overlap.proofs.lists.lists_meet.Statement.{statement}
+use Rattle.overlap.proofs.lists.lists_meet.Tie as tie
+
+abbrev Inv-loop : tie.InvT-loop
+Inv-loop t x y at₀ at = (at < length x) × ((g : TwoLists t x y) → Now (list-task g) at)
+
+abbrev μ-loop : tie.MeasureT-loop
+μ-loop t x y at₀ at = length x - at
+
+abbrev entry : tie.At-loop Inv-loop μ-loop → tie.Start Inv-loop μ-loop
+entry c = c .before .before .before .before
+
+abbrev top : tie.After-row-meets Inv-loop μ-loop → tie.At-loop Inv-loop μ-loop
+top c = c .before .before .before .before .before
+
+-- no row is met, and the next one comes
+on : (c : tie.Else2 Inv-loop μ-loop) → let l = top (c .before) in let e = entry l in
+    (g : TwoLists (e .args .t .now) (e .args .x .now) (e .args .y .now)) → Now (list-task g) (l .loop .at + 1 + getD (e .args .x .now) (l .loop .at) 0) × (l .loop .at + 1 + getD (e .args .x .now) (l .loop .at) 0 ≤ length (e .args .x .now))
+on c g = let l = top (c .before) in past2 g (l .loop .at) (l .loop .inv .1 g) (c .before .before .before .before .if1 .taken) (λ q. sym (c .if2 .left) ∙ c .before .row-meets .ensures q)
+
+pub lists-meet-spec : {M : Type 1} → statement M
+lists-meet-spec =
+    tie.close
+    (tie.spec
+    Inv-loop
+    μ-loop
+    (λ c. let g = c .before .before .before .pre in (there (list-task g) 0 (start (list-task g)), λ g. start (list-task g)))
+    (λ c. omega arith)
+    (λ c. omega arith)
+    (λ c. omega arith)
+    (λ c. omega arith)
+    (λ c. omega arith)
+    (λ c. omega arith)
+    (λ c. omega arith)
+    (λ c. omega arith)
+    (λ c. omega arith)
+    (λ c κs. let l = c .before .before .before .before in given2 (entry l .pre) (l .loop .at) (l .loop .inv .1 (entry l .pre)) (c .before .before .if1 .taken))
+    (λ c g. let l = top (c .before) in found2 g (l .loop .at) (l .loop .inv .1 g) (c .before .before .before .before .if1 .taken) (λ q. sym (c .if2 .taken) ∙ c .before .row-meets .ensures q))
+    (λ c. let e = entry (top (c .before)) in omega (arith, on c (e .pre) .1, e .good))
+    (λ c. let e = entry (top (c .before)) in omega (arith, on c (e .pre) .1, top (c .before) .loop .inv .0))
+    (λ c. let e = entry (top (c .before)) in (there (list-task (e .pre)) _ (on c (e .pre) .0), λ g. on c g .0))
+    (λ c g. let l = c .before .before in end2 g (l .loop .at) (l .loop .inv .1 g) (c .if1 .left)))

@@ -1,0 +1,51 @@
+// Least values.
+use signature::decoded::argument_of;
+use signature::decoded::arity_of;
+use signature::decoded::first_of;
+use signature::decoded::least_head_of;
+use signature::set::lowest;
+ghost use mathlib.Core.Path.{_≡_};
+ghost use mathlib.Core.List.{_∷_};
+ghost use Prim.Native.Nat.{_<_, _≤_, _-_};
+ghost use lib.ListN.{length, drop};
+ghost use Rattle.overlap.specs.Least.{GivenHead, Written, GivenPlace, Placed};
+
+// A constructor and the least values of its arguments, first in out; how many words.
+pub fn with_least(t: &[u16], c: u16, out: &mut [u16]) -> usize
+    requires { ⌜ GivenHead (now t) c (now out) ⌝ }
+    ensures { λ r. ⌜ ((g : GivenHead (now (t .entry)) c (now (out .entry))) → Written g r (now (out .exit))) ⌝ }
+{
+    let n = arity_of(t, c as usize) as usize;
+    let mut at = 1;
+    let mut j = 0;
+    while j < n {
+        let k = argument_of(t, c as usize, j) as usize;
+        let h = least_head_of(t, k);
+        at += with_least(t, h, &mut out[at..]);
+        j += 1;
+    }
+    out[0] = c;
+    at
+}
+
+// A value of kind k under the lowest head that is allowed, first in out; how many words.
+pub fn lowest_value(t: &[u16], k: usize, allowed: u64, out: &mut [u16]) -> usize
+    requires { ⌜ GivenPlace (now t) k allowed (now out) ⌝ }
+    ensures { λ r. ⌜ ((g : GivenPlace (now (t .entry)) k allowed (now (out .entry))) → Placed g r (now (out .exit))) ⌝ }
+{
+    let c = first_of(t, k) + lowest(allowed) as u16;
+    with_least(t, c, out)
+}
+
+// What a cell stands for, first in out: the constructor that it names, or a value under an allowed head; how many words.
+pub fn place(t: &[u16], tag: u64, allowed: u64, out: &mut [u16]) -> usize
+    requires { ⌜ (1 ≤ length (now out)) × (256 ≤ tag → GivenPlace (now t) (tag - 256) allowed (now out)) ⌝ }
+    ensures named { λ r. ⌜ (tag < 256 → (r ≡ 1) × (now (out .exit) ≡ tag ∷ drop 1 (now (out .entry)))) ⌝ }
+    ensures unnamed { λ r. ⌜ (256 ≤ tag → (g : GivenPlace (now (t .entry)) (tag - 256) allowed (now (out .entry))) → Placed g r (now (out .exit))) ⌝ }
+{
+    if tag < 256 {
+        out[0] = tag as u16;
+        return 1;
+    }
+    lowest_value(t, (tag - 256) as usize, allowed, out)
+}

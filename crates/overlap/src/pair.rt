@@ -1,0 +1,33 @@
+// Two rows side by side.
+use row::cell::Cursor;
+use row::cell::join;
+use row::cell::look;
+use row::cell::next;
+use row::cell::opens;
+ghost use mathlib.Core.Path.{_≡_};
+ghost use Rattle.signature.specs.Lists.{is-some};
+ghost use Rattle.row.specs.Row.{combine};
+ghost use Rattle.overlap.specs.Pair.{TwoRows};
+
+// Whether the two rows at the front of a and b are one row.
+pub fn rows_meet(t: &[u16], a: &[u64], b: &[u64]) -> bool
+    requires { ⌜ TwoRows (now t) (now a) (now b) ⌝ }
+    ensures { λ r. ⌜ ((g : TwoRows (now (t .entry)) (now (a .entry)) (now (b .entry))) → r ≡ is-some (combine (g .r) (g .s))) ⌝ }
+{
+    let mut x = Cursor { at: 0, virt: 0 };
+    let mut y = Cursor { at: 0, virt: 0 };
+    let mut left = 1;
+    while left > 0 {
+        let p = look(a, x);
+        let q = look(b, y);
+        let c = join(p, q);
+        if c.allowed == 0 {
+            return false;
+        }
+        let w = opens(t, c.tag);
+        left = left - 1 + w;
+        x = next(x, p.tag, w);
+        y = next(y, q.tag, w);
+    }
+    true
+}
