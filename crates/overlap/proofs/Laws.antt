@@ -9,11 +9,11 @@ use Rattle.signature.specs.Lawful.{KindsRise, rise-end, rise-same, rise-next, K
 use Rattle.signature.specs.Signature.{Signature}
 use Rattle.signature.proofs.KnownFacts.{words-of}
 use Rattle.signature.proofs.LawfulFacts.{sig-facts}
-use Rattle.row.specs.Coded.{kinds-of}
+use Rattle.cell.specs.Coded.{kinds-of}
 use Rattle.row.specs.Row.{rows-plus}
 use Rattle.row.proofs.Exists.{overlap-booking, booking-overlap}
-use Rattle.row.proofs.Kinded.{kinds-same}
-use Rattle.row.proofs.Typing.{typed-rows}
+use Rattle.rowlist.proofs.Kinded.{kinds-same}
+use Rattle.rowlist.proofs.Typing.{typed-rows}
 use Rattle.overlap.specs.Laws.{Laws, TwoPatterns}
 use Rattle.overlap.specs.Lists.{TwoLists}
 

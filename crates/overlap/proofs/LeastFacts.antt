@@ -15,10 +15,10 @@ use Rattle.signature.specs.Signature.{Signature, arguments-at, arguments}
 use Rattle.signature.specs.Value.{Value, Values, con, vnil, vcons, code, codes, size, sizes}
 use Rattle.signature.proofs.Counting.{counted-length}
 use Rattle.signature.proofs.ListFacts.{at-getD, all-first}
-use Rattle.row.specs.RowList.{from}
-use Rattle.row.proofs.Kinded.{known-head, kinds-same}
-use Rattle.row.proofs.Typing.{args-there}
-use Rattle.row.proofs.Walk.{from-is, back, word-at}
+use Rattle.cell.specs.RowList.{from}
+use Rattle.rowlist.proofs.Kinded.{known-head, kinds-same}
+use Rattle.rowlist.proofs.Typing.{args-there}
+use Rattle.cell.proofs.Walk.{from-is, back, word-at}
 use Rattle.signature.proofs.LeastValue.{HeadReaches, least-head-reaches}
 use Rattle.signature.proofs.Heads.{args-same}
 use Rattle.signature.proofs.KnownFacts.{argument-is, argument-small, is-constructor, few-arguments}

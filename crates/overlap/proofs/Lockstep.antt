@@ -7,19 +7,19 @@ use Prim.Native.Nat.{ℕ, _+_, _≤_, _<_, _-_}
 use native.Mathlib.Omega.{arith}
 use lib.ListN.{length, replicate, length-replicate, length-append}
 use Rattle.signature.specs.Lists.{is-some}
-use Rattle.row.specs.declared.cell.Cell.{Cell}
-use Rattle.row.specs.declared.cell.Cursor.{Cursor}
-use Rattle.row.specs.declared.cell.Out.{Out}
-use Rattle.row.specs.declared.cell.Out.the-variants.{Dropped, Kept}
-use Rattle.row.specs.Cell.{Kinds}
-use Rattle.row.specs.Coded.{code, code-of}
+use Rattle.cell.specs.declared.cell.Cell.{Cell}
+use Rattle.cell.specs.declared.cell.Cursor.{Cursor}
+use Rattle.cell.specs.declared.cell.Out.{Out}
+use Rattle.cell.specs.declared.cell.Out.the-variants.{Dropped, Kept}
+use Rattle.cell.specs.Cell.{Kinds}
+use Rattle.cell.specs.Coded.{code, code-of}
 use Rattle.signature.specs.Decoded.{decoded-length}
-use Rattle.row.specs.Cursor.{putAt, nextOf, lookAt, joinOf, opensOf}
-use Rattle.row.specs.Lockstep.{GivenRows, Result}
+use Rattle.cell.specs.Cursor.{putAt, nextOf, lookAt, joinOf, opensOf}
+use Rattle.cell.specs.Lockstep.{GivenRows, Result}
 use Rattle.row.specs.Row.{Row, combine}
-use Rattle.row.proofs.LockstepFacts.{Given, as-cells, of-rows}
-use Rattle.row.proofs.Turns as Turns
-use Rattle.row.proofs.Turns.{Turned, Front, start, finish, front, known-of, turned, out-of, again, less}
+use Rattle.cell.proofs.LockstepFacts.{Given, as-cells, of-rows}
+use Rattle.cell.proofs.Turns as Turns
+use Rattle.cell.proofs.Turns.{Turned, Front, start, finish, front, known-of, turned, out-of, again, less}
 use Rattle.overlap.specs.Pair.{TwoRows}
 
 -- room that nobody writes to

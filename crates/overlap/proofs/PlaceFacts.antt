@@ -16,10 +16,10 @@ use Rattle.signature.proofs.Heads.{kind-of-head, args-same}
 use Rattle.signature.proofs.KnownFacts.{is-constructor, few-arguments, words-of}
 use Rattle.signature.proofs.LeastValue.{least-at-most}
 use Rattle.signature.proofs.Tests.{true≢false}
-use Rattle.row.specs.Mask.{mask, Within}
-use Rattle.row.proofs.Kinded.{kinds-same}
-use Rattle.row.proofs.Masks.{bit-mask, one-if, mask-some}
-use Rattle.row.proofs.Typing.{args-there}
+use Rattle.cell.specs.Mask.{mask, Within}
+use Rattle.rowlist.proofs.Kinded.{kinds-same}
+use Rattle.cell.proofs.Masks.{bit-mask, one-if, mask-some}
+use Rattle.rowlist.proofs.Typing.{args-there}
 use Rattle.overlap.specs.Least.{GivenHead, Written, GivenPlace, Placed, fewest}
 use Rattle.overlap.proofs.LeastFacts.{fewest-cons}
 

@@ -8,12 +8,12 @@ use native.Mathlib.Omega.{arith}
 use lib.ListN.{length, drop, length-drop, getD, length-append}
 use lib.Seq.{drop-drop, drop-at}
 use Rattle.signature.specs.Lists.{any, _or-else_, is-some, is-empty, somes}
-use Rattle.row.specs.Cell.{Kinds}
-use Rattle.row.specs.Coded.{code, Typed}
-use Rattle.row.specs.Product.{Typed-all, ones}
+use Rattle.cell.specs.Cell.{Kinds}
+use Rattle.cell.specs.Coded.{code, Typed}
+use Rattle.rowlist.specs.Product.{Typed-all, ones}
 use Rattle.row.specs.Row.{Row, combine, each}
-use Rattle.row.specs.RowList.{list-code, entries, from}
-use Rattle.row.proofs.Walk.{word-at, code-long, from-is}
+use Rattle.cell.specs.RowList.{list-code, entries, from}
+use Rattle.cell.proofs.Walk.{word-at, code-long, from-is}
 use Rattle.overlap.specs.Lists.{RowByList, TwoLists}
 use Rattle.overlap.specs.Pair.{TwoRows}
 

@@ -7,10 +7,10 @@ use Rattle.signature.specs.Decoded.{Known}
 use Rattle.signature.specs.Lists.{Iff, is-empty, somes}
 use Rattle.pattern.specs.Pattern.{Pattern}
 use Rattle.pattern.specs.WellFormed.{PatternWords}
-use Rattle.row.specs.Coded.{kinds-of}
+use Rattle.cell.specs.Coded.{kinds-of}
 use Rattle.row.specs.Overlap.{Shared}
 use Rattle.row.specs.Row.{combine, each, rows-plus}
-use Rattle.row.specs.RowList.{list-code}
+use Rattle.cell.specs.RowList.{list-code}
 use Rattle.overlap.specs.Lists.{TwoLists}
 
 -- x and y begin with the rows of two patterns of a lawful signature

@@ -13,7 +13,7 @@ use Rattle.signature.specs.Read.{least, total}
 use Rattle.signature.specs.Signature.{arguments-at, heads}
 use Rattle.signature.specs.Value.{Values, con, code, size, sizes}
 use Rattle.row.specs.Limits.{place-words}
-use Rattle.row.specs.Mask.{mask, Within}
+use Rattle.cell.specs.Mask.{mask, Within}
 
 -- the fewest words of arguments of these kinds
 abbrev pub fewest : {t : List ℕ} → Known t → List ℕ → ℕ

@@ -2,11 +2,11 @@
 use mathlib.Core.Path.{_≡_}
 use mathlib.Core.List.{List, _++_}
 use Prim.Native.Nat.{ℕ}
-use Rattle.row.specs.Cell.{Kinds}
-use Rattle.row.specs.Coded.{code, Typed}
-use Rattle.row.specs.Product.{Typed-all}
+use Rattle.cell.specs.Cell.{Kinds}
+use Rattle.cell.specs.Coded.{code, Typed}
+use Rattle.rowlist.specs.Product.{Typed-all}
 use Rattle.row.specs.Row.{Row}
-use Rattle.row.specs.RowList.{list-code}
+use Rattle.cell.specs.RowList.{list-code}
 
 pub record RowByList (ar x y : List ℕ) : Type 0 where
   pub K : Kinds

@@ -2,8 +2,8 @@
 use mathlib.Core.Path.{_≡_}
 use mathlib.Core.List.{List, _++_}
 use Prim.Native.Nat.{ℕ}
-use Rattle.row.specs.Cell.{Kinds}
-use Rattle.row.specs.Coded.{code, Typed}
+use Rattle.cell.specs.Cell.{Kinds}
+use Rattle.cell.specs.Coded.{code, Typed}
 use Rattle.row.specs.Row.{Row}
 
 pub record TwoRows (ar a b : List ℕ) : Type 0 where

@@ -4,7 +4,7 @@ ghost use mathlib.Core.Path.{_≡_};
 ghost use mathlib.Core.Bool.{not};
 ghost use Rattle.signature.specs.Lists.{is-empty, somes};
 ghost use Rattle.row.specs.Row.{combine, each};
-ghost use Rattle.row.specs.Product.{ones};
+ghost use Rattle.rowlist.specs.Product.{ones};
 ghost use Rattle.overlap.specs.Lists.{RowByList, TwoLists};
 
 // Whether the row at the front of x meets some row of the list y.

@@ -1,9 +1,9 @@
 // Two rows side by side.
-use row::cell::Cursor;
-use row::cell::join;
-use row::cell::look;
-use row::cell::next;
-use row::cell::opens;
+use cell::cell::Cursor;
+use cell::cell::join;
+use cell::cell::look;
+use cell::cell::next;
+use cell::cell::opens;
 ghost use mathlib.Core.Path.{_≡_};
 ghost use Rattle.signature.specs.Lists.{is-some};
 ghost use Rattle.row.specs.Row.{combine};

@@ -5,13 +5,3 @@ pub mod Row
 pub mod RowFits
 pub mod Laws
 pub mod Cases
-pub mod Arguments
-pub mod Build
-pub mod Cell
-pub mod Coded
-pub mod Cursor
-pub mod Grow
-pub mod Lockstep
-pub mod Mask
-pub mod Product
-pub mod RowList

@@ -3,7 +3,7 @@ use mathlib.Core.Path.{_≡_, refl, sym, _∙_}
 use Prim.Native.Nat.{ℕ, _+_, _-_, _<_, _≤_}
 use native.Mathlib.Omega.{arith}
 use lib.ListN.{length, length-take, length-drop, length-set}
-use Rattle.row.proofs.Walk.{back, back-length}
+use Rattle.cell.proofs.Walk.{back, back-length}
 use Rattle.overlap.specs.Least.{GivenHead}
 use Rattle.overlap.proofs.LeastFacts.{Now, start, arity-here, tag-here, arity-small, argument-there, whole, given, turn, end}
 use borrow.Fn.Kinds.{In}

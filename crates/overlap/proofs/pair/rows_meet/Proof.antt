@@ -2,7 +2,7 @@
 use Prim.Native.Nat.{ℕ, _+_, _-_, _≤_}
 use native.Mathlib.Omega.{arith}
 use lib.ListN.{length}
-use Rattle.row.proofs.Turns.{Front}
+use Rattle.cell.proofs.Turns.{Front}
 use Rattle.overlap.specs.Pair.{TwoRows}
 use Rattle.overlap.proofs.Lockstep.{Now, Step, given, begin, all-met, in-front, known-here, none-met, few-left, step}
 use Rattle.overlap.proofs.pair.rows_meet.Statement.{statement}

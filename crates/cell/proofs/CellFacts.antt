@@ -1,0 +1,105 @@
+-- CellFacts.
+use mathlib.Core.Path.{_≡_}
+use mathlib.Core.List.{List, _++_, _∷_, []}
+use mathlib.Core.Option.{Option, none, some}
+use mathlib.Core.Bool.{cond}
+use Prim.Native.Nat.{ℕ, suc, _≤_, _<_, _^_, _-_, _+_, zero}
+use lib.Bits.{bitAnd, bitOr}
+use lib.Dec.{eqb}
+use lib.ListN.{length, replicate}
+use Rattle.cell.specs.declared.cell.Cell.{Cell}
+use Rattle.signature.specs.Decoded.{decoded-length, arity-of}
+use Rattle.pattern.specs.Limits.{pattern-limit}
+use Rattle.cell.specs.Cell.{CRows, cnil, ccons, CRow, cn, cf, wordss, Kinds, words}
+use Rattle.cell.specs.Cursor.{wildCell}
+
+abbrev pub count : CRows → ℕ
+count cnil = 0
+count (ccons r rs) = suc (count rs)
+
+-- one part and then another, where neither is dropped
+abbrev pub then : Option (List ℕ) → Option (List ℕ) → Option (List ℕ)
+then none n = none
+then (some t) none = none
+then (some t) (some u) = some (t ++ u)
+
+-- nothing where the set is empty
+abbrev pub gate : ℕ → Option (List ℕ) → Option (List ℕ)
+gate m o = cond (eqb m 0) none o
+
+-- the words of two rows as one; none where it is dropped
+abbrev mutual
+  pub both : CRow → CRow → Option (List ℕ)
+  both (cn c v m rs) (cn d w n ss) = gate (bitAnd m n) (then (some (c ∷ (bitOr v w ∷ (bitAnd m n ∷ [])))) (boths rs ss))
+  both (cn c v m rs) (cf t w n) = gate (bitAnd m n) (some (c ∷ (bitOr v w ∷ (bitAnd m n ∷ wordss rs))))
+  both (cf t v m) (cn d w n ss) = gate (bitAnd m n) (some (d ∷ (bitOr v w ∷ (bitAnd m n ∷ wordss ss))))
+  both (cf t v m) (cf u w n) = gate (bitAnd m n) (some (t ∷ (bitOr v w ∷ (bitAnd m n ∷ []))))
+
+  pub boths : CRows → CRows → Option (List ℕ)
+  boths cnil cnil = some []
+  boths cnil (ccons s ss) = none
+  boths (ccons r rs) cnil = none
+  boths (ccons r rs) (ccons s ss) = then (both r s) (boths rs ss)
+
+-- constructor c of kind k, with its one-bit set, as the arity table has it
+pub record Head (K : Kinds) (ar : List ℕ) (k c m : ℕ) : Type 0 where
+  pub low : K .first k ≤ c
+  pub tag : c < 256
+  pub known : length ar ≡ decoded-length
+  pub arity : arity-of ar c ≡ length (K .args c)
+  pub set : m ≡ 2 ^ (c - K .first k)
+  pub fits : m < 2 ^ pattern-limit
+
+pub record Free (k t m : ℕ) : Type 0 where
+  pub kind : k < 256
+  pub tag : t ≡ 256 + k
+  pub some : 0 < m
+  pub fits : m < 2 ^ pattern-limit
+
+module _ (K : Kinds) (ar : List ℕ) where
+  -- a row of kind k
+  abbrev mutual
+    pub Of : CRow → ℕ → Type 0
+    Of (cn c v m rs) k = Head K ar k c m × Ofs rs (K .args c)
+    Of (cf t v m) k = Free k t m
+
+    pub Ofs : CRows → List ℕ → Type 0
+    Ofs cnil [] = Unit {0}
+    Ofs cnil (k ∷ ks) = ⊥
+    Ofs (ccons r rs) [] = ⊥
+    Ofs (ccons r rs) (k ∷ ks) = Of r k × Ofs rs ks
+
+-- a column: a wildcard that no cell stands for, or a row
+pub data Col : Type 0 where
+  wild : Col
+  real : CRow → Col
+
+abbrev pub cellOf : Col → Cell
+cellOf wild = wildCell
+cellOf (real (cn c v m rs)) = record { tag = c; vars = v; allowed = m }
+cellOf (real (cf t v m)) = record { tag = t; vars = v; allowed = m }
+
+abbrev pub reals : CRows → List Col
+reals cnil = []
+reals (ccons r rs) = real r ∷ reals rs
+
+-- what a column leaves where a constructor with n arguments is taken in it
+abbrev pub enter : Col → ℕ → List Col
+enter wild n = replicate n wild
+enter (real (cn c v m rs)) n = reals rs
+enter (real (cf t v m)) n = replicate n wild
+
+-- the words of the columns
+abbrev pub flat : List Col → List ℕ
+flat [] = []
+flat (wild ∷ xs) = flat xs
+flat (real r ∷ xs) = words r ++ flat xs
+
+-- v wildcards, and then only rows
+abbrev pub Lead : ℕ → List Col → Type 0
+Lead zero [] = Unit {0}
+Lead zero (wild ∷ xs) = ⊥
+Lead zero (real r ∷ xs) = Lead zero xs
+Lead (suc v) [] = ⊥
+Lead (suc v) (wild ∷ xs) = Lead v xs
+Lead (suc v) (real r ∷ xs) = ⊥

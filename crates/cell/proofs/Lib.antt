@@ -1,0 +1,10 @@
+pub mod CellFacts
+pub mod CodedFacts
+pub mod Columns
+pub mod CursorFacts
+pub mod LockstepFacts
+pub mod Masks
+pub mod Meet
+pub mod RowListFacts
+pub mod Turns
+pub mod Walk

@@ -1,0 +1,6 @@
+pub mod Cell
+pub mod Coded
+pub mod Cursor
+pub mod Lockstep
+pub mod Mask
+pub mod RowList

@@ -1,0 +1,2 @@
+// A row as cells of words, a cursor over its columns, and two rows as one.
+pub mod cell;

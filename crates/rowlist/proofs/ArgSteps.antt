@@ -1,0 +1,79 @@
+-- The arguments of a constructor, one after the other.
+use mathlib.Core.Path.{_≡_, refl, ap, ap₂, _∙_, sym, subst}
+use mathlib.Core.List.{List, map, [], _∷_, _++_, append-assoc, append-nil}
+use mathlib.Core.Bool.{Bool, true, false, _&&_}
+use Prim.Native.Nat.{ℕ, suc, _+_, _*_, _≤_, _<_, _-_}
+use native.Mathlib.Nat.{suc-mul, mul-assoc, le-trans}
+use native.Mathlib.Omega.{arith}
+use lib.ListN.{length, take, drop, getD, length-append, length-take, length-drop}
+use Rattle.signature.specs.Decoded.{Known, arity-of, argument-of, count-of}
+use Rattle.signature.specs.Lists.{All, none-left, also}
+use Rattle.signature.specs.Set.{bit, bit-if}
+use Rattle.signature.specs.Signature.{Signature, arguments}
+use Rattle.signature.proofs.Booleans.{and-left, and-right}
+use Rattle.signature.proofs.KnownFacts.{arity-is, argument-is}
+use Rattle.signature.proofs.Tests.{times-less}
+use Rattle.pattern.specs.Pattern.{Pattern, pattern-code, Patterns, pnil, pcons, patterns-code}
+use Rattle.pattern.specs.Weight.{weight-plus, weight-minus, product-plus, sum-minus, light-plus, light-minus, light-all-plus, light-all-minus}
+use Rattle.pattern.specs.WellFormed.{WellFormed, AllWellFormed, well-nil, well-cons}
+use Rattle.rowlist.specs.Arguments.{GivenArgs, MadeArgs, lights-of, few-begun, HasFirst, Short, behind, next-rows, row-words}
+use Rattle.rowlist.specs.Build.{light-of, rows-of, GivenPat, Made}
+use Rattle.cell.specs.Coded.{kinds-of, code}
+use Rattle.rowlist.specs.Grow.{words-list, Filled}
+use Rattle.cell.specs.RowList.{from, each-with}
+use Rattle.rowlist.proofs.Behind.{behind-nil}
+use Rattle.cell.proofs.Walk.{from-is}
+
+-- ---- lists that are begun are short
+pub list-le : (n : ℕ) (vs : List (List ℕ)) → Short n vs → length (words-list vs) ≤ length vs * (1 + n)
+list-le n [] s = omega arith
+list-le n (v ∷ vs) s = rw (suc-mul (length vs) (1 + n)) (simp length-append (omega (arith, list-le n vs (s .1), s .0)))
+
+-- ---- which argument is next
+pub record NextArg (sig : Signature) (b : Bool) (n : ℕ) (ks : List ℕ) (ps : Patterns) (k : ℕ) (js : List ℕ) : Type 0 where
+  pub p : Pattern
+  pub qs : Patterns
+  pub kinds-are : ks ≡ k ∷ js
+  pub parts-are : ps ≡ pcons p qs
+  pub well : WellFormed sig k p
+  pub wells : AllWellFormed sig js qs
+  pub light : light-of b p ≡ true
+  pub lights : lights-of b qs ≡ true
+  pub there : k < n
+  pub theres : All (λ j. j < n) js
+
+pub next-arg : (sig : Signature) (b : Bool) (n k : ℕ) (js ks : List ℕ) (ps : Patterns) → ks ≡ k ∷ js → AllWellFormed sig ks ps → lights-of b ps ≡ true → All (λ j. j < n) ks → NextArg sig b n ks ps k js
+next-arg sig b n k js ks ps e h l a = go ps (subst (λ (z : List ℕ). AllWellFormed sig z ps) e h) l (subst (λ (z : List ℕ). All (λ j. j < n) z) e a)
+  where
+    split : (b : Bool) (p : Pattern) (qs : Patterns) → lights-of b (pcons p qs) ≡ true → (light-of b p ≡ true) × (lights-of b qs ≡ true)
+    split true p qs z = (and-left (light-plus p) (light-all-plus qs) z, and-right (light-plus p) (light-all-plus qs) z)
+    split false p qs z = (and-left (light-minus p) (light-all-minus qs) z, and-right (light-minus p) (light-all-minus qs) z)
+
+    go : (ps : Patterns) → AllWellFormed sig (k ∷ js) ps → lights-of b ps ≡ true → All (λ j. j < n) (k ∷ js) → NextArg sig b n ks ps k js
+    go (pcons p qs) (well-cons w ws) z (also i t ts) =
+        let y = split b p qs z in
+        record { p = p; qs = qs; kinds-are = e; parts-are = refl; well = w; wells = ws; light = y .0; lights = y .1; there = t; theres = ts }
+
+pub drop-next : (j : ℕ) (l : List ℕ) → j < length l → drop j l ≡ getD l j 0 ∷ drop (j + 1) l
+drop-next j [] h = absurd (omega arith)
+drop-next Prim.Native.Nat.zero (x ∷ l) h = refl
+drop-next (suc j) (x ∷ l) h = let z : suc j + 1 ≡ suc (j + 1) = omega arith in rw z (drop-next j l (omega arith))
+
+no-drop : (j : ℕ) (l : List ℕ) → length l ≤ j → drop j l ≡ []
+no-drop j l h = none-long (drop j l) (omega (arith, length-drop j l))
+  where
+    none-long : (l : List ℕ) → length l ≤ 0 → l ≡ []
+    none-long [] h = refl
+    none-long (x ∷ l) h = absurd (omega arith)
+
+module _ {t : List ℕ} {c j : ℕ} {w : List ℕ} {b : Bool} {used : ℕ} {o : List ℕ} {m : ℕ} (g : GivenArgs t c j w b used o m) where
+  pub args-count : arity-of t c ≡ length (arguments (g .known .sig) c)
+  args-count = arity-is (g .known) c (g .head)
+
+  -- none is left
+  pub args-end : arity-of t c ≤ j → MadeArgs (g .known .sig) b (g .ks) (g .ps) (g .begun) used 0 o
+  args-end h = go (g .ks) (g .ps) (sym (g .kinds) ∙ no-drop j (arguments (g .known .sig) c) (omega (arith, h, args-count))) (g .well)
+    where
+      go : (ks : List ℕ) (ps : Patterns) → ks ≡ [] → AllWellFormed (g .known .sig) ks ps → MadeArgs (g .known .sig) b ks ps (g .begun) used 0 o
+      go [] pnil e well-nil = record { read-is = refl; list = rw (behind-nil b (g .known .sig) (g .begun)) (g .list) }
+      go (k ∷ ks) ps e h = absurd (omega (arith, ap length e))

@@ -1,0 +1,222 @@
+-- Building.
+use borrow.Author.Tests.{le-ltb, ne-eqb}
+use mathlib.Core.Path.{refl, _≡_, subst, sym}
+use mathlib.Core.List.{List, _∷_, [], _++_, map}
+use mathlib.Core.Option.{Option, none, some}
+use mathlib.Core.Bool.{Bool, true, false, not, cond, _&&_}
+use Prim.Native.Nat.{ℕ, _<_, _≤_, _-_, _+_, _*_}
+use native.Mathlib.Omega.{arith}
+use lib.Dec.{eqb, leb}
+use native.Mathlib.Nat.{le-trans}
+use lib.ListN.{length, set, getD}
+use Rattle.signature.specs.Lists.{require, _>>=_, is-empty, memb, keep, somes}
+use Rattle.signature.specs.Signature.{Signature, heads}
+use Rattle.signature.proofs.Booleans.{and-left, and-right}
+use Rattle.signature.proofs.Tests.{eqb-eq, true≢false, times-less, le-of}
+use Rattle.pattern.specs.Pattern.{Pattern, head, and, or, wild, absurd-pat, neg, var, pattern-code}
+use Rattle.pattern.specs.Weight.{weight-plus, weight-minus, light-plus, light-minus}
+use Rattle.pattern.specs.WellFormed.{WellFormed, well-and, well-or, well-not}
+use Rattle.rowlist.specs.Build.{Plain, rows-of, Open, vars-of, leaf-entries, light-of, multiplies}
+use Rattle.cell.specs.Cell.{Kinds}
+use Rattle.cell.specs.Coded.{Typed, Known, Typeds}
+use Rattle.cell.specs.Mask.{Within, mask}
+use Rattle.rowlist.specs.Product.{Typed-all, Product}
+use Rattle.row.specs.Row.{Row, Rows, named, rcons, free, combines, combine, rnil, each, rows-plus, rows-minus}
+use Rattle.cell.specs.RowList.{entries}
+use Rattle.cell.proofs.Masks.{within-keep, mask-one, mask-nil}
+use Rattle.row.proofs.RowCount.{plus-count, minus-count}
+
+-- each row that is there has it
+abbrev If-some : {A : Type 0} → (A → Type 0) → Option A → Type 0
+If-some P none = Unit {0}
+If-some P (some a) = P a
+
+module _ (K : Kinds) (ar : List ℕ) where
+  typed-require : (b : Bool) (t : Row) (k : ℕ) → Typed K ar t k → If-some (λ t. Typed K ar t k) (require b >>= λ u. some t)
+  typed-require true t k h = h
+  typed-require false t k h = tt
+
+  typed-named : (zs : List ℕ) (c k : ℕ) (m : Option Rows) → Known K ar k c → If-some (λ ts. Typeds K ar ts (K .args c)) m → If-some (λ t. Typed K ar t k) (m >>= λ ts. some (named zs c ts))
+  typed-named zs c k none h t = tt
+  typed-named zs c k (some ts) h t = (h, t)
+
+  typed-cons : (k : ℕ) (ks : List ℕ) (m : Option Row) (n : Option Rows) → If-some (λ t. Typed K ar t k) m → If-some (λ ts. Typeds K ar ts ks) n
+      → If-some (λ ts. Typeds K ar ts (k ∷ ks)) (m >>= λ t. n >>= λ ts. some (rcons t ts))
+  typed-cons k ks none n h g = tt
+  typed-cons k ks (some t) none h g = tt
+  typed-cons k ks (some t) (some ts) h g = (h, g)
+
+  typed-free : (zs es : List ℕ) (k : ℕ) → k < 256 → Within (K .first k) es → If-some (λ t. Typed K ar t k) (require (not (is-empty es)) >>= λ u. some (free zs es))
+  typed-free zs [] k l w = tt
+  typed-free zs (e ∷ es) k l w = (l, refl, w)
+
+  typed-nn : (b : Bool) (zs : List ℕ) (c d k : ℕ) (rs ss : Rows) → eqb c d ≡ b → Known K ar k c → Typeds K ar rs (K .args c) → Typeds K ar ss (K .args d)
+      → ((ks : List ℕ) → Typeds K ar rs ks → Typeds K ar ss ks → If-some (λ ts. Typeds K ar ts ks) (combines rs ss))
+      → If-some (λ t. Typed K ar t k) (require b >>= λ u. combines rs ss >>= λ ts. some (named zs c ts))
+  typed-nn true zs c d k rs ss e h t u ih =
+      typed-named zs c k (combines rs ss) h (ih (K .args c) t (subst (λ (n : ℕ). Typeds K ar ss (K .args n)) (sym (eqb-eq c d e)) u))
+  typed-nn false zs c d k rs ss e h t u ih = tt
+
+  mutual
+    pub typed-combine : (r s : Row) (k : ℕ) → Typed K ar r k → Typed K ar s k → If-some (λ t. Typed K ar t k) (combine r s)
+    typed-combine (named xs c rs) (named ys d ss) k t u = typed-nn (eqb c d) (xs ++ ys) c d k rs ss refl (t .0) (t .1) (u .1) (λ ks a b. typed-combines rs ss ks a b)
+    typed-combine (named xs c rs) (free ys ds) k t u = typed-require (memb c ds) (named (xs ++ ys) c rs) k t
+    typed-combine (free xs cs) (named ys d ss) k t u = typed-require (memb d cs) (named (xs ++ ys) d ss) k u
+    typed-combine (free xs cs) (free ys ds) k t u = typed-free (xs ++ ys) (keep (λ c. memb c ds) cs) k (t .0) (within-keep (K .first k) (λ c. memb c ds) cs (t .2))
+
+    pub typed-combines : (rs ss : Rows) (ks : List ℕ) → Typeds K ar rs ks → Typeds K ar ss ks → If-some (λ ts. Typeds K ar ts ks) (combines rs ss)
+    typed-combines rnil rnil ks t u = t
+    typed-combines rnil (rcons s ss) ks t u = tt
+    typed-combines (rcons r rs) rnil ks t u = tt
+    typed-combines (rcons r rs) (rcons s ss) [] t u = absurd t
+    typed-combines (rcons r rs) (rcons s ss) (k ∷ ks) t u = typed-cons k ks (combine r s) (combines rs ss) (typed-combine r s k (t .0) (u .0)) (typed-combines rs ss ks (t .1) (u .1))
+
+  pub typed-append : (k : ℕ) (rs ss : List Row) → Typed-all K ar k rs → Typed-all K ar k ss → Typed-all K ar k (rs ++ ss)
+  typed-append k [] ss t u = u
+  typed-append k (r ∷ rs) ss t u = (t .0, typed-append k rs ss (t .1) u)
+
+  typed-somes : (k : ℕ) (m : Option Row) (ms : List (Option Row)) → If-some (λ t. Typed K ar t k) m → Typed-all K ar k (somes ms) → Typed-all K ar k (somes (m ∷ ms))
+  typed-somes k none ms h t = t
+  typed-somes k (some r) ms h t = (h, t)
+
+  typed-ones : (k : ℕ) (r : Row) (ss : List Row) (more : List (Option Row)) → Typed K ar r k → Typed-all K ar k ss → Typed-all K ar k (somes more) → Typed-all K ar k (somes (map (combine r) ss ++ more))
+  typed-ones k r [] more t u v = v
+  typed-ones k r (s ∷ ss) more t u v = typed-somes k (combine r s) (map (combine r) ss ++ more) (typed-combine r s k t (u .0)) (typed-ones k r ss more t (u .1) v)
+
+  pub typed-each : (k : ℕ) (rs ss : List Row) → Typed-all K ar k rs → Typed-all K ar k ss → Typed-all K ar k (somes (each combine rs ss))
+  typed-each k [] ss t u = tt
+  typed-each k (r ∷ rs) ss t u = typed-ones k r ss (each combine rs ss) (t .0) u (typed-each k rs ss (t .1) u)
+
+-- ---- the leaves, as they are written
+pub one-list : (t v f : ℕ) (o : List ℕ) → 5 ≤ length o → Product (3 ∷ (t ∷ (v ∷ (f ∷ [])))) 4 (set (set (set (set (set o 0 3) 1 t) 2 v) 3 f) 4 0)
+one-list t v f [] h = absurd (omega arith)
+one-list t v f (a ∷ []) h = absurd (omega arith)
+one-list t v f (a ∷ (b ∷ [])) h = absurd (omega arith)
+one-list t v f (a ∷ (b ∷ (c ∷ []))) h = absurd (omega arith)
+one-list t v f (a ∷ (b ∷ (c ∷ (d ∷ [])))) h = absurd (omega arith)
+one-list t v f (a ∷ (b ∷ (c ∷ (d ∷ (e ∷ o))))) h = record { size = refl; list = refl }
+
+pub no-list : (o : List ℕ) → 1 ≤ length o → Product [] 0 (set o 0 0)
+no-list [] h = absurd (omega arith)
+no-list (a ∷ o) h = record { size = refl; list = refl }
+
+-- a leaf's rows by the tests
+pub leaf-is : (w t f v n : ℕ) (b c : Bool) (o : List ℕ) → eqb w 259 ≡ c → v ≡ vars-of w
+    → Product (cond (cond c (not b) b) (3 ∷ (t ∷ (v ∷ (f ∷ [])))) []) n o → Product (leaf-entries w b t f) n o
+leaf-is w t f v n b c o e q h = rw (e, ← q) h
+
+-- ---- what a pattern is, by its first word
+parts-of : (a b c : Bool) → (a && b && c) ≡ true → (a ≡ true) × (b ≡ true) × (c ≡ true)
+parts-of a b c e = (and-left a b (and-left (a && b) c e), and-right a b (and-left (a && b) c e), and-right (a && b) c e)
+
+module _ (sig : Signature) (k : ℕ) where
+  pub record Negated (p : Pattern) (b : Bool) : Type 0 where
+    pub q : Pattern
+    pub code-is : pattern-code p ≡ 260 ∷ pattern-code q
+    pub well : WellFormed sig k q
+    pub light : light-of (not b) q ≡ true
+    pub plain : Plain q
+    pub rows-is : rows-of sig k b p ≡ rows-of sig k (not b) q
+
+  pub negated : (p : Pattern) (b : Bool) (rest : List ℕ) → WellFormed sig k p → light-of b p ≡ true → Plain p → getD (pattern-code p ++ rest) 0 0 ≡ 260 → Negated p b
+  negated (head c ps) b rest h l e w = absurd e
+  negated (and p q) b rest h l e w = absurd (omega (arith, w))
+  negated (or p q) b rest h l e w = absurd (omega (arith, w))
+  negated wild b rest h l e w = absurd (omega (arith, w))
+  negated absurd-pat b rest h l e w = absurd (omega (arith, w))
+  negated (neg p) true rest (well-not h) l e w = record { q = p; code-is = refl; well = h; light = l; plain = e; rows-is = refl }
+  negated (neg p) false rest (well-not h) l e w = record { q = p; code-is = refl; well = h; light = l; plain = e; rows-is = refl }
+  negated (var x) b rest h l e w = absurd (omega (arith, w))
+
+  -- two parts: their words and what holds of each
+  pub record Two (p : Pattern) (b : Bool) : Type 0 where
+    pub word : ℕ
+    pub q : Pattern
+    pub r : Pattern
+    pub code-is : pattern-code p ≡ word ∷ (pattern-code q ++ pattern-code r)
+    pub well : WellFormed sig k q × WellFormed sig k r
+    pub light : (light-of b q ≡ true) × (light-of b r ≡ true)
+    pub plain : Plain q × Plain r
+
+  -- two parts that are multiplied
+  pub record Multiplied (p : Pattern) (b : Bool) : Type 0 where
+    pub two : Two p b
+    pub few : length (rows-of sig k b (two .q)) * length (rows-of sig k b (two .r)) ≤ 64
+    pub rows-is : rows-of sig k b p ≡ somes (each combine (rows-of sig k b (two .q)) (rows-of sig k b (two .r)))
+
+  pub multiplied : (p : Pattern) (b : Bool) (rest : List ℕ) → WellFormed sig k p → light-of b p ≡ true → Plain p → multiplies (getD (pattern-code p ++ rest) 0 0) b ≡ true → Multiplied p b
+  multiplied (head c ps) b rest h l e w = absurd e
+  multiplied (and p q) true rest (well-and h i) l e w =
+      let s = parts-of (leb (weight-plus p * weight-plus q) 64) (light-plus p) (light-plus q) l in
+      record {
+        two = record { word = 256; q = p; r = q; code-is = refl; well = (h, i); light = (s .1, s .2); plain = e };
+        few = le-trans (times-less (length (rows-plus sig k p)) (weight-plus p) (length (rows-plus sig k q)) (weight-plus q) (plus-count sig p k) (plus-count sig q k)) (le-of (weight-plus p * weight-plus q) 64 (s .0));
+        rows-is = refl;
+      }
+  multiplied (and p q) false rest h l e w = true≢false (sym w)
+  multiplied (or p q) true rest h l e w = true≢false (sym w)
+  multiplied (or p q) false rest (well-or h i) l e w =
+      let s = parts-of (leb (weight-minus p * weight-minus q) 64) (light-minus p) (light-minus q) l in
+      record {
+        two = record { word = 257; q = p; r = q; code-is = refl; well = (h, i); light = (s .1, s .2); plain = e };
+        few = le-trans (times-less (length (rows-minus sig k p)) (weight-minus p) (length (rows-minus sig k q)) (weight-minus q) (minus-count sig p k) (minus-count sig q k)) (le-of (weight-minus p * weight-minus q) 64 (s .0));
+        rows-is = refl;
+      }
+  multiplied wild true rest h l e w = true≢false (sym w)
+  multiplied wild false rest h l e w = true≢false (sym w)
+  multiplied absurd-pat true rest h l e w = true≢false (sym w)
+  multiplied absurd-pat false rest h l e w = true≢false (sym w)
+  multiplied (neg p) true rest h l e w = true≢false (sym w)
+  multiplied (neg p) false rest h l e w = true≢false (sym w)
+  multiplied (var x) true rest h l e w = absurd (omega (arith, eqb-eq (261 + x) 256 w))
+  multiplied (var x) false rest h l e w = absurd (omega (arith, eqb-eq (261 + x) 257 w))
+
+  -- two parts that are added
+  pub record Added (p : Pattern) (b : Bool) : Type 0 where
+    pub two : Two p b
+    pub rows-is : rows-of sig k b p ≡ rows-of sig k b (two .q) ++ rows-of sig k b (two .r)
+
+  pub added : (p : Pattern) (b : Bool) (rest : List ℕ) → WellFormed sig k p → light-of b p ≡ true → Plain p → multiplies (getD (pattern-code p ++ rest) 0 0) b ≡ false → getD (pattern-code p ++ rest) 0 0 < 258 → Added p b
+  added (head c ps) b rest h l e w z = absurd e
+  added (and p q) true rest h l e w z = true≢false w
+  added (and p q) false rest (well-and h i) l e w z =
+      let s = parts-of (leb (weight-minus p + weight-minus q) 64) (light-minus p) (light-minus q) l in
+      record { two = record { word = 256; q = p; r = q; code-is = refl; well = (h, i); light = (s .1, s .2); plain = e }; rows-is = refl }
+  added (or p q) true rest (well-or h i) l e w z =
+      let s = parts-of (leb (weight-plus p + weight-plus q) 64) (light-plus p) (light-plus q) l in
+      record { two = record { word = 257; q = p; r = q; code-is = refl; well = (h, i); light = (s .1, s .2); plain = e }; rows-is = refl }
+  added (or p q) false rest h l e w z = true≢false w
+  added wild b rest h l e w z = absurd (omega (arith, z))
+  added absurd-pat b rest h l e w z = absurd (omega (arith, z))
+  added (neg p) b rest h l e w z = absurd (omega (arith, z))
+  added (var x) b rest h l e w z = absurd (omega (arith, z))
+
+module _ (K : Kinds) (sig : Signature) (k : ℕ) where
+  -- a leaf
+  pub record Leaf (p : Pattern) (b : Bool) (w tag full : ℕ) : Type 0 where
+    pub code-is : pattern-code p ≡ w ∷ []
+    pub word : w ≤ 276
+    pub rows-is : leaf-entries w b tag full ≡ entries K k (rows-of sig k b p)
+
+module _ (K : Kinds) (sig : Signature) (k : ℕ) where
+  module _ (tag full : ℕ) (o : Open K sig k tag full) where
+    one-row : (v : ℕ) (xs : List ℕ) → v ≡ mask 0 xs → _≡_ {A = List ℕ} (3 ∷ (tag ∷ (v ∷ (full ∷ [])))) (3 ∷ ((256 + k) ∷ (mask 0 xs ∷ (mask (K .first k) (heads sig k) ∷ []))))
+    one-row v xs e = rw (e, o .tag-is, o .full-is)
+
+var-row : (x : ℕ) → x < 16 → vars-of (261 + x) ≡ mask 0 (x ∷ [])
+var-row x h = let e : 261 + x - 261 ≡ x - 0 = omega arith in rw (le-ltb (261 + x) 261 (omega arith), e) (sym (mask-one 0 x))
+
+module _ (K : Kinds) (sig : Signature) (k : ℕ) where
+  module _ (tag full : ℕ) (o : Open K sig k tag full) where
+    pub leaf-of : (p : Pattern) (b : Bool) (rest : List ℕ) → WellFormed sig k p → Plain p → ¬ (getD (pattern-code p ++ rest) 0 0 ≡ 260) → 258 ≤ getD (pattern-code p ++ rest) 0 0
+        → Leaf K sig k p b (getD (pattern-code p ++ rest) 0 0) tag full
+    leaf-of (head c ps) b rest s h w l = absurd h
+    leaf-of (and p q) b rest s h w l = absurd (omega (arith, l))
+    leaf-of (or p q) b rest s h w l = absurd (omega (arith, l))
+    leaf-of wild true rest s h w l = record { code-is = refl; word = omega arith; rows-is = one-row K sig k tag full o 0 [] (sym (mask-nil 0)) }
+    leaf-of wild false rest s h w l = record { code-is = refl; word = omega arith; rows-is = refl }
+    leaf-of absurd-pat true rest s h w l = record { code-is = refl; word = omega arith; rows-is = refl }
+    leaf-of absurd-pat false rest s h w l = record { code-is = refl; word = omega arith; rows-is = one-row K sig k tag full o 0 [] (sym (mask-nil 0)) }
+    leaf-of (neg p) b rest s h w l = absurd (w refl)
+    leaf-of (var x) true rest s h w l = record { code-is = refl; word = omega (arith, h); rows-is = rw (ne-eqb (261 + x) 259 (λ z. omega (arith, z))) (one-row K sig k tag full o (vars-of (261 + x)) (x ∷ []) (var-row x h)) }
+    leaf-of (var x) false rest s h w l = record { code-is = refl; word = omega (arith, h); rows-is = rw (ne-eqb (261 + x) 259 (λ z. omega (arith, z))) }

@@ -1,0 +1,11 @@
+pub mod ArgSteps
+pub mod Behind
+pub mod Building
+pub mod Growing
+pub mod Kinded
+pub mod NextLists
+pub mod OneMore
+pub mod Parts
+pub mod Products
+pub mod Rooms
+pub mod Typing

@@ -1,0 +1,298 @@
+-- Parts.
+use mathlib.Core.Path.{_≡_, _∙_, ap, ap₂, sym, subst}
+use mathlib.Core.List.{List, _∷_, _++_, append-assoc, []}
+use mathlib.Core.Bool.{Bool, not, true, false}
+use Prim.Native.Nat.{ℕ, _+_, _≤_, _-_, _<_}
+use native.Mathlib.Numerals.{add-one}
+use native.Mathlib.Omega.{arith}
+use lib.ListN.{drop, length, length-append, length-take, take-append-drop, getD, length-drop, take}
+use lib.Seq.{drop-at, length-take-le, take-take, take-at}
+use Rattle.pattern.specs.Pattern.{Pattern, pattern-code, head, and, or, wild, absurd-pat, neg, var}
+use Rattle.rowlist.specs.Build.{GivenPat, Made, leaf-entries, multiplies, rows-of}
+use Rattle.cell.specs.Coded.{code, kinds-of}
+use Rattle.rowlist.specs.Product.{Product, GivenProduct, products}
+use Rattle.row.specs.Row.{Row}
+use Rattle.cell.specs.RowList.{from, Begins, entries, list-code}
+use Rattle.rowlist.proofs.Building.{Negated, negated, Leaf, leaf-of, Two, Multiplied, multiplied, Added, added}
+use Rattle.rowlist.proofs.Rooms.{list-small, all-small, rows-places}
+use Rattle.rowlist.proofs.Typing.{typed-rows}
+use Rattle.cell.proofs.Walk.{from-is, back, part-back, each-append}
+
+-- ---- words
+first-part : (w : List ℕ) (x : ℕ) (u rest : List ℕ) → w ≡ (x ∷ u) ++ rest → from w 1 ≡ u ++ rest
+first-part w x u rest e = from-is w 1 ∙ ap (drop 1) e
+
+second-part : (w : List ℕ) (x : ℕ) (u v rest : List ℕ) (read : ℕ) → w ≡ (x ∷ (u ++ v)) ++ rest → read ≡ length u → from w (read + 1) ≡ v ++ rest
+second-part w x u v rest read e l =
+    from-is w (read + 1)
+    ∙ ap (drop (read + 1)) e
+    ∙ ap₂ (λ (i : ℕ) (z : List ℕ). drop i (x ∷ z)) (add-one read) (append-assoc u v rest)
+    ∙ drop-at u (v ++ rest) read (sym l)
+
+abbrev pub Result : {ar : List ℕ} {tag full : ℕ} {w : List ℕ} {b : Bool} {n m : ℕ} → GivenPat ar tag full w b n m → ℕ → ℕ → List ℕ → Type 0
+Result {b = b} g used read o = Made (kinds-of (g .known .sig)) (g .known .sig) (g .k) b (g .p) used read o
+
+code-some : (p : Pattern) → 1 ≤ length (pattern-code p)
+code-some (head c ps) = omega arith
+code-some (and p q) = omega arith
+code-some (or p q) = omega arith
+code-some wild = omega arith
+code-some absurd-pat = omega arith
+code-some (neg p) = omega arith
+code-some (var x) = omega arith
+
+-- a list in front
+pub in-front : (w o : List ℕ) (n : ℕ) → Product w n o → (n + 1 ≤ length o) × (o ≡ (w ++ (0 ∷ [])) ++ drop (n + 1) o) × Begins (w ++ (0 ∷ [])) (n + 1) o
+in-front w o n p =
+    let l : length (w ++ (0 ∷ [])) ≡ n + 1 = simp length-append (omega (arith, p .size)) in (
+      omega (arith, length-take (n + 1) o, ap length (p .list)),
+      sym (take-append-drop (n + 1) o) ∙ ap (λ (z : List ℕ). z ++ drop (n + 1) o) (p .list),
+      (sym l, p .list),
+    )
+
+module _ {ar : List ℕ} {tag full : ℕ} {w : List ℕ} {b : Bool} {n m : ℕ} (g : GivenPat ar tag full w b n m) where
+  word-is : getD w 0 0 ≡ getD (pattern-code (g .p) ++ g .rest) 0 0
+  word-is = ap (λ (l : List ℕ). getD l 0 0) (g .code-is)
+
+  pub some-word : 1 ≤ length w
+  some-word = omega (arith, code-some (g .p), simp length-append at (ap length (g .code-is)))
+
+module _ {ar : List ℕ} {tag full : ℕ} {w : List ℕ} {b : Bool} {n m : ℕ} (g : GivenPat ar tag full w b n m) where
+  -- not
+  module _ (h : getD w 0 0 ≡ 260) where
+    neg-view : Negated (g .known .sig) (g .k) (g .p) b
+    neg-view = negated (g .known .sig) (g .k) (g .p) b (g .rest) (g .well) (g .light) (g .plain) (sym (word-is g) ∙ h)
+
+    pub neg-given : GivenPat ar tag full (from w 1) (not b) n m
+    neg-given = record {
+      known = g .known;
+      k = g .k;
+      there = g .there;
+      p = neg-view .q;
+      rest = g .rest;
+      code-is = first-part w 260 (pattern-code (neg-view .q)) (g .rest) (g .code-is ∙ ap (λ (l : List ℕ). l ++ g .rest) (neg-view .code-is));
+      well = neg-view .well;
+      light = neg-view .light;
+      plain = neg-view .plain;
+      opened = g .opened;
+      room = omega (arith, g .room, ap length (neg-view .code-is));
+      work-room = omega (arith, g .work-room, ap length (neg-view .code-is));
+    }
+
+    pub neg-made : (used read : ℕ) (o : List ℕ) → ((q : GivenPat ar tag full (from w 1) (not b) n m) → Result q used read o) → Result g used (read + 1) o × (read + 1 ≤ length w)
+    unfolding neg-given
+    neg-made used read o f =
+        let d = f neg-given in
+        let c = neg-view .code-is in (
+          record { read-is = omega (arith, d .read-is, ap length c); list = subst (λ (l : List Row). Product (entries (kinds-of (g .known .sig)) (g .k) l) used o) (sym (neg-view .rows-is)) (d .list) },
+          omega (arith, d .read-is, ap length c, simp length-append at (ap length (g .code-is))),
+        )
+
+module _ {ar : List ℕ} {tag full : ℕ} {w : List ℕ} {b : Bool} {n m : ℕ} (g : GivenPat ar tag full w b n m) where
+  -- a leaf
+  module _ (h : ¬ (getD w 0 0 ≡ 260)) (l : 258 ≤ getD w 0 0) where
+    leaf-view : Leaf (kinds-of (g .known .sig)) (g .known .sig) (g .k) (g .p) b (getD w 0 0) tag full
+    leaf-view = rw (word-is g) (leaf-of (kinds-of (g .known .sig)) (g .known .sig) (g .k) tag full (g .opened) (g .p) b (g .rest) (g .well) (g .plain) (λ z. h (word-is g ∙ z)) (rw (word-is g) at l))
+
+    pub leaf-given : (getD w 0 0 ≤ 276) × (5 ≤ n)
+    leaf-given = (leaf-view .word, omega (arith, g .room, ap length (leaf-view .code-is)))
+
+    pub leaf-made : (used : ℕ) (o : List ℕ) → Product (leaf-entries (getD w 0 0) b tag full) used o → Result g used 1 o
+    leaf-made used o p = record { read-is = sym (ap length (leaf-view .code-is)); list = subst (λ (z : List ℕ). Product z used o) (leaf-view .rows-is) p }
+
+module _ {ar : List ℕ} {tag full : ℕ} {w : List ℕ} {b : Bool} {n m : ℕ} (g : GivenPat ar tag full w b n m) where
+  -- two parts that are multiplied: the first in the workspace, the second behind it
+  module _ (h : multiplies (getD w 0 0) b ≡ true) where
+    mult-view : Multiplied (g .known .sig) (g .k) (g .p) b
+    mult-view = multiplied (g .known .sig) (g .k) (g .p) b (g .rest) (g .well) (g .light) (g .plain) (ap (λ (x : ℕ). multiplies x b) (sym (word-is g)) ∙ h)
+
+    abbrev mult-two : Two (g .known .sig) (g .k) (g .p) b
+    mult-two = mult-view .two
+
+    mult-length : length (pattern-code (g .p)) ≡ 1 + (length (pattern-code (mult-two .q)) + length (pattern-code (mult-two .r)))
+    mult-length = ap length (mult-two .code-is) ∙ simp length-append (omega arith)
+
+    mult-code : w ≡ (mult-two .word ∷ (pattern-code (mult-two .q) ++ pattern-code (mult-two .r))) ++ g .rest
+    mult-code = g .code-is ∙ ap (λ (l : List ℕ). l ++ g .rest) (mult-two .code-is)
+
+    pub mult-first : GivenPat ar tag full (from w 1) b m n
+    mult-first = record {
+      known = g .known;
+      k = g .k;
+      there = g .there;
+      p = mult-two .q;
+      rest = pattern-code (mult-two .r) ++ g .rest;
+      code-is = first-part w _ (pattern-code (mult-two .q) ++ pattern-code (mult-two .r)) (g .rest) mult-code ∙ append-assoc (pattern-code (mult-two .q)) (pattern-code (mult-two .r)) (g .rest);
+      well = mult-two .well .0;
+      light = mult-two .light .0;
+      plain = mult-two .plain .0;
+      opened = g .opened;
+      room = omega (arith, g .work-room, mult-length);
+      work-room = omega (arith, g .room, mult-length);
+    }
+
+module _ {ar : List ℕ} {tag full : ℕ} {w : List ℕ} {b : Bool} {n m : ℕ} (g : GivenPat ar tag full w b n m) where
+  module _ (h : multiplies (getD w 0 0) b ≡ true) where
+    module _ (used read : ℕ) (o : List ℕ) (f : (q : GivenPat ar tag full (from w 1) b m n) → Result q used read o) where
+      mult-made-first : Made (kinds-of (g .known .sig)) (g .known .sig) (g .k) b (mult-two g h .q) used read o
+      unfolding mult-first
+      mult-made-first = f (mult-first g h)
+
+      pub mult-bounds : (read + 1 ≤ length w) × (used + 1 ≤ length o)
+      mult-bounds = (
+        omega (arith, mult-made-first .read-is, simp length-append at (ap length (mult-code g h))),
+        in-front _ o used (mult-made-first .list) .0,
+      )
+
+      pub mult-second : (n' m' : ℕ) → length o ≡ m → n' ≡ n → m' ≡ length (from o (used + 1)) → GivenPat ar tag full (from w (read + 1)) b m' n'
+      mult-second n' m' l e i = record {
+        known = g .known;
+        k = g .k;
+        there = g .there;
+        p = mult-two g h .r;
+        rest = g .rest;
+        code-is = second-part w _ (pattern-code (mult-two g h .q)) (pattern-code (mult-two g h .r)) (g .rest) read (mult-code g h) (mult-made-first .read-is);
+        well = mult-two g h .well .1;
+        light = mult-two g h .light .1;
+        plain = mult-two g h .plain .1;
+        opened = g .opened;
+        room =
+            let z : m' ≡ m - (used + 1) = i ∙ ap length (from-is o (used + 1)) ∙ length-drop (used + 1) o ∙ ap (λ (x : ℕ). x - (used + 1)) l in
+            omega (arith, z, g .work-room, mult-length g h, mult-made-first .list .size, list-small (g .known .sig) (g .k) (kinds-of (g .known .sig)) (mult-two g h .q) b (mult-two g h .well .0) (mult-two g h .light .0));
+        work-room = omega (arith, e, g .room, mult-length g h);
+      }
+
+module _ {ar : List ℕ} {tag full : ℕ} {w : List ℕ} {b : Bool} {n m : ℕ} (g : GivenPat ar tag full w b n m) where
+  module _ (h : multiplies (getD w 0 0) b ≡ true) where
+    module _ (used read : ℕ) (o : List ℕ) (f : (q : GivenPat ar tag full (from w 1) b m n) → Result q used read o) where
+      module _ (n' m' used' read' : ℕ) (l : length o ≡ m) (e : n' ≡ n) (i : m' ≡ length (from o (used + 1))) (ys : List ℕ) (f' : (q : GivenPat ar tag full (from w (read + 1)) b m' n') → Result q used' read' ys) (k : length ys ≡ length (from o (used + 1))) where
+        mult-made-second : Made (kinds-of (g .known .sig)) (g .known .sig) (g .k) b (mult-two g h .r) used' read' ys
+        unfolding mult-second
+        mult-made-second = f' (mult-second g h used read o f n' m' l e i)
+
+        pub mult-read : read + 1 + read' ≤ length w
+        mult-read = omega (arith, mult-made-first g h used read o f .read-is, mult-made-second .read-is, simp length-append at (ap length (mult-code g h)))
+
+        front-kept : take (used + 1) o ≡ entries (kinds-of (g .known .sig)) (g .k) (rows-of (g .known .sig) (g .k) b (mult-two g h .q)) ++ (0 ∷ [])
+        front-kept = mult-made-first g h used read o f .list .list
+
+        behind : from (back o (used + 1) ys) (used + 1) ≡ ys ++ drop (length o - (used + 1)) (drop (used + 1) o)
+        behind = from-is (back o (used + 1) ys) (used + 1) ∙ drop-at (take (used + 1) o) (ys ++ drop (length o - (used + 1)) (drop (used + 1) o)) (used + 1) (length-take-le (used + 1) o (mult-bounds g h used read o f .1))
+
+        pub mult-at : used + 1 ≤ length (back o (used + 1) ys)
+        mult-at = simp length-append (omega (arith, length-take-le (used + 1) o (mult-bounds g h used read o f .1)))
+
+        pub mult-lists : (o' : List ℕ) → length o' ≡ n → GivenProduct ar (back o (used + 1) ys) (from (back o (used + 1) ys) (used + 1)) o'
+        mult-lists o' j = record {
+          K = kinds-of (g .known .sig);
+          kind = g .k;
+          rs = rows-of (g .known .sig) (g .k) b (mult-two g h .q);
+          ss = rows-of (g .known .sig) (g .k) b (mult-two g h .r);
+          restX = ys ++ drop (length o - (used + 1)) (drop (used + 1) o);
+          restY = drop (used' + 1) ys ++ drop (length o - (used + 1)) (drop (used + 1) o);
+          codeX = ap (λ (z : List ℕ). z ++ (ys ++ drop (length o - (used + 1)) (drop (used + 1) o))) front-kept;
+          codeY = behind ∙ ap (λ (z : List ℕ). z ++ drop (length o - (used + 1)) (drop (used + 1) o)) (in-front _ ys used' (mult-made-second .list) .1) ∙ append-assoc (list-code (kinds-of (g .known .sig)) (g .k) (rows-of (g .known .sig) (g .k) b (mult-two g h .r))) (drop (used' + 1) ys) (drop (length o - (used + 1)) (drop (used + 1) o));
+          typedR = typed-rows (g .known) (mult-two g h .q) b (g .k) (g .there) (mult-two g h .well .0);
+          typedS = typed-rows (g .known) (mult-two g h .r) b (g .k) (g .there) (mult-two g h .well .1);
+          room = omega (arith, j, g .room, mult-length g h, all-small (kinds-of (g .known .sig)) (g .k) (length (pattern-code (mult-two g h .q))) (length (pattern-code (mult-two g h .r))) (rows-of (g .known .sig) (g .k) b (mult-two g h .q)) (rows-of (g .known .sig) (g .k) b (mult-two g h .r)) (rows-places (g .known .sig) (g .k) (mult-two g h .q) b (mult-two g h .well .0)) (rows-places (g .known .sig) (g .k) (mult-two g h .r) b (mult-two g h .well .1)) (mult-view g h .few));
+        }
+
+        pub mult-made : (o' o'' : List ℕ) (r : ℕ) → length o' ≡ n
+            → ((q : GivenProduct ar (back o (used + 1) ys) (from (back o (used + 1) ys) (used + 1)) o') → Product (entries (q .K) (q .kind) (products q)) r o'')
+            → Result g r (read + 1 + read') o''
+        unfolding mult-lists
+        mult-made o' o'' r j f'' = record {
+          read-is = let c = ap length (mult-two g h .code-is) in omega (arith, mult-made-first g h used read o f .read-is, mult-made-second .read-is, simp length-append at c);
+          list = subst (λ (z : List Row). Product (entries (kinds-of (g .known .sig)) (g .k) z) r o'') (sym (mult-view g h .rows-is)) (f'' (mult-lists o' j));
+        }
+
+module _ {ar : List ℕ} {tag full : ℕ} {w : List ℕ} {b : Bool} {n m : ℕ} (g : GivenPat ar tag full w b n m) where
+  -- two parts that are added: the second behind the first
+  module _ (h : multiplies (getD w 0 0) b ≡ false) (s : getD w 0 0 < 258) where
+    add-view : Added (g .known .sig) (g .k) (g .p) b
+    add-view = added (g .known .sig) (g .k) (g .p) b (g .rest) (g .well) (g .light) (g .plain) (ap (λ (x : ℕ). multiplies x b) (sym (word-is g)) ∙ h) (rw (word-is g) at s)
+
+    abbrev add-two : Two (g .known .sig) (g .k) (g .p) b
+    add-two = add-view .two
+
+    add-length : length (pattern-code (g .p)) ≡ 1 + (length (pattern-code (add-two .q)) + length (pattern-code (add-two .r)))
+    add-length = ap length (add-two .code-is) ∙ simp length-append (omega arith)
+
+    add-code : w ≡ (add-two .word ∷ (pattern-code (add-two .q) ++ pattern-code (add-two .r))) ++ g .rest
+    add-code = g .code-is ∙ ap (λ (l : List ℕ). l ++ g .rest) (add-two .code-is)
+
+    pub add-first : GivenPat ar tag full (from w 1) b n m
+    add-first = record {
+      known = g .known;
+      k = g .k;
+      there = g .there;
+      p = add-two .q;
+      rest = pattern-code (add-two .r) ++ g .rest;
+      code-is = first-part w _ (pattern-code (add-two .q) ++ pattern-code (add-two .r)) (g .rest) add-code ∙ append-assoc (pattern-code (add-two .q)) (pattern-code (add-two .r)) (g .rest);
+      well = add-two .well .0;
+      light = add-two .light .0;
+      plain = add-two .plain .0;
+      opened = g .opened;
+      room = omega (arith, g .room, add-length);
+      work-room = omega (arith, g .work-room, add-length);
+    }
+
+module _ {ar : List ℕ} {tag full : ℕ} {w : List ℕ} {b : Bool} {n m : ℕ} (g : GivenPat ar tag full w b n m) where
+  module _ (h : multiplies (getD w 0 0) b ≡ false) (s : getD w 0 0 < 258) where
+    module _ (used read : ℕ) (o : List ℕ) (f : (q : GivenPat ar tag full (from w 1) b n m) → Result q used read o) where
+      add-made-first : Made (kinds-of (g .known .sig)) (g .known .sig) (g .k) b (add-two g h s .q) used read o
+      unfolding add-first
+      add-made-first = f (add-first g h s)
+
+      pub add-bounds : (read + 1 ≤ length w) × (used + 1 ≤ length o)
+      add-bounds = (
+        omega (arith, add-made-first .read-is, simp length-append at (ap length (add-code g h s))),
+        in-front _ o used (add-made-first .list) .0,
+      )
+
+      pub add-second : (n' m' : ℕ) → length o ≡ n → m' ≡ m → n' ≡ length (from o used) → GivenPat ar tag full (from w (read + 1)) b n' m'
+      add-second n' m' l e i = record {
+        known = g .known;
+        k = g .k;
+        there = g .there;
+        p = add-two g h s .r;
+        rest = g .rest;
+        code-is = second-part w _ (pattern-code (add-two g h s .q)) (pattern-code (add-two g h s .r)) (g .rest) read (add-code g h s) (add-made-first .read-is);
+        well = add-two g h s .well .1;
+        light = add-two g h s .light .1;
+        plain = add-two g h s .plain .1;
+        opened = g .opened;
+        room =
+            let z : n' ≡ n - used = i ∙ ap length (from-is o used) ∙ length-drop used o ∙ ap (λ (x : ℕ). x - used) l in
+            omega (arith, z, g .room, add-length g h s, add-made-first .list .size, list-small (g .known .sig) (g .k) (kinds-of (g .known .sig)) (add-two g h s .q) b (add-two g h s .well .0) (add-two g h s .light .0));
+        work-room = omega (arith, e, g .work-room, add-length g h s);
+      }
+
+module _ {ar : List ℕ} {tag full : ℕ} {w : List ℕ} {b : Bool} {n m : ℕ} (g : GivenPat ar tag full w b n m) where
+  module _ (h : multiplies (getD w 0 0) b ≡ false) (s : getD w 0 0 < 258) where
+    module _ (used read : ℕ) (o : List ℕ) (f : (q : GivenPat ar tag full (from w 1) b n m) → Result q used read o) where
+      module _ (n' m' used' read' : ℕ) (l : length o ≡ n) (e : m' ≡ m) (i : n' ≡ length (from o used)) (ys : List ℕ) (f' : (q : GivenPat ar tag full (from w (read + 1)) b n' m') → Result q used' read' ys) (k : length ys ≡ length (from o used)) where
+        add-made-second : Made (kinds-of (g .known .sig)) (g .known .sig) (g .k) b (add-two g h s .r) used' read' ys
+        unfolding add-second
+        add-made-second = f' (add-second g h s used read o f n' m' l e i)
+
+        pub add-read : (read + 1 + read' ≤ length w) × (used + used' + 1 ≤ length o)
+        add-read = (
+          omega (arith, add-made-first g h s used read o f .read-is, add-made-second .read-is, simp length-append at (ap length (add-code g h s))),
+          omega (arith, in-front _ ys used' (add-made-second .list) .0, k, ap length (from-is o used), length-drop used o, add-bounds g h s used read o f .1),
+        )
+
+        pub add-made : Result g (used + used') (read + 1 + read') (back o used ys)
+        add-made =
+            let A = entries (kinds-of (g .known .sig)) (g .k) (rows-of (g .known .sig) (g .k) b (add-two g h s .q)) in
+            let B = entries (kinds-of (g .known .sig)) (g .k) (rows-of (g .known .sig) (g .k) b (add-two g h s .r)) in
+            let one : take used o ≡ A = sym (take-take used (used + 1) o (omega arith)) ∙ ap (take used) (add-made-first g h s used read o f .list .list) ∙ take-at A (0 ∷ []) used (sym (add-made-first g h s used read o f .list .size)) in
+            let two = part-back o ys A (B ++ (0 ∷ [])) (drop (length o - used) (drop used o)) used (used' + 1) (omega (arith, add-bounds g h s used read o f .1)) one (in-front _ ys used' (add-made-second .list) .2) in
+            let rows = ap (entries (kinds-of (g .known .sig)) (g .k)) (add-view g h s .rows-is) ∙ each-append (λ r. code (kinds-of (g .known .sig)) r (g .k)) (rows-of (g .known .sig) (g .k) b (add-two g h s .q)) (rows-of (g .known .sig) (g .k) b (add-two g h s .r)) in
+            record {
+              read-is = let c = ap length (add-two g h s .code-is) in omega (arith, add-made-first g h s used read o f .read-is, add-made-second .read-is, simp length-append at c);
+              list = rw rows (record {
+                size = simp length-append (omega (arith, add-made-first g h s used read o f .list .size, add-made-second .list .size));
+                list = let j : used + used' + 1 ≡ used + (used' + 1) = omega arith in rw j (two ∙ sym (append-assoc A B (0 ∷ [])));
+              });
+            }

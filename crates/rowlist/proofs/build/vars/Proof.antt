@@ -1,0 +1,21 @@
+-- `rowlist::build::vars` meets its contract. Assumes nothing.
+use mathlib.Core.Path.{_≡_, refl, sym, ap, _∙_}
+use mathlib.Core.Bool.{true, false}
+use Prim.Native.Nat.{ℕ, _+_, _-_, _*_, _%_, _^_, _≤_, _<_}
+use native.Mathlib.Omega.{arith}
+use borrow.Author.Needs.{needs}
+use borrow.Author.Tests.{lt-ltb, le-ltb, eq-eqb, ne-eqb}
+use lib.ListN.{length, length-set}
+use lib.Pow.{shl-exact}
+use native.Mathlib.Nat.{one-mul}
+use Rattle.rowlist.proofs.Building.{one-list, no-list, leaf-is}
+use Rattle.rowlist.proofs.build.vars.Statement.{statement}
+use Rattle.rowlist.proofs.build.vars.Tie as tie
+
+pub vars-spec : {M : Type 1} → statement M
+vars-spec = tie.close (tie.spec
+    (λ c. simp (lt-ltb _ _ (c .if1 .taken)))
+    (λ c. search needs)
+    (λ c. search needs)
+    (λ c. search needs)
+    (λ c. let i = c .before .args .w - 261 in simp (le-ltb _ _ (c .if1 .left)) (shl-exact {a = 1} 1 i 64 (omega arith) (omega arith) ∙ one-mul (2 ^ i))))

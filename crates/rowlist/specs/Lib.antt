@@ -1,0 +1,4 @@
+pub mod Arguments
+pub mod Build
+pub mod Grow
+pub mod Product

@@ -1,0 +1,156 @@
+// The rows of a pattern.
+use crate::list::product;
+use signature::decoded::count_of;
+use signature::decoded::first_of;
+use signature::set::full;
+ghost use lib.Dec.{ltb};
+ghost use Rattle.signature.specs.Decoded.{decoded-length, count-of, first-of};
+ghost use Rattle.signature.specs.Limits.{kind-limit};
+ghost use Rattle.signature.specs.Set.{set-limit, bit, bit-if};
+ghost use mathlib.Core.Path.{_≡_};
+ghost use Prim.Native.Nat.{ℕ, _+_, _-_, _≤_, _<_};
+ghost use lib.ListN.{length};
+ghost use Rattle.cell.specs.RowList.{entries};
+ghost use mathlib.Core.List.{[], _∷_};
+ghost use Rattle.cell.specs.RowList.{from};
+ghost use Rattle.cell.specs.Coded.{kinds-of};
+ghost use Rattle.rowlist.specs.Build.{multiplies, vars-of, leaf-entries, GivenPat, Made};
+ghost use Rattle.rowlist.specs.Product.{GivenProduct, Product, products};
+
+// A list of one row of one cell.
+fn one(tag: u64, vars: u64, full: u64, out: &mut [u64]) -> usize
+    requires { ⌜ 5 ≤ length (now out) ⌝ }
+    ensures { λ r. ⌜ Product (3 ∷ (tag ∷ (vars ∷ (full ∷ [])))) r (now (out .exit)) ⌝ }
+{
+    out[0] = 3;
+    out[1] = tag;
+    out[2] = vars;
+    out[3] = full;
+    out[4] = 0;
+    4
+}
+
+// A list of no row.
+fn nothing(out: &mut [u64]) -> usize
+    requires { ⌜ 1 ≤ length (now out) ⌝ }
+    ensures { λ r. ⌜ Product [] r (now (out .exit)) ⌝ }
+{
+    out[0] = 0;
+    0
+}
+
+fn vars(w: u16) -> u64
+    requires { ⌜ w ≤ 276 ⌝ }
+    ensures { λ r. ⌜ r ≡ vars-of w ⌝ }
+{
+    if w < 261 {
+        return 0;
+    }
+    let i = (w - 261) as u32;
+    1 << i
+}
+
+// The rows of a wildcard, of absurd, of a variable.
+fn leaf(w: u16, plus: bool, tag: u64, full: u64, out: &mut [u64]) -> usize
+    requires { ⌜ (w ≤ 276) × (5 ≤ length (now out)) ⌝ }
+    ensures { λ r. ⌜ Product (leaf-entries w plus tag full) r (now (out .exit)) ⌝ }
+{
+    if w == 259 {
+        if plus {
+            return nothing(out);
+        }
+        return one(tag, vars(w), full, out);
+    }
+    if plus {
+        return one(tag, vars(w), full, out);
+    }
+    nothing(out)
+}
+
+// Whether the connective multiplies on this side.
+fn is_product(w: u16, plus: bool) -> bool
+    ensures { λ r. ⌜ r ≡ multiplies w plus ⌝ }
+{
+    if plus {
+        return w == 256;
+    }
+    w == 257
+}
+
+// The product of the list in front and of that which begins at a word.
+fn times(t: &[u16], lists: &[u64], at: usize, out: &mut [u64]) -> usize
+    requires { ⌜ at ≤ length (now lists) ⌝ }
+    requires { ⌜ GivenProduct (now t) (now lists) (from (now lists) at) (now out) ⌝ }
+    ensures { λ r. ⌜ ((g : GivenProduct (now (t .entry)) (now (lists .entry)) (from (now (lists .entry)) at) (now (out .entry))) → Product (entries (g .K) (g .kind) (products g)) r (now (out .exit))) ⌝ }
+{
+    product(t, lists, &lists[at..], out)
+}
+
+// The set of all heads of a kind.
+fn full_of(t: &[u16], k: usize) -> u64
+    requires { ⌜ (length (now t) ≡ decoded-length) × (k < kind-limit) × (count-of (now t) k ≤ set-limit) ⌝ }
+    ensures { λ r. ⌜ ((j : ℕ) → bit r j ≡ bit-if (ltb j (count-of (now (t .entry)) k)) 1 0) ⌝ }
+{
+    full(count_of(t, k) as u32)
+}
+
+// A constructor's place among the heads of the kind whose tag is given.
+fn place_of(t: &[u16], tag: u64, c: usize) -> u32
+    requires { ⌜ (length (now t) ≡ decoded-length) × (256 ≤ tag) × (tag < 256 + kind-limit) × (first-of (now t) (tag - 256) ≤ c) × (c < first-of (now t) (tag - 256) + set-limit) ⌝ }
+    ensures { λ r. ⌜ (r ≡ c - first-of (now (t .entry)) (tag - 256)) × (r < set-limit) ⌝ }
+{
+    let k = (tag - 256) as usize;
+    let f = first_of(t, k) as usize;
+    (c - f) as u32
+}
+
+pub struct Built {
+    pub used: usize,
+    pub read: usize,
+}
+
+// The rows of the pattern in front of p, on one side: their list first in out. A part that is multiplied is built in the workspace, with out as its workspace.
+pub fn rows(
+    t: &[u16],
+    tag: u64,
+    full: u64,
+    p: &[u16],
+    plus: bool,
+    out: &mut [u64],
+    work: &mut [u64],
+) -> Built
+    requires { ⌜ GivenPat (now t) tag full (now p) plus (length (now out)) (length (now work)) ⌝ }
+    ensures { λ r. ⌜ ((g : GivenPat (now (t .entry)) tag full (now (p .entry)) plus (length (now (out .entry))) (length (now (work .entry)))) → Made (kinds-of (g .known .sig)) (g .known .sig) (g .k) plus (g .p) (r .used) (r .read) (now (out .exit))) ⌝ }
+{
+    let w = p[0];
+    if w == 260 {
+        let a = rows(t, tag, full, &p[1..], !plus, out, work);
+        return Built {
+            used: a.used,
+            read: a.read + 1,
+        };
+    }
+    if w >= 258 {
+        let n = leaf(w, plus, tag, full, out);
+        return Built { used: n, read: 1 };
+    }
+    if is_product(w, plus) {
+        let a = rows(t, tag, full, &p[1..], plus, work, out);
+        let from = a.read + 1;
+        let at = a.used + 1;
+        let b = rows(t, tag, full, &p[from..], plus, &mut work[at..], out);
+        let n = times(t, work, at, out);
+        return Built {
+            used: n,
+            read: from + b.read,
+        };
+    }
+    let a = rows(t, tag, full, &p[1..], plus, out, work);
+    let from = a.read + 1;
+    let at = a.used;
+    let b = rows(t, tag, full, &p[from..], plus, &mut out[at..], work);
+    Built {
+        used: at + b.used,
+        read: from + b.read,
+    }
+}

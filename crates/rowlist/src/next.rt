@@ -1,0 +1,58 @@
+// The rows of a constructor that are begun, with one argument more.
+use crate::grow::append_all;
+use crate::grow::append_each;
+use crate::grow::count;
+ghost use mathlib.Core.List.{[], _∷_};
+ghost use mathlib.Core.Bool.{true, false};
+ghost use lib.ListN.{length};
+ghost use Rattle.rowlist.specs.Arguments.{GivenNext, GivenNextMinus, GivenNextAt, next-made, next-rows};
+ghost use Rattle.rowlist.specs.Grow.{words-list};
+ghost use Rattle.rowlist.specs.Product.{Product};
+
+pub const PART_WEIGHT: usize = 64;
+
+// Each row with each row of the argument behind it; none where there would be more than a part may weigh, for then an argument that is still to come has none.
+pub fn next_plus(lists: &[u64], at: usize, out: &mut [u64]) -> usize
+    requires { ⌜ GivenNext (now lists) at (length (now out)) ⌝ }
+    ensures { λ r. ⌜ ((g : GivenNext (now (lists .entry)) at (length (now (out .entry)))) → Product (words-list (next-rows true [] (g .left .rows) (g .right .rows))) r (now (out .exit))) ⌝ }
+{
+    let m = count(lists);
+    let n = count(&lists[at..]);
+    if m * n > PART_WEIGHT {
+        out[0] = 0;
+        return 0;
+    }
+    append_each(lists, &lists[at..], out)
+}
+
+// Each row with a wildcard behind it, then the first with each row of the argument.
+pub fn next_minus(tag: u64, full: u64, lists: &[u64], at: usize, out: &mut [u64]) -> usize
+    requires { ⌜ GivenNextMinus (now lists) at (length (now out)) ⌝ }
+    ensures { λ r. ⌜ ((g : GivenNextMinus (now (lists .entry)) at (length (now (out .entry)))) → Product (words-list (next-rows false (tag ∷ (0 ∷ (full ∷ []))) (g .next .left .rows) (g .next .right .rows))) r (now (out .exit))) ⌝ }
+{
+    let wild: [u64; 5] = [3, tag, 0, full, 0];
+    let n = append_each(lists, &wild, out);
+    let first = lists[0] as usize;
+    let m = append_all(&lists[1..], first, &lists[at..], &mut out[n..]);
+    let end = n + m;
+    out[end] = 0;
+    end
+}
+
+// One argument more, on one side.
+pub fn next_rows(
+    plus: bool,
+    tag: u64,
+    full: u64,
+    lists: &[u64],
+    at: usize,
+    out: &mut [u64],
+) -> usize
+    requires { ⌜ GivenNextAt plus (now lists) at (length (now out)) ⌝ }
+    ensures { λ r. ⌜ ((g : GivenNextAt plus (now (lists .entry)) at (length (now (out .entry)))) → Product (next-made plus tag full (now (lists .entry)) at (length (now (out .entry))) g) r (now (out .exit))) ⌝ }
+{
+    if plus {
+        return next_plus(lists, at, out);
+    }
+    next_minus(tag, full, lists, at, out)
+}
