@@ -2,6 +2,7 @@ pub mod CellFacts
 pub mod CodedFacts
 pub mod Columns
 pub mod CursorFacts
+pub mod Gates
 pub mod LockstepFacts
 pub mod Masks
 pub mod Meet

@@ -1,23 +1,20 @@
--- Meet.
-use borrow.Author.Tests.{eq-eqb, ne-eqb, ltb-true, ltb-false, lt-ltb, le-ltb}
+-- Two rows column by column as one.
+use borrow.Author.Tests.{eq-eqb, lt-ltb, le-ltb}
 use mathlib.Core.Path.{_≡_, refl, ap, _∙_, sym}
-use mathlib.Core.List.{List, [], _∷_, append-assoc, _++_}
+use mathlib.Core.List.{List, [], _∷_, _++_}
 use mathlib.Core.Option.{Option, some, none}
-use mathlib.Core.Bool.{Bool, true, false}
-use Prim.Native.Nat.{ℕ, _<_, _^_, _≤_, min, _-_, _+_, suc}
-use native.Mathlib.Nat.{mod-eq-of-lt, one-mul}
+use Prim.Native.Nat.{ℕ, _<_, _≤_, min, _-_, _+_, suc}
 use native.Mathlib.Omega.{arith}
-use lib.Bits.{bitAnd, and-mask, and-shifted, and-comm, bitOr, or-zero-r, or-zero-l}
-use lib.Dec.{ltb}
+use lib.Bits.{bitAnd, and-comm, bitOr, or-zero-r, or-zero-l}
 use lib.ListN.{length, replicate, length-append, length-replicate}
-use lib.Pow.{pow-lt, pow-pos}
+use lib.Pow.{pow-pos}
 use Rattle.signature.specs.Decoded.{decoded-length}
-use Rattle.pattern.specs.Limits.{pattern-limit}
 use Rattle.cell.specs.Cell.{words, Kinds, CRows, cnil, ccons, wordss, cn, cf, CRow}
 use Rattle.cell.specs.Cursor.{opensOf, joinOf}
-use Rattle.cell.proofs.CellFacts.{Col, wild, real, then, both, Of, gate, Head, Ofs, reals, boths, enter, cellOf, Free, flat}
+use Rattle.cell.proofs.CellFacts.{Col, wild, real, then, both, Of, Head, Ofs, reals, boths, enter, cellOf, Free, flat}
 use Rattle.cell.proofs.Columns.{wide, Tagged}
 use Rattle.cell.proofs.CursorFacts.{cellWords}
+use Rattle.cell.proofs.Gates.{then-assoc, gate-some, and-all, powers-meet, three-words, pos-zero}
 
 -- the words of the columns as one; where a side has no cell, the other's
 abbrev pub meet : List Col → List Col → Option (List ℕ)
@@ -39,40 +36,6 @@ module _ (K : Kinds) (ar : List ℕ) where
   Pair (wild ∷ xs) (real s ∷ ys) = (k : ℕ) × Of K ar s k × Pair xs ys
   Pair (real r ∷ xs) (wild ∷ ys) = (k : ℕ) × Of K ar r k × Pair xs ys
   Pair (real r ∷ xs) (real s ∷ ys) = (k : ℕ) × Of K ar r k × Of K ar s k × Pair xs ys
-
--- ---- parts and gates
-pub then-assoc : (a b c : Option (List ℕ)) → then (then a b) c ≡ then a (then b c)
-then-assoc none b c = refl
-then-assoc (some t) none c = refl
-then-assoc (some t) (some u) none = refl
-then-assoc (some t) (some u) (some w) = ap {B = Option (List ℕ)} some (append-assoc t u w)
-
-gate-none : (m : ℕ) (o : Option (List ℕ)) → m ≡ 0 → gate m o ≡ none
-gate-none m o e = rw (eq-eqb m 0 e)
-
-gate-some : (m : ℕ) (o : Option (List ℕ)) → ¬ (m ≡ 0) → gate m o ≡ o
-gate-some m o h = rw (ne-eqb m 0 h)
-
--- ---- sets
-pub and-all : (m : ℕ) → m < 2 ^ pattern-limit → bitAnd m 18446744073709551615 ≡ m
-and-all m h = and-mask m pattern-limit ∙ mod-eq-of-lt h
-
-powers-apart : (i j : ℕ) → i < j → bitAnd (2 ^ j) (2 ^ i) ≡ 0
-powers-apart i j h = rw (← one-mul (2 ^ j)) (and-shifted 1 j (2 ^ i) (pow-lt h))
-
-pub powers-meet : (i j : ℕ) → ¬ (bitAnd (2 ^ i) (2 ^ j) ≡ 0) → i ≡ j
-powers-meet i j h = go (ltb i j) refl (ltb j i) refl
-  where
-    go : (b : Bool) → ltb i j ≡ b → (d : Bool) → ltb j i ≡ d → i ≡ j
-    go true p d q = absurd (h (and-comm (2 ^ i) (2 ^ j) ∙ powers-apart i j (ltb-true i j p)))
-    go false p true q = absurd (h (powers-apart j i (ltb-true j i q)))
-    go false p false q = let a : j ≤ i = ltb-false i j p in let b : i ≤ j = ltb-false j i q in omega arith
-
-three-words : {a b c d e f : ℕ} → a ≡ d → b ≡ e → c ≡ f → _≡_ {A = List ℕ} (a ∷ (b ∷ (c ∷ []))) (d ∷ (e ∷ (f ∷ [])))
-three-words p q r = cc
-
-pos-zero : (m : ℕ) → 0 < m → m ≡ 0 → ⊥
-pos-zero m h e = omega arith
 
 -- ---- what the cells open
 pub then-nil : (m : Option (List ℕ)) → then (some []) m ≡ m

@@ -17,7 +17,8 @@ use Rattle.cell.proofs.CellFacts.{Col, both, then, flat, real, enter, w
 use Rattle.cell.proofs.Columns.{Stands, wide, flat-wilds, flat-reals, room-col, look-col, step-col}
 use Rattle.cell.proofs.CursorFacts.{cellWords}
 use Rattle.cell.proofs.LockstepFacts.{Given}
-use Rattle.cell.proofs.Meet.{Pair, meet, then-nil, then-assoc, known, pair-length, some-side, dropped, turn, turn-count, tagged-left, tagged-right}
+use Rattle.cell.proofs.Gates.{then-assoc}
+use Rattle.cell.proofs.Meet.{Pair, meet, then-nil, known, pair-length, some-side, dropped, turn, turn-count, tagged-left, tagged-right}
 
 -- xs and ys are the columns left, done the words written
 pub record Mid {ar a b o₀ : List ℕ} (g : Given ar a b o₀) (x y : Cursor) (n left : ℕ) (o : List ℕ) (xs ys : List Col) : Type 0 where
