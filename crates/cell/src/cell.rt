@@ -10,6 +10,9 @@ ghost use Rattle.cell.specs.Lockstep.{GivenRows, Result};
 ghost use Rattle.cell.specs.RowList.{from};
 ghost use Rattle.signature.specs.Decoded.{decoded-length};
 
+// A tag below it names a constructor, any other is this and a kind.
+pub const KIND_TAG: u64 = 256;
+
 // The tag of a column that no cell stands for, and the set of all heads.
 const FREE: u64 = 512;
 
@@ -77,7 +80,7 @@ pub fn next(c: Cursor, tag: u64, n: usize) -> Cursor
     requires { ⌜ (c .virt + n < 2 ^ 64) × (c .at + 3 < 2 ^ 64) ⌝ }
     ensures { λ r. ⌜ r ≡ nextOf c tag n ⌝ }
 {
-    if tag < 256 {
+    if tag < KIND_TAG {
         return step(c, 0);
     }
     step(c, n)
@@ -106,7 +109,7 @@ pub fn opens(t: &[u16], tag: u64) -> usize
     requires { ⌜ (tag < 256 → length (now t) ≡ decoded-length) ⌝ }
     ensures { λ r. ⌜ r ≡ opensOf (now (t .entry)) tag ⌝ }
 {
-    if tag < 256 {
+    if tag < KIND_TAG {
         return arity_of(t, tag as usize) as usize;
     }
     0

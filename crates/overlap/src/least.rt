@@ -1,4 +1,5 @@
 // Least values.
+use cell::cell::KIND_TAG;
 use signature::decoded::argument_of;
 use signature::decoded::arity_of;
 use signature::decoded::first_of;
@@ -43,9 +44,9 @@ pub fn place(t: &[u16], tag: u64, allowed: u64, out: &mut [u16]) -> usize
     ensures named { λ r. ⌜ (tag < 256 → (r ≡ 1) × (now (out .exit) ≡ tag ∷ drop 1 (now (out .entry)))) ⌝ }
     ensures unnamed { λ r. ⌜ (256 ≤ tag → (g : GivenPlace (now (t .entry)) (tag - 256) allowed (now (out .entry))) → Placed g r (now (out .exit))) ⌝ }
 {
-    if tag < 256 {
+    if tag < KIND_TAG {
         out[0] = tag as u16;
         return 1;
     }
-    lowest_value(t, (tag - 256) as usize, allowed, out)
+    lowest_value(t, (tag - KIND_TAG) as usize, allowed, out)
 }

@@ -1,5 +1,7 @@
 // The rows of a pattern.
 use crate::list::product;
+use cell::cell::KIND_TAG;
+use pattern::token::FIRST_VARIABLE;
 use signature::decoded::count_of;
 use signature::decoded::first_of;
 use signature::set::full;
@@ -16,6 +18,17 @@ ghost use Rattle.cell.specs.RowList.{from};
 ghost use Rattle.cell.specs.Coded.{kinds-of};
 ghost use Rattle.rowlist.specs.Build.{multiplies, vars-of, leaf-entries, GivenPat, Made};
 ghost use Rattle.rowlist.specs.Product.{GivenProduct, Product, products};
+
+// The words of the connectives, of the wildcard and of absurd.
+const AND: u16 = 256;
+
+const OR: u16 = 257;
+
+const WILD: u16 = 258;
+
+const ABSURD: u16 = 259;
+
+const NOT: u16 = 260;
 
 // A list of one row of one cell.
 fn one(tag: u64, vars: u64, full: u64, out: &mut [u64]) -> usize
@@ -43,10 +56,10 @@ fn vars(w: u16) -> u64
     requires { ⌜ w ≤ 276 ⌝ }
     ensures { λ r. ⌜ r ≡ vars-of w ⌝ }
 {
-    if w < 261 {
+    if w < FIRST_VARIABLE {
         return 0;
     }
-    let i = (w - 261) as u32;
+    let i = (w - FIRST_VARIABLE) as u32;
     1 << i
 }
 
@@ -55,7 +68,7 @@ fn leaf(w: u16, plus: bool, tag: u64, full: u64, out: &mut [u64]) -> usize
     requires { ⌜ (w ≤ 276) × (5 ≤ length (now out)) ⌝ }
     ensures { λ r. ⌜ Product (leaf-entries w plus tag full) r (now (out .exit)) ⌝ }
 {
-    if w == 259 {
+    if w == ABSURD {
         if plus {
             return nothing(out);
         }
@@ -72,9 +85,9 @@ fn is_product(w: u16, plus: bool) -> bool
     ensures { λ r. ⌜ r ≡ multiplies w plus ⌝ }
 {
     if plus {
-        return w == 256;
+        return w == AND;
     }
-    w == 257
+    w == OR
 }
 
 // The product of the list in front and of that which begins at a word.
@@ -99,7 +112,7 @@ fn place_of(t: &[u16], tag: u64, c: usize) -> u32
     requires { ⌜ (length (now t) ≡ decoded-length) × (256 ≤ tag) × (tag < 256 + kind-limit) × (first-of (now t) (tag - 256) ≤ c) × (c < first-of (now t) (tag - 256) + set-limit) ⌝ }
     ensures { λ r. ⌜ (r ≡ c - first-of (now (t .entry)) (tag - 256)) × (r < set-limit) ⌝ }
 {
-    let k = (tag - 256) as usize;
+    let k = (tag - KIND_TAG) as usize;
     let f = first_of(t, k) as usize;
     (c - f) as u32
 }
@@ -123,14 +136,14 @@ pub fn rows(
     ensures { λ r. ⌜ ((g : GivenPat (now (t .entry)) tag full (now (p .entry)) plus (length (now (out .entry))) (length (now (work .entry)))) → Made (kinds-of (g .known .sig)) (g .known .sig) (g .k) plus (g .p) (r .used) (r .read) (now (out .exit))) ⌝ }
 {
     let w = p[0];
-    if w == 260 {
+    if w == NOT {
         let a = rows(t, tag, full, &p[1..], !plus, out, work);
         return Built {
             used: a.used,
             read: a.read + 1,
         };
     }
-    if w >= 258 {
+    if w >= WILD {
         let n = leaf(w, plus, tag, full, out);
         return Built { used: n, read: 1 };
     }
