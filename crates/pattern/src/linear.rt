@@ -24,7 +24,7 @@ pub enum Joint {
     Bare,
 }
 
-fn side_behind(w: Word, plus: bool) -> bool
+pub fn side_behind(w: Word, plus: bool) -> bool
     ensures { λ r. ⌜ side-of r ≡ behind (form-of w) (side-of plus) ⌝ }
 {
     match w {

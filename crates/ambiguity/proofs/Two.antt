@@ -1,0 +1,120 @@
+-- Two parts of a pattern, their rows behind each other.
+use mathlib.Core.Path.{_≡_, refl, ap, _∙_, sym}
+use mathlib.Core.List.{List, [], _∷_, _++_, append-assoc}
+use mathlib.Core.Bool.{Bool, true, false, not}
+use Prim.Native.Nat.{ℕ, _+_, _*_, _≤_, _<_, _-_}
+use native.Mathlib.Omega.{arith}
+use lib.Dec.{ltb}
+use lib.ListN.{length, take, drop, length-append, length-drop}
+use lib.Seq.{drop-at, length-take-le}
+use Rattle.signature.specs.Decoded.{count-of}
+use Rattle.signature.specs.Limits.{kind-limit}
+use Rattle.signature.specs.Lists.{is-empty, somes}
+use Rattle.signature.specs.Set.{bit, bit-if}
+use Rattle.signature.specs.Signature.{Signature}
+use Rattle.signature.proofs.KnownFacts.{words-of}
+use Rattle.pattern.specs.Pattern.{Pattern, pattern-code}
+use Rattle.pattern.proofs.PatternBack.{some-pattern-word}
+use Rattle.row.specs.Row.{combine, each}
+use Rattle.cell.specs.Coded.{kinds-of}
+use Rattle.cell.specs.RowList.{from, entries, list-code}
+use Rattle.cell.proofs.Walk.{from-is, back}
+use Rattle.rowlist.specs.Build.{rows-of, GivenPat, Made, Open}
+use Rattle.rowlist.proofs.Kinded.{few-heads, full-set, open-kind, kinds-same}
+use Rattle.rowlist.proofs.Parts.{in-front}
+use Rattle.rowlist.proofs.Rooms.{list-small}
+use Rattle.rowlist.proofs.Typing.{typed-rows}
+use Rattle.overlap.specs.Lists.{TwoLists}
+use Rattle.ambiguity.specs.Parts.{GivenTwo, meets}
+
+meets-so : (b : Bool) (sig : Signature) (k : ℕ) (p q : Pattern) → not (is-empty (somes (each combine (rows-of sig k b p) (rows-of sig k b q)))) ≡ meets b sig k p q
+meets-so true sig k p q = refl
+meets-so false sig k p q = refl
+
+pub full-so : (t : List ℕ) (k full c : ℕ) → c ≡ count-of t k → ((i : ℕ) → bit full i ≡ bit-if (ltb i c) 1 0) → (i : ℕ) → bit full i ≡ bit-if (ltb i (count-of t k)) 1 0
+full-so t k full c e h i = h i ∙ ap (λ z. bit-if (ltb i z) 1 0) e
+
+module _ {t : List ℕ} {k : ℕ} {w : List ℕ} {b : Bool} {n m : ℕ} (g : GivenTwo t k w b n m) where
+  pub kind-small : k < kind-limit
+  kind-small = omega (arith, g .there, kinds-same (g .known), words-of (g .known) .few-kinds)
+
+  pub few-of-kind : count-of t k ≤ 64
+  few-of-kind = omega (arith, g .known .decoded .head-count k (g .there), few-heads (g .known) k (g .there))
+
+  module _ (full : ℕ) (f : (i : ℕ) → bit full i ≡ bit-if (ltb i (count-of t k)) 1 0) where
+    opened : Open (kinds-of (g .known .sig)) (g .known .sig) k (256 + k) full
+    opened = let q = open-kind (g .known) k (g .there) in record { kind = q .kind; some = q .some; within = q .within; tag-is = refl; full-is = full-set (g .known) k (g .there) full f }
+
+    pub first-given : GivenPat t (256 + k) full w b n m
+    first-given = record {
+      known = g .known;
+      k = k;
+      there = g .there;
+      p = g .first;
+      rest = pattern-code (g .second) ++ g .rest;
+      code-is = g .words;
+      well = g .well-first;
+      light = g .light-first;
+      plain = g .plainly (g .first);
+      opened = opened;
+      room = omega (arith, g .room);
+      work-room = omega (arith, g .work-room);
+    }
+
+    module _ (used read : ℕ) (o : List ℕ) (h : (q : GivenPat t (256 + k) full w b n m) → Made (kinds-of (q .known .sig)) (q .known .sig) (q .k) b (q .p) used read o) where
+      first-made : Made (kinds-of (g .known .sig)) (g .known .sig) k b (g .first) used read o
+      unfolding first-given
+      first-made = h first-given
+
+      pub first-bounds : (read ≤ length w) × (used + 1 ≤ length o)
+      first-bounds = (omega (arith, first-made .read-is, simp length-append at (ap length (g .words))), in-front _ o used (first-made .list) .0)
+
+      pub second-given : (n' m' : ℕ) → length o ≡ n → n' ≡ length (from o (used + 1)) → m' ≡ m → GivenPat t (256 + k) full (from w read) b n' m'
+      second-given n' m' l i e = record {
+        known = g .known;
+        k = k;
+        there = g .there;
+        p = g .second;
+        rest = g .rest;
+        code-is = from-is w read ∙ ap (drop read) (g .words) ∙ drop-at (pattern-code (g .first)) (pattern-code (g .second) ++ g .rest) read (sym (first-made .read-is));
+        well = g .well-second;
+        light = g .light-second;
+        plain = g .plainly (g .second);
+        opened = opened;
+        room =
+            let z : n' ≡ n - (used + 1) = i ∙ ap length (from-is o (used + 1)) ∙ length-drop (used + 1) o ∙ ap (λ (x : ℕ). x - (used + 1)) l in
+            omega (arith, z, g .room, some-pattern-word (g .first), first-made .list .size, list-small (g .known .sig) k (kinds-of (g .known .sig)) (g .first) b (g .well-first) (g .light-first));
+        work-room = omega (arith, e, g .work-room);
+      }
+
+      module _ (n' m' used' read' : ℕ) (l : length o ≡ n) (i : n' ≡ length (from o (used + 1))) (e : m' ≡ m) (ys : List ℕ) (h' : (q : GivenPat t (256 + k) full (from w read) b n' m') → Made (kinds-of (q .known .sig)) (q .known .sig) (q .k) b (q .p) used' read' ys) where
+        second-made : Made (kinds-of (g .known .sig)) (g .known .sig) k b (g .second) used' read' ys
+        unfolding second-given
+        second-made = h' (second-given n' m' l i e)
+
+        pub lists-at : used + 1 ≤ length (back o (used + 1) ys)
+        lists-at = simp length-append (omega (arith, length-take-le (used + 1) o (first-bounds .1)))
+
+        pub two-lists : TwoLists t (back o (used + 1) ys) (from (back o (used + 1) ys) (used + 1))
+        two-lists =
+            let D = drop (length o - (used + 1)) (drop (used + 1) o) in
+            record {
+              K = kinds-of (g .known .sig);
+              kind = k;
+              rs = rows-of (g .known .sig) k b (g .first);
+              ss = rows-of (g .known .sig) k b (g .second);
+              restX = ys ++ D;
+              restY = drop (used' + 1) ys ++ D;
+              codeX = ap (λ (z : List ℕ). z ++ (ys ++ D)) (first-made .list .list);
+              codeY =
+                  from-is (back o (used + 1) ys) (used + 1)
+                  ∙ drop-at (take (used + 1) o) (ys ++ D) (used + 1) (length-take-le (used + 1) o (first-bounds .1))
+                  ∙ ap (λ (z : List ℕ). z ++ D) (in-front _ ys used' (second-made .list) .1)
+                  ∙ append-assoc (list-code (kinds-of (g .known .sig)) k (rows-of (g .known .sig) k b (g .second))) (drop (used' + 1) ys) D;
+              typedR = typed-rows (g .known) (g .first) b k (g .there) (g .well-first);
+              typedS = typed-rows (g .known) (g .second) b k (g .there) (g .well-second);
+            }
+
+        pub answered : (r : Bool) → ((q : TwoLists t (back o (used + 1) ys) (from (back o (used + 1) ys) (used + 1))) → r ≡ not (is-empty (somes (each combine (q .rs) (q .ss))))) → r ≡ meets b (g .known .sig) k (g .first) (g .second)
+        unfolding two-lists
+        answered r f' = f' two-lists ∙ meets-so b (g .known .sig) k (g .first) (g .second)

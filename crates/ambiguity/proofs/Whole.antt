@@ -1,0 +1,44 @@
+-- The whole pattern.
+use mathlib.Core.Path.{_≡_, sym, ap, subst, _∙_}
+use mathlib.Core.List.{List, [], append-nil}
+use mathlib.Core.Bool.{Bool, true, false}
+use Prim.Native.Nat.{ℕ, _*_, _≤_}
+use native.Mathlib.Omega.{arith}
+use lib.ListN.{length}
+use Rattle.pattern.specs.Pattern.{pattern-code}
+use Rattle.pattern.proofs.PatternBack.{pattern-words}
+use Rattle.row.specs.Overlap.{ambiguous-plus}
+use Rattle.overlap.proofs.Laws.{first-kind}
+use Rattle.ambiguity.specs.Ambiguity.{Judged}
+use Rattle.ambiguity.specs.Parts.{GivenPart, GivenWhole}
+use Rattle.ambiguity.specs.declared.ambiguous.Part.{Part}
+use Rattle.ambiguity.specs.declared.ambiguous.Part.the-variants.{Clear, Ambiguous}
+
+module _ {t ws : List ℕ} {n m : ℕ} (g : GivenWhole t ws n m) where
+  pub whole : GivenPart t 0 ws true n m
+  whole =
+      let w = pattern-words (g .known .sig) ws (g .pattern) (g .read) in
+      let l = ap length (w .is-code) in
+      record {
+        known = g .known;
+        there = first-kind (g .known);
+        pattern = g .pattern;
+        rest = [];
+        words = sym (w .is-code) ∙ sym (append-nil (pattern-code (g .pattern)));
+        well = w .well-formed;
+        light = g .light;
+        plainly = g .plainly;
+        room = omega (arith, l, g .room);
+        work-room = omega (arith, l, g .work-room);
+      }
+
+  module _ (r : Part) (gave : (o : GivenPart t 0 ws true n m) → Judged true (o .known .sig) 0 (o .pattern) r) where
+    said : Judged true (g .known .sig) 0 (g .pattern) r
+    unfolding whole
+    said = gave whole
+
+    pub is-clear : (vars : Bool) (used : ℕ) → r ≡ Clear vars used → false ≡ ambiguous-plus (g .known .sig) 0 (g .pattern)
+    is-clear vars used e = sym (subst (Judged true (g .known .sig) 0 (g .pattern)) e said .0)
+
+    pub is-ambiguous : r ≡ Ambiguous → true ≡ ambiguous-plus (g .known .sig) 0 (g .pattern)
+    is-ambiguous e = sym (subst (Judged true (g .known .sig) 0 (g .pattern)) e said)

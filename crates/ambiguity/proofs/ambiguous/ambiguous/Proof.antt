@@ -1,0 +1,19 @@
+-- `ambiguous::ambiguous` meets its contract. Assumes nothing.
+use borrow.Author.Needs.{needs}
+use Rattle.ambiguity.proofs.Whole.{whole, is-clear, is-ambiguous}
+use Rattle.ambiguity.proofs.ambiguous.ambiguous.Statement.{statement}
+use Rattle.ambiguity.proofs.ambiguous.ambiguous.Tie as tie
+
+pub ambiguous-spec : {M : Type 1} → statement M
+ambiguous-spec =
+    tie.close
+    (tie.spec
+    (λ c κs. whole (c .before .before .before .before .before .before .pre))
+    (λ c. search needs)
+    (λ c. search needs)
+    (λ c. search needs)
+    (λ c. search needs)
+    (λ c g. is-clear g _ (c .before .before .before .before .before .before .before .ambiguous-at .ensures) _ _ (c .before .r .given .1))
+    (λ c. search needs)
+    (λ c. search needs)
+    (λ c g. is-ambiguous g _ (c .before .before .before .before .before .before .ambiguous-at .ensures) (c .enum-told .given .1)))

@@ -1,0 +1,59 @@
+-- Parts of a pattern at the front of some words, at a side, with room for their rows.
+use mathlib.Core.Path.{_≡_}
+use mathlib.Core.List.{List, _++_}
+use mathlib.Core.Option.{some}
+use mathlib.Core.Bool.{Bool, true, false}
+use Prim.Native.Nat.{ℕ, _+_, _*_, _≤_, _<_}
+use lib.ListN.{length}
+use Rattle.signature.specs.Decoded.{Known}
+use Rattle.signature.specs.Signature.{Signature}
+use Rattle.pattern.specs.Pattern.{Pattern, pattern-code}
+use Rattle.pattern.specs.WellFormed.{WellFormed}
+use Rattle.pattern.specs.Read.{read-pattern}
+use Rattle.pattern.specs.Weight.{light-plus}
+use Rattle.row.specs.Overlap.{overlap, overlap-minus}
+use Rattle.rowlist.specs.Build.{light-of, room-unit, Plain}
+
+-- two patterns of kind k
+pub record GivenTwo (t : List ℕ) (k : ℕ) (w : List ℕ) (b : Bool) (n m : ℕ) : Type 0 where
+  pub known : Known t
+  pub there : k < known .decoded .n
+  pub first : Pattern
+  pub second : Pattern
+  pub rest : List ℕ
+  pub words : w ≡ pattern-code first ++ (pattern-code second ++ rest)
+  pub well-first : WellFormed (known .sig) k first
+  pub well-second : WellFormed (known .sig) k second
+  pub light-first : light-of b first ≡ true
+  pub light-second : light-of b second ≡ true
+  pub plainly : (p : Pattern) → Plain p
+  pub room : room-unit * (length (pattern-code first) + length (pattern-code second)) ≤ n
+  pub work-room : room-unit * (length (pattern-code first) + length (pattern-code second)) ≤ m
+
+-- some value of kind k fits both; on the minus side, fails both
+abbrev pub meets : Bool → Signature → ℕ → Pattern → Pattern → Bool
+meets true sig k p q = overlap sig k p q
+meets false sig k p q = overlap-minus sig k p q
+
+-- one pattern of kind k
+pub record GivenPart (t : List ℕ) (k : ℕ) (w : List ℕ) (b : Bool) (n m : ℕ) : Type 0 where
+  pub known : Known t
+  pub there : k < known .decoded .n
+  pub pattern : Pattern
+  pub rest : List ℕ
+  pub words : w ≡ pattern-code pattern ++ rest
+  pub well : WellFormed (known .sig) k pattern
+  pub light : light-of b pattern ≡ true
+  pub plainly : (p : Pattern) → Plain p
+  pub room : room-unit * length (pattern-code pattern) ≤ n
+  pub work-room : room-unit * length (pattern-code pattern) ≤ m
+
+-- a whole pattern, past 7 and 9
+pub record GivenWhole (t ws : List ℕ) (n m : ℕ) : Type 0 where
+  pub known : Known t
+  pub pattern : Pattern
+  pub read : read-pattern (known .sig) ws ≡ some pattern
+  pub light : light-plus pattern ≡ true
+  pub plainly : (p : Pattern) → Plain p
+  pub room : room-unit * length ws ≤ n
+  pub work-room : room-unit * length ws ≤ m

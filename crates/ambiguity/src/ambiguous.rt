@@ -1,0 +1,148 @@
+// Whether some part of a pattern, at the side on which it stands, is ambiguous (refusal 10).
+use crate::both::both;
+use pattern::linear::side_behind;
+use pattern::token::Word;
+use pattern::token::classify;
+use pattern::token::parts;
+use signature::decoded::argument_of;
+ghost use mathlib.Core.Path.{_≡_};
+ghost use mathlib.Core.Bool.{_&&_};
+ghost use lib.ListN.{length};
+ghost use Prim.Native.Nat.{_<_};
+ghost use Rattle.signature.specs.Decoded.{decoded-length};
+ghost use Rattle.signature.specs.Limits.{argument-limit};
+ghost use Rattle.signature.specs.Lists.{_or-else_};
+ghost use Rattle.pattern.specs.Word.{form-of, head-small};
+ghost use Rattle.row.specs.Overlap.{ambiguous-plus};
+ghost use Rattle.ambiguity.specs.Ambiguity.{doubles, taken-twice, kind-behind, own-variable, Judged};
+ghost use Rattle.ambiguity.specs.Parts.{GivenPart, GivenWhole};
+
+// Whether a part has variables at its side, and how many words it takes; or that it, or a part of it, is ambiguous.
+pub enum Part {
+    Clear(bool, usize),
+    Ambiguous,
+}
+
+fn either(a: bool, b: bool) -> bool
+    ensures { λ r. ⌜ r ≡ (a or-else b) ⌝ }
+{
+    if a {
+        return true;
+    }
+    b
+}
+
+fn is_variable(w: Word, plus: bool) -> bool
+    ensures { λ r. ⌜ r ≡ own-variable plus (form-of w) ⌝ }
+{
+    match w {
+        Word::Head(_c) => false,
+        Word::And => false,
+        Word::Or => false,
+        Word::Wild => false,
+        Word::Absurd => false,
+        Word::Not => false,
+        Word::Var(_x) => plus,
+        Word::Other => false,
+    }
+}
+
+// Whether a value may be taken by both parts behind a word: "or" on the plus side, "and" on the minus side.
+fn is_double(w: Word, plus: bool) -> bool
+    ensures { λ r. ⌜ r ≡ doubles plus (form-of w) ⌝ }
+{
+    match w {
+        Word::Head(_c) => false,
+        Word::And => !plus,
+        Word::Or => plus,
+        Word::Wild => false,
+        Word::Absurd => false,
+        Word::Not => false,
+        Word::Var(_x) => false,
+        Word::Other => false,
+    }
+}
+
+// The kind of the j-th part behind a word at a place of kind k.
+fn part_kind(t: &[u16], w: Word, k: usize, j: usize) -> usize
+    requires { ⌜ (length (now t) ≡ decoded-length) × head-small (form-of w) × (j < argument-limit) ⌝ }
+    ensures { λ r. ⌜ r ≡ kind-behind (now (t .entry)) k (form-of w) j ⌝ }
+{
+    match w {
+        Word::Head(c) => argument_of(t, c as usize, j) as usize,
+        Word::And => k,
+        Word::Or => k,
+        Word::Wild => k,
+        Word::Absurd => k,
+        Word::Not => k,
+        Word::Var(_x) => k,
+        Word::Other => k,
+    }
+}
+
+// Whether the pattern in front of p is ambiguous by itself: it has variables, and a value is taken twice.
+fn twice(
+    t: &[u16],
+    k: usize,
+    p: &[u16],
+    plus: bool,
+    vars: bool,
+    out: &mut [u64],
+    work: &mut [u64],
+) -> bool
+    requires { ⌜ GivenPart (now t) k (now p) plus (length (now out)) (length (now work)) ⌝ }
+    ensures { λ r. ⌜ ((g : GivenPart (now (t .entry)) k (now (p .entry)) plus (length (now (out .entry))) (length (now (work .entry)))) → r ≡ (vars && taken-twice plus (g .known .sig) k (g .pattern))) ⌝ }
+{
+    if !vars {
+        return false;
+    }
+    if !is_double(classify(p[0]), plus) {
+        return false;
+    }
+    both(t, k, &p[1..], plus, out, work)
+}
+
+// The pattern in front of p, of kind k, at a side.
+fn ambiguous_at(
+    t: &[u16],
+    k: usize,
+    p: &[u16],
+    plus: bool,
+    out: &mut [u64],
+    work: &mut [u64],
+) -> Part
+    requires { ⌜ GivenPart (now t) k (now p) plus (length (now out)) (length (now work)) ⌝ }
+    ensures { λ r. ⌜ ((g : GivenPart (now (t .entry)) k (now (p .entry)) plus (length (now (out .entry))) (length (now (work .entry)))) → Judged plus (g .known .sig) k (g .pattern) r) ⌝ }
+{
+    let w = classify(p[0]);
+    let count = parts(t, w) as usize;
+    let side = side_behind(w, plus);
+    let mut vars = is_variable(w, plus);
+    let mut at = 1;
+    let mut i = 0;
+    while i < count {
+        let kind = part_kind(t, w, k, i);
+        let Part::Clear(more, used) = ambiguous_at(t, kind, &p[at..], side, out, work) else {
+            return Part::Ambiguous;
+        };
+        vars = either(vars, more);
+        at += used;
+        i += 1;
+    }
+    if twice(t, k, p, plus, vars, out, work) {
+        return Part::Ambiguous;
+    }
+    Part::Clear(vars, at)
+}
+
+// Whether a pattern past 7 to 9 is ambiguous.
+pub fn ambiguous(t: &[u16], p: &[u16], out: &mut [u64], work: &mut [u64]) -> bool
+    requires { ⌜ GivenWhole (now t) (now p) (length (now out)) (length (now work)) ⌝ }
+    ensures { λ r. ⌜ ((g : GivenWhole (now (t .entry)) (now (p .entry)) (length (now (out .entry))) (length (now (work .entry)))) → r ≡ ambiguous-plus (g .known .sig) 0 (g .pattern)) ⌝ }
+{
+    let r = ambiguous_at(t, 0, p, true, out, work);
+    match r {
+        Part::Clear(_vars, _used) => false,
+        Part::Ambiguous => true,
+    }
+}
