@@ -8,14 +8,15 @@ use native.Mathlib.Omega.{arith}
 use lib.ListN.{drop, length, length-append, length-take, take-append-drop, getD, length-drop, take}
 use lib.Seq.{drop-at, length-take-le, take-take, take-at}
 use Rattle.pattern.specs.Pattern.{Pattern, pattern-code, head, and, or, wild, absurd-pat, neg, var}
-use Rattle.rowlist.specs.Build.{GivenPat, Made, leaf-entries, multiplies, rows-of}
+use Rattle.builder.specs.Build.{GivenPat, Made, leaf-entries, multiplies}
+use Rattle.rowlist.specs.Sides.{rows-of}
 use Rattle.cell.specs.Coded.{code, kinds-of}
 use Rattle.rowlist.specs.Product.{Product, GivenProduct, products}
 use Rattle.row.specs.Row.{Row}
 use Rattle.cell.specs.RowList.{from, Begins, entries, list-code}
-use Rattle.rowlist.proofs.Building.{Negated, negated, Leaf, leaf-of, Two, Multiplied, multiplied, Added, added}
-use Rattle.rowlist.proofs.Rooms.{list-small, all-small, rows-places}
+use Rattle.builder.proofs.Building.{Negated, negated, Leaf, leaf-of, Two, Multiplied, multiplied, Added, added}
+use Rattle.builder.proofs.Rooms.{list-small, all-small, rows-places}
 use Rattle.rowlist.proofs.Typing.{typed-rows}
 use Rattle.cell.proofs.Walk.{from-is, back, part-back, each-append}
 
 -- ---- words

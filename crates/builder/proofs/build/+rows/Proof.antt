@@ -4,17 +4,17 @@ use Prim.Native.Nat.{ℕ, _+_, _<_}
 use native.Mathlib.Omega.{arith}
 use lib.ListN.{length, length-take, length-drop}
 use Rattle.cell.proofs.Walk.{back-length}
-use Rattle.rowlist.proofs.Parts.{some-word, neg-given, neg-made, leaf-given, leaf-made, mult-first, mult-bounds, mult-second, mult-read, mult-at, mult-lists, mult-made, add-first, add-bounds, add-second, add-read, add-made}
+use Rattle.builder.proofs.Parts.{some-word, neg-given, neg-made, leaf-given, leaf-made, mult-first, mult-bounds, mult-second, mult-read, mult-at, mult-lists, mult-made, add-first, add-bounds, add-second, add-read, add-made}
 use borrow.Fn.Kinds.{In}
 use borrow.Fn.PlainCycle.{Measures, is, falls, and}
-use Rattle.rowlist.proofs.build.rows.Reads as rows
-use Rattle.rowlist.proofs.build.rows.Kinds as rows-kinds
-use Rattle.rowlist.proofs.build.+rows.Lts-rows as rows-lts
-use Rattle.rowlist.proofs.build.is_product.Reads as is-product-reads
-use Rattle.rowlist.proofs.build.leaf.Reads as leaf-reads
-use Rattle.rowlist.proofs.build.times.Reads as times-reads
-use Rattle.rowlist.proofs.build.+rows.{statement}
-use Rattle.rowlist.proofs.build.+rows.Tie.{close}
+use Rattle.builder.proofs.build.rows.Reads as rows
+use Rattle.builder.proofs.build.rows.Kinds as rows-kinds
+use Rattle.builder.proofs.build.+rows.Lts-rows as rows-lts
+use Rattle.builder.proofs.build.is_product.Reads as is-product-reads
+use Rattle.builder.proofs.build.leaf.Reads as leaf-reads
+use Rattle.builder.proofs.build.times.Reads as times-reads
+use Rattle.builder.proofs.build.+rows.{statement}
+use Rattle.builder.proofs.build.+rows.Tie.{close}
 
 abbrev μ-rows : Measures 4 rows-kinds.ps ℕ
 μ-rows κs a = length (a .1 .1 .1 .0 .now)

@@ -1,7 +1,7 @@
 // The rows of a pattern.
-use crate::list::product;
 use cell::cell::KIND_TAG;
 use pattern::token::FIRST_VARIABLE;
+use rowlist::list::product;
 use signature::decoded::count_of;
 use signature::decoded::first_of;
 use signature::set::full;
@@ -16,8 +16,8 @@ ghost use Rattle.cell.specs.RowList.{entries};
 ghost use mathlib.Core.List.{[], _∷_};
 ghost use Rattle.cell.specs.RowList.{from};
 ghost use Rattle.cell.specs.Coded.{kinds-of};
-ghost use Rattle.rowlist.specs.Build.{multiplies, vars-of, leaf-entries, GivenPat, Made};
+ghost use Rattle.builder.specs.Build.{multiplies, vars-of, leaf-entries, GivenPat, Made};
 ghost use Rattle.rowlist.specs.Product.{GivenProduct, Product, products};
 
 // The words of the connectives, of the wildcard and of absurd.
 const AND: u16 = 256;
