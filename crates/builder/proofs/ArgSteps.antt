@@ -11,7 +11,8 @@ use Rattle.signature.specs.Lists.{All, also}
 use Rattle.signature.specs.Signature.{Signature, arguments}
 use Rattle.signature.proofs.Booleans.{and-left, and-right}
 use Rattle.signature.proofs.KnownFacts.{arity-is}
-use Rattle.pattern.specs.Pattern.{Pattern, Patterns, pnil, pcons}
+use Rattle.signature.proofs.Tests.{times-less}
+use Rattle.pattern.specs.Pattern.{Pattern, Patterns, pnil, pcons, patterns-code}
 use Rattle.pattern.specs.Weight.{light-plus, light-minus, light-all-plus, light-all-minus}
 use Rattle.pattern.specs.WellFormed.{WellFormed, AllWellFormed, well-nil, well-cons}
 use Rattle.builder.specs.Arguments.{GivenArgs, MadeArgs, lights-of}
@@ -66,10 +67,14 @@ module _ {t : List ℕ} {c j : ℕ} {w : List ℕ} {b : Bool} {used : ℕ} {o : 
   pub args-count : arity-of t c ≡ length (arguments (g .known .sig) c)
   args-count = arity-is (g .known) c (g .head)
 
+  -- the list of rows that are begun, with its end
+  pub begun-small : used + 1 ≤ 65 + 192 * g .a
+  begun-small = omega (arith, g .list .size, list-le (3 * g .a) (g .begun) (g .short), times-less (length (g .begun)) 64 (1 + 3 * g .a) (1 + 3 * g .a) (g .count) (omega arith))
+
   -- none is left
-  pub args-end : arity-of t c ≤ j → MadeArgs (g .known .sig) b (g .ks) (g .ps) (g .begun) used 0 o
+  pub args-end : arity-of t c ≤ j → MadeArgs (g .known .sig) b (g .ks) (g .ps) (g .begun) (g .a + length (patterns-code (g .ps))) used 0 o
   args-end h = go (g .ks) (g .ps) (sym (g .kinds) ∙ no-drop j (arguments (g .known .sig) c) (omega (arith, h, args-count))) (g .well)
     where
-      go : (ks : List ℕ) (ps : Patterns) → ks ≡ [] → AllWellFormed (g .known .sig) ks ps → MadeArgs (g .known .sig) b ks ps (g .begun) used 0 o
-      go [] pnil e well-nil = record { read-is = refl; list = rw (behind-nil b (g .known .sig) (g .begun)) (g .list) }
+      go : (ks : List ℕ) (ps : Patterns) → ks ≡ [] → AllWellFormed (g .known .sig) ks ps → MadeArgs (g .known .sig) b ks ps (g .begun) (g .a + length (patterns-code ps)) used 0 o
+      go [] pnil e well-nil = record { read-is = refl; list = rw (behind-nil b (g .known .sig) (g .begun)) (g .list); small = omega (arith, begun-small, g .some-words) }
       go (k ∷ ks) ps e h = absurd (omega (arith, ap length e))

@@ -14,9 +14,9 @@ use Rattle.signature.proofs.Booleans.{and-left, and-right}
 use Rattle.signature.proofs.Tests.{eqb-eq, true≢false, times-less, le-of}
 use Rattle.pattern.specs.Pattern.{Pattern, head, and, or, wild, absurd-pat, neg, var, pattern-code}
 use Rattle.pattern.specs.Weight.{weight-plus, weight-minus, light-plus, light-minus}
-use Rattle.pattern.specs.WellFormed.{WellFormed, well-and, well-or, well-not}
-use Rattle.builder.specs.Build.{Plain, vars-of, leaf-entries, light-of, multiplies}
+use Rattle.pattern.specs.WellFormed.{WellFormed, well-head, well-and, well-or, well-not, well-var}
 use Rattle.rowlist.specs.Sides.{rows-of, Open}
+use Rattle.builder.specs.Build.{vars-of, leaf-entries, light-of, multiplies}
 use Rattle.cell.specs.Cell.{Kinds}
 use Rattle.cell.specs.Mask.{mask}
 use Rattle.rowlist.specs.Product.{Product}
@@ -49,18 +49,17 @@ module _ (sig : Signature) (k : ℕ) where
     pub code-is : pattern-code p ≡ 260 ∷ pattern-code q
     pub well : WellFormed sig k q
     pub light : light-of (not b) q ≡ true
-    pub plain : Plain q
     pub rows-is : rows-of sig k b p ≡ rows-of sig k (not b) q
 
-  pub negated : (p : Pattern) (b : Bool) (rest : List ℕ) → WellFormed sig k p → light-of b p ≡ true → Plain p → getD (pattern-code p ++ rest) 0 0 ≡ 260 → Negated p b
-  negated (head c ps) b rest h l e w = absurd e
-  negated (and p q) b rest h l e w = absurd (omega (arith, w))
-  negated (or p q) b rest h l e w = absurd (omega (arith, w))
-  negated wild b rest h l e w = absurd (omega (arith, w))
-  negated absurd-pat b rest h l e w = absurd (omega (arith, w))
-  negated (neg p) true rest (well-not h) l e w = record { q = p; code-is = refl; well = h; light = l; plain = e; rows-is = refl }
-  negated (neg p) false rest (well-not h) l e w = record { q = p; code-is = refl; well = h; light = l; plain = e; rows-is = refl }
-  negated (var x) b rest h l e w = absurd (omega (arith, w))
+  pub negated : (p : Pattern) (b : Bool) (rest : List ℕ) → WellFormed sig k p → light-of b p ≡ true → getD (pattern-code p ++ rest) 0 0 ≡ 260 → Negated p b
+  negated (head c ps) b rest (well-head i e h) l w = absurd (omega (arith, w, i))
+  negated (and p q) b rest h l w = absurd (omega (arith, w))
+  negated (or p q) b rest h l w = absurd (omega (arith, w))
+  negated wild b rest h l w = absurd (omega (arith, w))
+  negated absurd-pat b rest h l w = absurd (omega (arith, w))
+  negated (neg p) true rest (well-not h) l w = record { q = p; code-is = refl; well = h; light = l; rows-is = refl }
+  negated (neg p) false rest (well-not h) l w = record { q = p; code-is = refl; well = h; light = l; rows-is = refl }
+  negated (var x) b rest h l w = absurd (omega (arith, w))
 
   -- two parts: their words and what holds of each
   pub record Two (p : Pattern) (b : Bool) : Type 0 where
@@ -70,7 +69,6 @@ module _ (sig : Signature) (k : ℕ) where
     pub code-is : pattern-code p ≡ word ∷ (pattern-code q ++ pattern-code r)
     pub well : WellFormed sig k q × WellFormed sig k r
     pub light : (light-of b q ≡ true) × (light-of b r ≡ true)
-    pub plain : Plain q × Plain r
 
   -- two parts that are multiplied
   pub record Multiplied (p : Pattern) (b : Bool) : Type 0 where
@@ -78,52 +76,53 @@ module _ (sig : Signature) (k : ℕ) where
     pub few : length (rows-of sig k b (two .q)) * length (rows-of sig k b (two .r)) ≤ 64
     pub rows-is : rows-of sig k b p ≡ somes (each combine (rows-of sig k b (two .q)) (rows-of sig k b (two .r)))
 
-  pub multiplied : (p : Pattern) (b : Bool) (rest : List ℕ) → WellFormed sig k p → light-of b p ≡ true → Plain p → multiplies (getD (pattern-code p ++ rest) 0 0) b ≡ true → Multiplied p b
-  multiplied (head c ps) b rest h l e w = absurd e
-  multiplied (and p q) true rest (well-and h i) l e w =
+  pub multiplied : (p : Pattern) (b : Bool) (rest : List ℕ) → WellFormed sig k p → light-of b p ≡ true → multiplies (getD (pattern-code p ++ rest) 0 0) b ≡ true → Multiplied p b
+  multiplied (head c ps) true rest (well-head i e h) l w = absurd (omega (arith, eqb-eq c 256 w, i))
+  multiplied (head c ps) false rest (well-head i e h) l w = absurd (omega (arith, eqb-eq c 257 w, i))
+  multiplied (and p q) true rest (well-and h i) l w =
       let s = parts-of (leb (weight-plus p * weight-plus q) 64) (light-plus p) (light-plus q) l in
       record {
-        two = record { word = 256; q = p; r = q; code-is = refl; well = (h, i); light = (s .1, s .2); plain = e };
+        two = record { word = 256; q = p; r = q; code-is = refl; well = (h, i); light = (s .1, s .2) };
         few = le-trans (times-less (length (rows-plus sig k p)) (weight-plus p) (length (rows-plus sig k q)) (weight-plus q) (plus-count sig p k) (plus-count sig q k)) (le-of (weight-plus p * weight-plus q) 64 (s .0));
         rows-is = refl;
       }
-  multiplied (and p q) false rest h l e w = true≢false (sym w)
-  multiplied (or p q) true rest h l e w = true≢false (sym w)
-  multiplied (or p q) false rest (well-or h i) l e w =
+  multiplied (and p q) false rest h l w = true≢false (sym w)
+  multiplied (or p q) true rest h l w = true≢false (sym w)
+  multiplied (or p q) false rest (well-or h i) l w =
       let s = parts-of (leb (weight-minus p * weight-minus q) 64) (light-minus p) (light-minus q) l in
       record {
-        two = record { word = 257; q = p; r = q; code-is = refl; well = (h, i); light = (s .1, s .2); plain = e };
+        two = record { word = 257; q = p; r = q; code-is = refl; well = (h, i); light = (s .1, s .2) };
         few = le-trans (times-less (length (rows-minus sig k p)) (weight-minus p) (length (rows-minus sig k q)) (weight-minus q) (minus-count sig p k) (minus-count sig q k)) (le-of (weight-minus p * weight-minus q) 64 (s .0));
         rows-is = refl;
       }
-  multiplied wild true rest h l e w = true≢false (sym w)
-  multiplied wild false rest h l e w = true≢false (sym w)
-  multiplied absurd-pat true rest h l e w = true≢false (sym w)
-  multiplied absurd-pat false rest h l e w = true≢false (sym w)
-  multiplied (neg p) true rest h l e w = true≢false (sym w)
-  multiplied (neg p) false rest h l e w = true≢false (sym w)
-  multiplied (var x) true rest h l e w = absurd (omega (arith, eqb-eq (261 + x) 256 w))
-  multiplied (var x) false rest h l e w = absurd (omega (arith, eqb-eq (261 + x) 257 w))
+  multiplied wild true rest h l w = true≢false (sym w)
+  multiplied wild false rest h l w = true≢false (sym w)
+  multiplied absurd-pat true rest h l w = true≢false (sym w)
+  multiplied absurd-pat false rest h l w = true≢false (sym w)
+  multiplied (neg p) true rest h l w = true≢false (sym w)
+  multiplied (neg p) false rest h l w = true≢false (sym w)
+  multiplied (var x) true rest h l w = absurd (omega (arith, eqb-eq (261 + x) 256 w))
+  multiplied (var x) false rest h l w = absurd (omega (arith, eqb-eq (261 + x) 257 w))
 
   -- two parts that are added
   pub record Added (p : Pattern) (b : Bool) : Type 0 where
     pub two : Two p b
     pub rows-is : rows-of sig k b p ≡ rows-of sig k b (two .q) ++ rows-of sig k b (two .r)
 
-  pub added : (p : Pattern) (b : Bool) (rest : List ℕ) → WellFormed sig k p → light-of b p ≡ true → Plain p → multiplies (getD (pattern-code p ++ rest) 0 0) b ≡ false → getD (pattern-code p ++ rest) 0 0 < 258 → Added p b
-  added (head c ps) b rest h l e w z = absurd e
-  added (and p q) true rest h l e w z = true≢false w
-  added (and p q) false rest (well-and h i) l e w z =
+  pub added : (p : Pattern) (b : Bool) (rest : List ℕ) → WellFormed sig k p → light-of b p ≡ true → multiplies (getD (pattern-code p ++ rest) 0 0) b ≡ false → 256 ≤ getD (pattern-code p ++ rest) 0 0 → getD (pattern-code p ++ rest) 0 0 < 258 → Added p b
+  added (head c ps) b rest (well-head i e h) l w y z = absurd (omega (arith, y, i))
+  added (and p q) true rest h l w y z = true≢false w
+  added (and p q) false rest (well-and h i) l w y z =
       let s = parts-of (leb (weight-minus p + weight-minus q) 64) (light-minus p) (light-minus q) l in
-      record { two = record { word = 256; q = p; r = q; code-is = refl; well = (h, i); light = (s .1, s .2); plain = e }; rows-is = refl }
-  added (or p q) true rest (well-or h i) l e w z =
+      record { two = record { word = 256; q = p; r = q; code-is = refl; well = (h, i); light = (s .1, s .2) }; rows-is = refl }
+  added (or p q) true rest (well-or h i) l w y z =
       let s = parts-of (leb (weight-plus p + weight-plus q) 64) (light-plus p) (light-plus q) l in
-      record { two = record { word = 257; q = p; r = q; code-is = refl; well = (h, i); light = (s .1, s .2); plain = e }; rows-is = refl }
-  added (or p q) false rest h l e w z = true≢false w
-  added wild b rest h l e w z = absurd (omega (arith, z))
-  added absurd-pat b rest h l e w z = absurd (omega (arith, z))
-  added (neg p) b rest h l e w z = absurd (omega (arith, z))
-  added (var x) b rest h l e w z = absurd (omega (arith, z))
+      record { two = record { word = 257; q = p; r = q; code-is = refl; well = (h, i); light = (s .1, s .2) }; rows-is = refl }
+  added (or p q) false rest h l w y z = true≢false w
+  added wild b rest h l w y z = absurd (omega (arith, z))
+  added absurd-pat b rest h l w y z = absurd (omega (arith, z))
+  added (neg p) b rest h l w y z = absurd (omega (arith, z))
+  added (var x) b rest h l w y z = absurd (omega (arith, z))
 
 module _ (K : Kinds) (sig : Signature) (k : ℕ) where
   -- a leaf
@@ -142,15 +141,15 @@ var-row x h = let e : 261 + x - 261 ≡ x - 0 = omega arith in rw (le-ltb (261 +
 
 module _ (K : Kinds) (sig : Signature) (k : ℕ) where
   module _ (tag full : ℕ) (o : Open K sig k tag full) where
-    pub leaf-of : (p : Pattern) (b : Bool) (rest : List ℕ) → WellFormed sig k p → Plain p → ¬ (getD (pattern-code p ++ rest) 0 0 ≡ 260) → 258 ≤ getD (pattern-code p ++ rest) 0 0
+    pub leaf-of : (p : Pattern) (b : Bool) (rest : List ℕ) → WellFormed sig k p → ¬ (getD (pattern-code p ++ rest) 0 0 ≡ 260) → 258 ≤ getD (pattern-code p ++ rest) 0 0
         → Leaf K sig k p b (getD (pattern-code p ++ rest) 0 0) tag full
-    leaf-of (head c ps) b rest s h w l = absurd h
-    leaf-of (and p q) b rest s h w l = absurd (omega (arith, l))
-    leaf-of (or p q) b rest s h w l = absurd (omega (arith, l))
-    leaf-of wild true rest s h w l = record { code-is = refl; word = omega arith; rows-is = one-row K sig k tag full o 0 [] (sym (mask-nil 0)) }
-    leaf-of wild false rest s h w l = record { code-is = refl; word = omega arith; rows-is = refl }
-    leaf-of absurd-pat true rest s h w l = record { code-is = refl; word = omega arith; rows-is = refl }
-    leaf-of absurd-pat false rest s h w l = record { code-is = refl; word = omega arith; rows-is = one-row K sig k tag full o 0 [] (sym (mask-nil 0)) }
-    leaf-of (neg p) b rest s h w l = absurd (w refl)
-    leaf-of (var x) true rest s h w l = record { code-is = refl; word = omega (arith, h); rows-is = rw (ne-eqb (261 + x) 259 (λ z. omega (arith, z))) (one-row K sig k tag full o (vars-of (261 + x)) (x ∷ []) (var-row x h)) }
-    leaf-of (var x) false rest s h w l = record { code-is = refl; word = omega (arith, h); rows-is = rw (ne-eqb (261 + x) 259 (λ z. omega (arith, z))) }
+    leaf-of (head c ps) b rest (well-head i e h) w l = absurd (omega (arith, l, i))
+    leaf-of (and p q) b rest h w l = absurd (omega (arith, l))
+    leaf-of (or p q) b rest h w l = absurd (omega (arith, l))
+    leaf-of wild true rest h w l = record { code-is = refl; word = omega arith; rows-is = one-row K sig k tag full o 0 [] (sym (mask-nil 0)) }
+    leaf-of wild false rest h w l = record { code-is = refl; word = omega arith; rows-is = refl }
+    leaf-of absurd-pat true rest h w l = record { code-is = refl; word = omega arith; rows-is = refl }
+    leaf-of absurd-pat false rest h w l = record { code-is = refl; word = omega arith; rows-is = one-row K sig k tag full o 0 [] (sym (mask-nil 0)) }
+    leaf-of (neg p) b rest h w l = absurd (w refl)
+    leaf-of (var x) true rest (well-var h) w l = record { code-is = refl; word = omega (arith, h); rows-is = rw (ne-eqb (261 + x) 259 (λ z. omega (arith, z))) (one-row K sig k tag full o (vars-of (261 + x)) (x ∷ []) (var-row x h)) }
+    leaf-of (var x) false rest (well-var h) w l = record { code-is = refl; word = omega (arith, h); rows-is = rw (ne-eqb (261 + x) 259 (λ z. omega (arith, z))) }

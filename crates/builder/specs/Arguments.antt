@@ -75,6 +75,8 @@ pub record GivenArgs (t : List ℕ) (c j : ℕ) (w : List ℕ) (b : Bool) (used 
   pub room : room-unit * (a + length (patterns-code ps)) ≤ length o
   pub work-room : room-unit * (a + length (patterns-code ps)) ≤ m
 
-pub record MadeArgs (sig : Signature) (b : Bool) (ks : List ℕ) (ps : Patterns) (begun : List (List ℕ)) (used read : ℕ) (o : List ℕ) : Type 0 where
+-- what was read and written, with its length for n words of a pattern
+pub record MadeArgs (sig : Signature) (b : Bool) (ks : List ℕ) (ps : Patterns) (begun : List (List ℕ)) (n used read : ℕ) (o : List ℕ) : Type 0 where
   pub read-is : read ≡ length (patterns-code ps)
   pub list : Product (words-list (behind b sig ks ps begun)) used o
+  pub small : used + 1 ≤ room-unit * n

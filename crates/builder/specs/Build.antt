@@ -4,10 +4,10 @@ use mathlib.Core.List.{List, _∷_, [], _++_}
 use mathlib.Core.Bool.{Bool, true, false, cond, not}
 use Prim.Native.Nat.{ℕ, _<_, _^_, _-_, _+_, _*_, _≤_}
 use lib.Dec.{eqb, ltb}
-use lib.ListN.{length}
+use lib.ListN.{length, getD}
 use Rattle.signature.specs.Decoded.{Known}
 use Rattle.signature.specs.Signature.{Signature}
-use Rattle.pattern.specs.Pattern.{Pattern, head, and, or, wild, absurd-pat, neg, var, pattern-code}
+use Rattle.pattern.specs.Pattern.{Pattern, and, pattern-code}
 use Rattle.pattern.specs.Weight.{light-plus, light-minus}
 use Rattle.pattern.specs.WellFormed.{WellFormed}
 use Rattle.cell.specs.Cell.{Kinds}
@@ -23,16 +23,6 @@ light-of false p = light-minus p
 -- words of each slice for each word of a pattern: of a list of at most 64 rows, each with its number and 3 words for each word of the pattern, and the list's end
 abbrev pub room-unit : ℕ
 room-unit = 257
-
--- no constructors; variables below 16
-abbrev pub Plain : Pattern → Type 0
-Plain (head c ps) = ⊥
-Plain (and p q) = Plain p × Plain q
-Plain (or p q) = Plain p × Plain q
-Plain wild = Unit {0}
-Plain absurd-pat = Unit {0}
-Plain (neg p) = Plain p
-Plain (var x) = x < 16
 
 -- what the words mean, on the side b
 abbrev pub multiplies : ℕ → Bool → Bool
@@ -62,10 +52,14 @@ pub record GivenPat (t : List ℕ) (tag full : ℕ) (w : List ℕ) (b : Bool) (n
   pub code-is : w ≡ pattern-code p ++ rest
   pub well : WellFormed (known .sig) k p
   pub light : light-of b p ≡ true
-  pub plain : Plain p
   pub opened : Open (kinds-of (known .sig)) (known .sig) k tag full
   pub room : room-unit * length (pattern-code p) ≤ n
   pub work-room : room-unit * length (pattern-code p) ≤ m
+
+-- the pattern in front is a constructor's
+pub record GivenHead (t : List ℕ) (tag full : ℕ) (w : List ℕ) (b : Bool) (n m : ℕ) : Type 0 where
+  pub pat : GivenPat t tag full w b n m
+  pub small : getD w 0 0 < 256
 
 -- what was read and written
 pub record Made (K : Kinds) (sig : Signature) (k : ℕ) (b : Bool) (p : Pattern) (used read : ℕ) (o : List ℕ) : Type 0 where
