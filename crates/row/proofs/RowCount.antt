@@ -52,7 +52,7 @@ module _ (sig : Signature) where
     minus-count (and p q) k = omega (arith, length-append (rows-minus sig k p) (rows-minus sig k q), minus-count p k, minus-count q k)
     minus-count (head c ps) k = omega (arith, length-append (other-than sig k c) (map (named [] c) (args-minus sig (arguments sig c) ps)), length-other sig k c, length-map (args-minus sig (arguments sig c) ps) (named [] c), args-minus-count ps (arguments sig c))
 
-    args-plus-count : (ps : Patterns) (ks : List ℕ) → length (args-plus sig ks ps) ≤ product-plus ps
+    pub args-plus-count : (ps : Patterns) (ks : List ℕ) → length (args-plus sig ks ps) ≤ product-plus ps
     args-plus-count pnil ks = omega arith
     args-plus-count (pcons p ps) [] = omega arith
     args-plus-count (pcons p ps) (k ∷ ks) = omega (arith, length-each rcons (rows-plus sig k p) (args-plus sig ks ps), times-less (length (rows-plus sig k p)) (weight-plus p) (length (args-plus sig ks ps)) (product-plus ps) (plus-count p k) (args-plus-count ps ks))

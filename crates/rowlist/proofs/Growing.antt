@@ -1,17 +1,17 @@
 -- Rows behind rows, as the loops write them.
 use mathlib.Core.Path.{_≡_, refl, ap, ap₂, _∙_, sym, subst}
-use mathlib.Core.List.{List, map, [], _∷_, _++_, append-assoc, append-nil}
+use mathlib.Core.List.{List, [], _∷_, _++_, append-assoc, append-nil}
 use Prim.Native.Nat.{ℕ, suc, _+_, _≤_, _<_, _-_}
 use native.Mathlib.Nat.{add-zero}
 use native.Mathlib.Omega.{arith}
-use lib.ListN.{length, set, take, drop, getD, length-append, length-take, length-drop}
+use lib.ListN.{length, set, take, drop, getD, length-append, length-drop}
 use lib.Seq.{take-at, take-suc, take-suc-set, drop-drop, drop-at}
 use native.Mathlib.Numerals.{add-one}
-use Rattle.rowlist.specs.Grow.{words-list, Filled, RowFirst, ListFirst, GivenAppend, GivenAppends, GivenGrow, appends, appends-room, grown, grown-room}
+use Rattle.rowlist.specs.Grow.{words-list, Filled, RowFirst, ListFirst, GivenAppend, GivenAppends, GivenGrow, appends, appends-room, grown}
 use Rattle.rowlist.specs.Product.{Product}
-use Rattle.cell.specs.RowList.{Begins, from, costs, each-with}
+use Rattle.cell.specs.RowList.{Begins, from}
 use Rattle.rowlist.proofs.Products.{end-word}
-use Rattle.cell.proofs.Walk.{word-at, Task, Now, Head, Turned, yields, start, head, turn, end, there, back, part-back, from-is, each-append}
+use Rattle.cell.proofs.Walk.{word-at, Task, Now, Head, Turned, yields, start, head, turn, end}
 
 row-long : {x : List ℕ} {n : ℕ} → RowFirst x n → n ≤ length x
 row-long f = omega (arith, f .size, simp length-append at (ap length (f .code-is)))

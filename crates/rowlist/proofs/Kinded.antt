@@ -1,25 +1,24 @@
 -- What the table of a lawful signature gives to rows: each constructor is known, each kind is open, and its full set is that of its heads.
 use borrow.Author.Tests.{ltb-true, ltb-false}
 use mathlib.Core.Path.{_≡_, refl, ap, _∙_, sym, subst}
-use mathlib.Core.List.{List, [], _∷_}
+use mathlib.Core.List.{List}
 use mathlib.Core.Option.{some}
 use mathlib.Core.Bool.{Bool, true, false}
-use Prim.Native.Nat.{ℕ, zero, suc, _+_, _-_, _≤_, _<_, _^_}
-use native.Mathlib.Nat.{add-zero, add-suc, suc-add}
+use Prim.Native.Nat.{ℕ, zero, suc, _+_, _-_, _≤_, _<_}
+use native.Mathlib.Nat.{add-zero}
 use native.Mathlib.Omega.{arith}
 use lib.Dec.{eqb, ltb}
 use lib.ListN.{length}
-use Rattle.signature.specs.Decoded.{Known, decoded-length, count-of}
-use Rattle.signature.specs.Limits.{heads-limit, kind-limit}
+use Rattle.signature.specs.Decoded.{Known, count-of}
 use Rattle.signature.specs.Lists.{memb, is-empty, first}
 use Rattle.signature.specs.Set.{bit, bit-if}
-use Rattle.signature.specs.Signature.{Signature, heads, arguments-at}
+use Rattle.signature.specs.Signature.{heads, arguments-at}
 use Rattle.signature.proofs.Heads.{Consecutive, consecutive-nil, consecutive-cons, consecutive-of, has-head, has-kind, constructor-of}
 use Rattle.signature.proofs.KnownFacts.{words-of, arity-is, is-constructor, few-constructors, long}
 use Rattle.signature.proofs.LawfulFacts.{kinds-kind}
 use Rattle.signature.proofs.SignatureBack.{is-kinds}
 use Rattle.signature.proofs.Tests.{some-inj, eqb-self, eqb-no, eqb-eq, true≢false, ltb-yes, ltb-no}
-use Rattle.rowlist.specs.Build.{Open}
+use Rattle.rowlist.specs.Sides.{Open}
 use Rattle.cell.specs.Coded.{kinds-of, Known as KnownHead}
 use Rattle.cell.specs.Mask.{mask, Within}
 use Rattle.cell.proofs.Masks.{bit-ext, bit-mask, one-if}

@@ -1,11 +1,7 @@
-pub mod ArgSteps
-pub mod Behind
-pub mod Building
 pub mod Growing
 pub mod Kinded
-pub mod NextLists
 pub mod OneMore
-pub mod Parts
+pub mod Others
 pub mod Products
-pub mod Rooms
+pub mod Typed
 pub mod Typing

@@ -1,20 +1,19 @@
 -- One argument more, as it is written.
-use mathlib.Core.Path.{_≡_, refl, ap, ap₂, _∙_, sym, subst}
-use mathlib.Core.List.{List, map, [], _∷_, _++_, append-assoc, append-nil}
-use mathlib.Core.Bool.{Bool, true, false, cond}
-use Prim.Native.Nat.{ℕ, suc, _+_, _*_, _≤_, _<_, _-_}
+use mathlib.Core.Path.{_≡_, refl, ap, _∙_, sym, subst}
+use mathlib.Core.List.{List, [], _∷_, _++_, append-assoc}
+use mathlib.Core.Bool.{Bool, true, false}
+use Prim.Native.Nat.{ℕ, _+_, _*_, _≤_, _<_, _-_}
 use native.Mathlib.Nat.{suc-mul, mul-assoc, add-mul}
 use native.Mathlib.Omega.{arith}
 use borrow.Author.Tests.{lt-ltb, le-ltb}
-use lib.Dec.{ltb}
-use lib.ListN.{length, set, take, drop, getD, length-append, length-take, length-drop}
+use lib.ListN.{length, set, take, drop, getD, length-append, length-drop}
 use lib.Seq.{take-take, take-at}
 use Rattle.signature.proofs.Tests.{times-less, true≢false}
-use Rattle.rowlist.specs.Arguments.{GivenNext, GivenNextMinus, GivenNextAt, next-made, next-rows, Short}
-use Rattle.rowlist.specs.Grow.{words-list, ListFirst, RowFirst, GivenGrow, GivenAppends, Filled, grown, appends, grown-room, appends-room}
+use Rattle.rowlist.specs.Next.{GivenNext, GivenNextMinus, GivenNextAt, next-made, next-rows, Short}
+use Rattle.rowlist.specs.Grow.{words-list, ListFirst, GivenGrow, GivenAppends, Filled, grown, appends, grown-room, appends-room}
 use Rattle.rowlist.specs.Product.{Product}
-use Rattle.cell.specs.RowList.{from, Begins, costs}
-use Rattle.rowlist.proofs.Building.{no-list}
+use Rattle.cell.specs.RowList.{from, Begins}
+use Rattle.rowlist.proofs.Products.{no-list}
 use Rattle.rowlist.proofs.Growing.{appends-small}
 use Rattle.rowlist.proofs.Products.{end-word}
 use Rattle.cell.proofs.Walk.{back, part-back, back-length, from-is, each-append}

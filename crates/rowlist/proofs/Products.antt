@@ -178,6 +178,10 @@ end-word o w n b h = record {
   list = rw (add-one n) (take-suc-set o n 0 (omega arith)) ∙ ap (λ (l : List ℕ). l ++ (0 ∷ [])) (b .1);
 }
 
+pub no-list : (o : List ℕ) → 1 ≤ length o → Product [] 0 (set o 0 0)
+no-list [] h = absurd (omega arith)
+no-list (a ∷ o) h = record { size = refl; list = refl }
+
 module _ {ar x y o₀ : List ℕ} (g : GivenProduct ar x y o₀) where
   pub start2 : Now (product-task g) 0 0 o₀
   unfolding product-task

@@ -4,24 +4,23 @@ use mathlib.Core.List.{List, [], _∷_, _++_, map}
 use mathlib.Core.Option.{some}
 use mathlib.Core.Bool.{Bool, true, false, not, cond}
 use Prim.Native.Nat.{ℕ, _<_}
-use native.Mathlib.Omega.{arith}
 use lib.Dec.{eqb}
 use Rattle.signature.specs.Decoded.{Known}
 use Rattle.signature.specs.Lists.{All, none-left, also, keep, is-empty}
-use Rattle.signature.specs.Signature.{heads, arguments, arguments-at}
+use Rattle.signature.specs.Signature.{heads, arguments-at}
 use Rattle.signature.proofs.Heads.{constructor-of, args-same}
 use Rattle.signature.proofs.KnownFacts.{words-of}
 use Rattle.signature.proofs.ListFacts.{all-at}
 use Rattle.pattern.specs.Pattern.{Pattern, head, and, or, wild, absurd-pat, neg, var, Patterns, pnil, pcons}
 use Rattle.pattern.specs.WellFormed.{WellFormed, well-head, well-and, well-or, well-not, AllWellFormed, well-nil, well-cons}
-use Rattle.rowlist.specs.Build.{rows-of}
+use Rattle.rowlist.specs.Sides.{rows-of}
 use Rattle.cell.specs.Coded.{kinds-of, Typed, Typeds}
 use Rattle.cell.specs.Mask.{Within}
 use Rattle.rowlist.specs.Product.{Typed-all}
-use Rattle.row.specs.Row.{Row, Rows, named, free, rnil, rcons, each, other-than, open-row, open-rows, rows-plus, rows-minus, args-plus, args-minus}
+use Rattle.row.specs.Row.{named, free, rcons, each, other-than, open-row, open-rows, rows-plus, rows-minus, args-plus, args-minus}
 use Rattle.cell.specs.RowList.{Every}
-use Rattle.rowlist.proofs.Building.{typed-each, typed-append}
-use Rattle.rowlist.proofs.Kinded.{known-head, open-kind, kinds-same, kind-there}
+use Rattle.rowlist.proofs.Typed.{typed-each, typed-append}
+use Rattle.rowlist.proofs.Kinded.{known-head, open-kind, kinds-same}
 use Rattle.cell.proofs.Masks.{within-keep}
 
 pub every-append : {A : Type 0} (P : A → Type 0) (xs ys : List A) → Every P xs → Every P ys → Every P (xs ++ ys)

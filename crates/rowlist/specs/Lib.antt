@@ -1,4 +1,4 @@
-pub mod Arguments
-pub mod Build
 pub mod Grow
+pub mod Next
 pub mod Product
+pub mod Sides

@@ -1,5 +1,4 @@
-// Lists of rows: their products, and the rows of a pattern.
-pub mod build;
+// Lists of rows: their products, and rows behind rows.
 pub mod grow;
 pub mod list;
 pub mod next;

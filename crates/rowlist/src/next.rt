@@ -1,11 +1,12 @@
 // The rows of a constructor that are begun, with one argument more.
 use crate::grow::append_all;
 use crate::grow::append_each;
+use crate::grow::copy;
 use crate::grow::count;
-ghost use mathlib.Core.List.{[], _∷_};
+ghost use mathlib.Core.List.{[], _∷_, _++_};
 ghost use mathlib.Core.Bool.{true, false};
 ghost use lib.ListN.{length};
-ghost use Rattle.rowlist.specs.Arguments.{GivenNext, GivenNextMinus, GivenNextAt, next-made, next-rows};
+ghost use Rattle.rowlist.specs.Next.{GivenNext, GivenNextMinus, GivenNextAt, next-made, next-rows, GivenOthers, others-code};
 ghost use Rattle.rowlist.specs.Grow.{words-list};
 ghost use Rattle.rowlist.specs.Product.{Product};
 
@@ -55,4 +56,25 @@ pub fn next_rows(
         return next_plus(lists, at, out);
     }
     next_minus(tag, full, lists, at, out)
+}
+
+// The list without its first row, behind the row of the other heads, if there are any.
+pub fn others(tag: u64, rest: u64, used: usize, out: &mut [u64], work: &mut [u64]) -> usize
+    requires { ⌜ GivenOthers used (now out) (length (now work)) ⌝ }
+    ensures { λ r. ⌜ ((g : GivenOthers used (now (out .entry)) (length (now (work .entry)))) → Product (others-code tag rest ++ words-list (g .vs)) r (now (out .exit))) ⌝ }
+{
+    let at = used + 1;
+    copy(out, at, work, 0);
+    let skip = work[0] as usize + 1;
+    let left = at - skip;
+    if rest == 0 {
+        copy(&work[skip..], left, out, 0);
+        return left - 1;
+    }
+    out[0] = 3;
+    out[1] = tag;
+    out[2] = 0;
+    out[3] = rest;
+    copy(&work[skip..], left, out, 4);
+    left + 3
 }

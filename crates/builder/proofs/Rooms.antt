@@ -1,25 +1,24 @@
 -- How many words the lists of rows have: at most 64 rows, of at most 3 words for each word of the pattern.
-use mathlib.Core.Path.{_≡_, refl, ap, _∙_, sym}
-use mathlib.Core.List.{List, [], _∷_, _++_}
-use mathlib.Core.Bool.{Bool, true, false, _&&_}
-use Prim.Native.Nat.{ℕ, suc, _+_, _*_, _≤_, _<_}
+use mathlib.Core.Path.{_≡_, refl, sym}
+use mathlib.Core.List.{List, [], _∷_}
+use mathlib.Core.Bool.{Bool, true, false}
+use Prim.Native.Nat.{ℕ, _+_, _*_, _≤_}
 use native.Mathlib.Nat.{suc-mul, mul-assoc}
 use native.Mathlib.Omega.{arith}
-use lib.Dec.{leb}
 use lib.ListN.{length, length-append}
 use Rattle.signature.specs.Lists.{All, none-left, also}
 use Rattle.signature.specs.Signature.{Signature}
-use Rattle.signature.proofs.Tests.{times-less, le-of}
+use Rattle.signature.proofs.Tests.{times-less}
 use Rattle.pattern.specs.Pattern.{Pattern, pattern-code}
 use Rattle.pattern.specs.Side.{plus, minus}
-use Rattle.pattern.specs.Weight.{weight-plus, weight-minus}
 use Rattle.pattern.specs.WellFormed.{WellFormed}
 use Rattle.pattern.proofs.StandsLaw.{light-weight}
-use Rattle.rowlist.specs.Build.{light-of, rows-of, used-by}
+use Rattle.builder.specs.Build.{light-of, used-by}
+use Rattle.rowlist.specs.Sides.{rows-of}
 use Rattle.cell.specs.Cell.{Kinds, wordss}
-use Rattle.cell.specs.Coded.{code, cells, cellss}
+use Rattle.cell.specs.Coded.{code, cellss}
 use Rattle.rowlist.specs.Product.{room-for, room-all}
-use Rattle.row.specs.Row.{Row, Rows, named, free, rnil, rcons, rows-plus, rows-minus}
+use Rattle.row.specs.Row.{Row, Rows, named, free, rnil, rcons}
 use Rattle.row.specs.RowFits.{place-count, places-count}
 use Rattle.cell.specs.RowList.{entries, costs}
 use Rattle.row.proofs.Places.{plus-places, minus-places}

@@ -1,8 +1,8 @@
 -- What holds of the rows that are begun, with one argument more.
-use mathlib.Core.Path.{_≡_, refl, ap, ap₂, _∙_, sym, subst}
+use mathlib.Core.Path.{_≡_, refl, ap}
 use mathlib.Core.List.{List, map, [], _∷_, _++_}
 use mathlib.Core.Bool.{Bool, true, false, cond}
-use Prim.Native.Nat.{ℕ, suc, _+_, _*_, _≤_, _<_}
+use Prim.Native.Nat.{ℕ, suc, _+_, _*_, _≤_}
 use native.Mathlib.Nat.{suc-mul, mul-assoc, le-trans}
 use native.Mathlib.Omega.{arith}
 use borrow.Author.Tests.{ltb-false}
@@ -11,18 +11,18 @@ use lib.ListN.{length, length-append}
 use Rattle.signature.specs.Lists.{All, none-left, also}
 use Rattle.signature.specs.Signature.{Signature}
 use Rattle.signature.proofs.Tests.{times-less}
-use Rattle.pattern.specs.Pattern.{Pattern, Patterns, pcons, pattern-code}
-use Rattle.pattern.specs.Weight.{weight-plus, weight-minus, product-plus, sum-minus}
-use Rattle.rowlist.specs.Arguments.{few-begun, HasFirst, Short, next-rows, row-words}
-use Rattle.rowlist.specs.Build.{rows-of}
+use Rattle.pattern.specs.Pattern.{Pattern, Patterns, pcons}
+use Rattle.pattern.specs.Weight.{weight-plus, weight-minus, product-plus}
+use Rattle.builder.specs.Arguments.{few-begun, HasFirst, row-words}
+use Rattle.rowlist.specs.Next.{Short, next-rows}
+use Rattle.rowlist.specs.Sides.{rows-of}
 use Rattle.cell.specs.Coded.{kinds-of, code}
 use Rattle.rowlist.specs.Grow.{Filled, appends, grown}
 use Rattle.row.specs.Row.{Row, rows-plus, rows-minus}
 use Rattle.row.specs.RowFits.{place-count}
-use Rattle.cell.specs.RowList.{Every}
 use Rattle.row.proofs.RowCount.{plus-count, minus-count}
-use Rattle.rowlist.proofs.Rooms.{code-places}
+use Rattle.builder.proofs.Rooms.{code-places}
 use Rattle.rowlist.proofs.Typing.{every-append}
 use Rattle.cell.proofs.Walk.{code-long}
 
 length-map : {A B : Type 0} (f : A → B) (xs : List A) → length (map f xs) ≡ length xs

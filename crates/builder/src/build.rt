@@ -1,10 +1,18 @@
 // The rows of a pattern.
-use crate::list::product;
 use cell::cell::KIND_TAG;
 use pattern::token::FIRST_VARIABLE;
+use rowlist::grow::copy;
+use rowlist::list::product;
+use rowlist::next::next_rows;
+use rowlist::next::others;
+use signature::decoded::argument_of;
+use signature::decoded::arity_of;
 use signature::decoded::count_of;
 use signature::decoded::first_of;
 use signature::set::full;
+use signature::set::without;
+ghost use Rattle.builder.specs.Arguments.{GivenArgs, MadeArgs};
+ghost use Rattle.pattern.specs.Pattern.{patterns-code};
 ghost use lib.Dec.{ltb};
 ghost use Rattle.signature.specs.Decoded.{decoded-length, count-of, first-of};
 ghost use Rattle.signature.specs.Limits.{kind-limit};
@@ -16,8 +24,8 @@ ghost use Rattle.cell.specs.RowList.{entries};
 ghost use mathlib.Core.List.{[], _∷_};
 ghost use Rattle.cell.specs.RowList.{from};
 ghost use Rattle.cell.specs.Coded.{kinds-of};
-ghost use Rattle.rowlist.specs.Build.{multiplies, vars-of, leaf-entries, GivenPat, Made};
+ghost use Rattle.builder.specs.Build.{multiplies, vars-of, leaf-entries, GivenPat, GivenHead, Made};
 ghost use Rattle.rowlist.specs.Product.{GivenProduct, Product, products};
 
 // The words of the connectives, of the wildcard and of absurd.
 const AND: u16 = 256;
@@ -158,12 +166,74 @@ pub fn rows(
             read: from + b.read,
         };
     }
+    if w < AND {
+        return head_rows(t, tag, full, p, plus, out, work);
+    }
     let a = rows(t, tag, full, &p[1..], plus, out, work);
     let from = a.read + 1;
     let at = a.used;
     let b = rows(t, tag, full, &p[from..], plus, &mut out[at..], work);
     Built {
         used: at + b.used,
+        read: from + b.read,
+    }
+}
+
+// The rows of the constructor in front of p.
+fn head_rows(
+    t: &[u16],
+    tag: u64,
+    full: u64,
+    p: &[u16],
+    plus: bool,
+    out: &mut [u64],
+    work: &mut [u64],
+) -> Built
+    requires { ⌜ GivenHead (now t) tag full (now p) plus (length (now out)) (length (now work)) ⌝ }
+    ensures { λ r. ⌜ ((g : GivenHead (now (t .entry)) tag full (now (p .entry)) plus (length (now (out .entry))) (length (now (work .entry)))) → Made (kinds-of (g .pat .known .sig)) (g .pat .known .sig) (g .pat .k) plus (g .pat .p) (r .used) (r .read) (now (out .exit))) ⌝ }
+{
+    let w = p[0];
+    let c = w as usize;
+    let i = place_of(t, tag, c);
+    let begun = one(w as u64, 0, 1 << i, out);
+    let a = args(t, c, 0, &p[1..], plus, begun, out, work);
+    let read = a.read + 1;
+    if plus {
+        return Built { used: a.used, read };
+    }
+    let used = others(tag, without(full, i), a.used, out, work);
+    Built { used, read }
+}
+
+// The rows of the arguments of c from j on, behind each of the rows in out; p begins with those arguments.
+fn args(
+    t: &[u16],
+    c: usize,
+    j: usize,
+    p: &[u16],
+    plus: bool,
+    used: usize,
+    out: &mut [u64],
+    work: &mut [u64],
+) -> Built
+    requires { ⌜ GivenArgs (now t) c j (now p) plus used (now out) (length (now work)) ⌝ }
+    ensures { λ r. ⌜ ((g : GivenArgs (now (t .entry)) c j (now (p .entry)) plus used (now (out .entry)) (length (now (work .entry)))) → MadeArgs (g .known .sig) plus (g .ks) (g .ps) (g .begun) (g .a + length (patterns-code (g .ps))) (r .used) (r .read) (now (out .exit))) ⌝ }
+{
+    let arity = arity_of(t, c) as usize;
+    if j >= arity {
+        return Built { used, read: 0 };
+    }
+    let k = argument_of(t, c, j) as usize;
+    let set = full_of(t, k);
+    let tag = KIND_TAG + k as u64;
+    let at = used + 1;
+    copy(out, at, work, 0);
+    let a = rows(t, tag, set, p, plus, &mut work[at..], out);
+    let n = next_rows(plus, tag, set, work, at, out);
+    let from = a.read;
+    let b = args(t, c, j + 1, &p[from..], plus, n, out, work);
+    Built {
+        used: b.used,
         read: from + b.read,
     }
 }

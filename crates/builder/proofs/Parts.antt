@@ -8,18 +8,19 @@ use native.Mathlib.Omega.{arith}
 use lib.ListN.{drop, length, length-append, length-take, take-append-drop, getD, length-drop, take}
 use lib.Seq.{drop-at, length-take-le, take-take, take-at}
 use Rattle.pattern.specs.Pattern.{Pattern, pattern-code, head, and, or, wild, absurd-pat, neg, var}
-use Rattle.rowlist.specs.Build.{GivenPat, Made, leaf-entries, multiplies, rows-of}
+use Rattle.builder.specs.Build.{GivenPat, Made, leaf-entries, multiplies}
+use Rattle.rowlist.specs.Sides.{rows-of}
 use Rattle.cell.specs.Coded.{code, kinds-of}
 use Rattle.rowlist.specs.Product.{Product, GivenProduct, products}
 use Rattle.row.specs.Row.{Row}
 use Rattle.cell.specs.RowList.{from, Begins, entries, list-code}
-use Rattle.rowlist.proofs.Building.{Negated, negated, Leaf, leaf-of, Two, Multiplied, multiplied, Added, added}
-use Rattle.rowlist.proofs.Rooms.{list-small, all-small, rows-places}
+use Rattle.builder.proofs.Building.{Negated, negated, Leaf, leaf-of, Two, Multiplied, multiplied, Added, added}
+use Rattle.builder.proofs.Rooms.{list-small, all-small, rows-places}
 use Rattle.rowlist.proofs.Typing.{typed-rows}
 use Rattle.cell.proofs.Walk.{from-is, back, part-back, each-append}
 
 -- ---- words
-first-part : (w : List ℕ) (x : ℕ) (u rest : List ℕ) → w ≡ (x ∷ u) ++ rest → from w 1 ≡ u ++ rest
+pub first-part : (w : List ℕ) (x : ℕ) (u rest : List ℕ) → w ≡ (x ∷ u) ++ rest → from w 1 ≡ u ++ rest
 first-part w x u rest e = from-is w 1 ∙ ap (drop 1) e
 
 second-part : (w : List ℕ) (x : ℕ) (u v rest : List ℕ) (read : ℕ) → w ≡ (x ∷ (u ++ v)) ++ rest → read ≡ length u → from w (read + 1) ≡ v ++ rest
@@ -32,7 +33,7 @@ second-part w x u v rest read e l =
 abbrev pub Result : {ar : List ℕ} {tag full : ℕ} {w : List ℕ} {b : Bool} {n m : ℕ} → GivenPat ar tag full w b n m → ℕ → ℕ → List ℕ → Type 0
 Result {b = b} g used read o = Made (kinds-of (g .known .sig)) (g .known .sig) (g .k) b (g .p) used read o
 
-code-some : (p : Pattern) → 1 ≤ length (pattern-code p)
+pub code-some : (p : Pattern) → 1 ≤ length (pattern-code p)
 code-some (head c ps) = omega arith
 code-some (and p q) = omega arith
 code-some (or p q) = omega arith
@@ -51,7 +52,7 @@ in-front w o n p =
     )
 
 module _ {ar : List ℕ} {tag full : ℕ} {w : List ℕ} {b : Bool} {n m : ℕ} (g : GivenPat ar tag full w b n m) where
-  word-is : getD w 0 0 ≡ getD (pattern-code (g .p) ++ g .rest) 0 0
+  pub word-is : getD w 0 0 ≡ getD (pattern-code (g .p) ++ g .rest) 0 0
   word-is = ap (λ (l : List ℕ). getD l 0 0) (g .code-is)
 
   pub some-word : 1 ≤ length w
@@ -61,7 +62,7 @@ module _ {ar : List ℕ} {tag full : ℕ} {w : List ℕ} {b : Bool} {n m : ℕ} 
   -- not
   module _ (h : getD w 0 0 ≡ 260) where
     neg-view : Negated (g .known .sig) (g .k) (g .p) b
-    neg-view = negated (g .known .sig) (g .k) (g .p) b (g .rest) (g .well) (g .light) (g .plain) (sym (word-is g) ∙ h)
+    neg-view = negated (g .known .sig) (g .k) (g .p) b (g .rest) (g .well) (g .light) (sym (word-is g) ∙ h)
 
     pub neg-given : GivenPat ar tag full (from w 1) (not b) n m
     neg-given = record {
@@ -73,7 +74,6 @@ module _ {ar : List ℕ} {tag full : ℕ} {w : List ℕ} {b : Bool} {n m : ℕ} 
       code-is = first-part w 260 (pattern-code (neg-view .q)) (g .rest) (g .code-is ∙ ap (λ (l : List ℕ). l ++ g .rest) (neg-view .code-is));
       well = neg-view .well;
       light = neg-view .light;
-      plain = neg-view .plain;
       opened = g .opened;
       room = omega (arith, g .room, ap length (neg-view .code-is));
       work-room = omega (arith, g .work-room, ap length (neg-view .code-is));
@@ -92,7 +92,7 @@ module _ {ar : List ℕ} {tag full : ℕ} {w : List ℕ} {b : Bool} {n m : ℕ} 
   -- a leaf
   module _ (h : ¬ (getD w 0 0 ≡ 260)) (l : 258 ≤ getD w 0 0) where
     leaf-view : Leaf (kinds-of (g .known .sig)) (g .known .sig) (g .k) (g .p) b (getD w 0 0) tag full
-    leaf-view = rw (word-is g) (leaf-of (kinds-of (g .known .sig)) (g .known .sig) (g .k) tag full (g .opened) (g .p) b (g .rest) (g .well) (g .plain) (λ z. h (word-is g ∙ z)) (rw (word-is g) at l))
+    leaf-view = rw (word-is g) (leaf-of (kinds-of (g .known .sig)) (g .known .sig) (g .k) tag full (g .opened) (g .p) b (g .rest) (g .well) (λ z. h (word-is g ∙ z)) (rw (word-is g) at l))
 
     pub leaf-given : (getD w 0 0 ≤ 276) × (5 ≤ n)
     leaf-given = (leaf-view .word, omega (arith, g .room, ap length (leaf-view .code-is)))
@@ -104,7 +104,7 @@ module _ {ar : List ℕ} {tag full : ℕ} {w : List ℕ} {b : Bool} {n m : ℕ} 
   -- two parts that are multiplied: the first in the workspace, the second behind it
   module _ (h : multiplies (getD w 0 0) b ≡ true) where
     mult-view : Multiplied (g .known .sig) (g .k) (g .p) b
-    mult-view = multiplied (g .known .sig) (g .k) (g .p) b (g .rest) (g .well) (g .light) (g .plain) (ap (λ (x : ℕ). multiplies x b) (sym (word-is g)) ∙ h)
+    mult-view = multiplied (g .known .sig) (g .k) (g .p) b (g .rest) (g .well) (g .light) (ap (λ (x : ℕ). multiplies x b) (sym (word-is g)) ∙ h)
 
     abbrev mult-two : Two (g .known .sig) (g .k) (g .p) b
     mult-two = mult-view .two
@@ -125,7 +125,6 @@ module _ {ar : List ℕ} {tag full : ℕ} {w : List ℕ} {b : Bool} {n m : ℕ} 
       code-is = first-part w _ (pattern-code (mult-two .q) ++ pattern-code (mult-two .r)) (g .rest) mult-code ∙ append-assoc (pattern-code (mult-two .q)) (pattern-code (mult-two .r)) (g .rest);
       well = mult-two .well .0;
       light = mult-two .light .0;
-      plain = mult-two .plain .0;
       opened = g .opened;
       room = omega (arith, g .work-room, mult-length);
       work-room = omega (arith, g .room, mult-length);
@@ -154,7 +153,6 @@ module _ {ar : List ℕ} {tag full : ℕ} {w : List ℕ} {b : Bool} {n m : ℕ} 
         code-is = second-part w _ (pattern-code (mult-two g h .q)) (pattern-code (mult-two g h .r)) (g .rest) read (mult-code g h) (mult-made-first .read-is);
         well = mult-two g h .well .1;
         light = mult-two g h .light .1;
-        plain = mult-two g h .plain .1;
         opened = g .opened;
         room =
             let z : m' ≡ m - (used + 1) = i ∙ ap length (from-is o (used + 1)) ∙ length-drop (used + 1) o ∙ ap (λ (x : ℕ). x - (used + 1)) l in
@@ -208,9 +206,9 @@ module _ {ar : List ℕ} {tag full : ℕ} {w : List ℕ} {b : Bool} {n m : ℕ} 
 
 module _ {ar : List ℕ} {tag full : ℕ} {w : List ℕ} {b : Bool} {n m : ℕ} (g : GivenPat ar tag full w b n m) where
   -- two parts that are added: the second behind the first
-  module _ (h : multiplies (getD w 0 0) b ≡ false) (s : getD w 0 0 < 258) where
+  module _ (h : multiplies (getD w 0 0) b ≡ false) (y : 256 ≤ getD w 0 0) (s : getD w 0 0 < 258) where
     add-view : Added (g .known .sig) (g .k) (g .p) b
-    add-view = added (g .known .sig) (g .k) (g .p) b (g .rest) (g .well) (g .light) (g .plain) (ap (λ (x : ℕ). multiplies x b) (sym (word-is g)) ∙ h) (rw (word-is g) at s)
+    add-view = added (g .known .sig) (g .k) (g .p) b (g .rest) (g .well) (g .light) (ap (λ (x : ℕ). multiplies x b) (sym (word-is g)) ∙ h) (rw (word-is g) at y) (rw (word-is g) at s)
 
     abbrev add-two : Two (g .known .sig) (g .k) (g .p) b
     add-two = add-view .two
@@ -231,22 +229,21 @@ module _ {ar : List ℕ} {tag full : ℕ} {w : List ℕ} {b : Bool} {n m : ℕ} 
       code-is = first-part w _ (pattern-code (add-two .q) ++ pattern-code (add-two .r)) (g .rest) add-code ∙ append-assoc (pattern-code (add-two .q)) (pattern-code (add-two .r)) (g .rest);
       well = add-two .well .0;
       light = add-two .light .0;
-      plain = add-two .plain .0;
       opened = g .opened;
       room = omega (arith, g .room, add-length);
       work-room = omega (arith, g .work-room, add-length);
     }
 
 module _ {ar : List ℕ} {tag full : ℕ} {w : List ℕ} {b : Bool} {n m : ℕ} (g : GivenPat ar tag full w b n m) where
-  module _ (h : multiplies (getD w 0 0) b ≡ false) (s : getD w 0 0 < 258) where
+  module _ (h : multiplies (getD w 0 0) b ≡ false) (y : 256 ≤ getD w 0 0) (s : getD w 0 0 < 258) where
     module _ (used read : ℕ) (o : List ℕ) (f : (q : GivenPat ar tag full (from w 1) b n m) → Result q used read o) where
-      add-made-first : Made (kinds-of (g .known .sig)) (g .known .sig) (g .k) b (add-two g h s .q) used read o
+      add-made-first : Made (kinds-of (g .known .sig)) (g .known .sig) (g .k) b (add-two g h y s .q) used read o
       unfolding add-first
-      add-made-first = f (add-first g h s)
+      add-made-first = f (add-first g h y s)
 
       pub add-bounds : (read + 1 ≤ length w) × (used + 1 ≤ length o)
       add-bounds = (
-        omega (arith, add-made-first .read-is, simp length-append at (ap length (add-code g h s))),
+        omega (arith, add-made-first .read-is, simp length-append at (ap length (add-code g h y s))),
         in-front _ o used (add-made-first .list) .0,
       )
 
@@ -255,44 +252,43 @@ module _ {ar : List ℕ} {tag full : ℕ} {w : List ℕ} {b : Bool} {n m : ℕ} 
         known = g .known;
         k = g .k;
         there = g .there;
-        p = add-two g h s .r;
+        p = add-two g h y s .r;
         rest = g .rest;
-        code-is = second-part w _ (pattern-code (add-two g h s .q)) (pattern-code (add-two g h s .r)) (g .rest) read (add-code g h s) (add-made-first .read-is);
-        well = add-two g h s .well .1;
-        light = add-two g h s .light .1;
-        plain = add-two g h s .plain .1;
+        code-is = second-part w _ (pattern-code (add-two g h y s .q)) (pattern-code (add-two g h y s .r)) (g .rest) read (add-code g h y s) (add-made-first .read-is);
+        well = add-two g h y s .well .1;
+        light = add-two g h y s .light .1;
         opened = g .opened;
         room =
             let z : n' ≡ n - used = i ∙ ap length (from-is o used) ∙ length-drop used o ∙ ap (λ (x : ℕ). x - used) l in
-            omega (arith, z, g .room, add-length g h s, add-made-first .list .size, list-small (g .known .sig) (g .k) (kinds-of (g .known .sig)) (add-two g h s .q) b (add-two g h s .well .0) (add-two g h s .light .0));
-        work-room = omega (arith, e, g .work-room, add-length g h s);
+            omega (arith, z, g .room, add-length g h y s, add-made-first .list .size, list-small (g .known .sig) (g .k) (kinds-of (g .known .sig)) (add-two g h y s .q) b (add-two g h y s .well .0) (add-two g h y s .light .0));
+        work-room = omega (arith, e, g .work-room, add-length g h y s);
       }
 
 module _ {ar : List ℕ} {tag full : ℕ} {w : List ℕ} {b : Bool} {n m : ℕ} (g : GivenPat ar tag full w b n m) where
-  module _ (h : multiplies (getD w 0 0) b ≡ false) (s : getD w 0 0 < 258) where
+  module _ (h : multiplies (getD w 0 0) b ≡ false) (y : 256 ≤ getD w 0 0) (s : getD w 0 0 < 258) where
     module _ (used read : ℕ) (o : List ℕ) (f : (q : GivenPat ar tag full (from w 1) b n m) → Result q used read o) where
       module _ (n' m' used' read' : ℕ) (l : length o ≡ n) (e : m' ≡ m) (i : n' ≡ length (from o used)) (ys : List ℕ) (f' : (q : GivenPat ar tag full (from w (read + 1)) b n' m') → Result q used' read' ys) (k : length ys ≡ length (from o used)) where
-        add-made-second : Made (kinds-of (g .known .sig)) (g .known .sig) (g .k) b (add-two g h s .r) used' read' ys
+        add-made-second : Made (kinds-of (g .known .sig)) (g .known .sig) (g .k) b (add-two g h y s .r) used' read' ys
         unfolding add-second
-        add-made-second = f' (add-second g h s used read o f n' m' l e i)
+        add-made-second = f' (add-second g h y s used read o f n' m' l e i)
 
         pub add-read : (read + 1 + read' ≤ length w) × (used + used' + 1 ≤ length o)
         add-read = (
-          omega (arith, add-made-first g h s used read o f .read-is, add-made-second .read-is, simp length-append at (ap length (add-code g h s))),
-          omega (arith, in-front _ ys used' (add-made-second .list) .0, k, ap length (from-is o used), length-drop used o, add-bounds g h s used read o f .1),
+          omega (arith, add-made-first g h y s used read o f .read-is, add-made-second .read-is, simp length-append at (ap length (add-code g h y s))),
+          omega (arith, in-front _ ys used' (add-made-second .list) .0, k, ap length (from-is o used), length-drop used o, add-bounds g h y s used read o f .1),
         )
 
         pub add-made : Result g (used + used') (read + 1 + read') (back o used ys)
         add-made =
-            let A = entries (kinds-of (g .known .sig)) (g .k) (rows-of (g .known .sig) (g .k) b (add-two g h s .q)) in
-            let B = entries (kinds-of (g .known .sig)) (g .k) (rows-of (g .known .sig) (g .k) b (add-two g h s .r)) in
-            let one : take used o ≡ A = sym (take-take used (used + 1) o (omega arith)) ∙ ap (take used) (add-made-first g h s used read o f .list .list) ∙ take-at A (0 ∷ []) used (sym (add-made-first g h s used read o f .list .size)) in
-            let two = part-back o ys A (B ++ (0 ∷ [])) (drop (length o - used) (drop used o)) used (used' + 1) (omega (arith, add-bounds g h s used read o f .1)) one (in-front _ ys used' (add-made-second .list) .2) in
-            let rows = ap (entries (kinds-of (g .known .sig)) (g .k)) (add-view g h s .rows-is) ∙ each-append (λ r. code (kinds-of (g .known .sig)) r (g .k)) (rows-of (g .known .sig) (g .k) b (add-two g h s .q)) (rows-of (g .known .sig) (g .k) b (add-two g h s .r)) in
+            let A = entries (kinds-of (g .known .sig)) (g .k) (rows-of (g .known .sig) (g .k) b (add-two g h y s .q)) in
+            let B = entries (kinds-of (g .known .sig)) (g .k) (rows-of (g .known .sig) (g .k) b (add-two g h y s .r)) in
+            let one : take used o ≡ A = sym (take-take used (used + 1) o (omega arith)) ∙ ap (take used) (add-made-first g h y s used read o f .list .list) ∙ take-at A (0 ∷ []) used (sym (add-made-first g h y s used read o f .list .size)) in
+            let two = part-back o ys A (B ++ (0 ∷ [])) (drop (length o - used) (drop used o)) used (used' + 1) (omega (arith, add-bounds g h y s used read o f .1)) one (in-front _ ys used' (add-made-second .list) .2) in
+            let rows = ap (entries (kinds-of (g .known .sig)) (g .k)) (add-view g h y s .rows-is) ∙ each-append (λ r. code (kinds-of (g .known .sig)) r (g .k)) (rows-of (g .known .sig) (g .k) b (add-two g h y s .q)) (rows-of (g .known .sig) (g .k) b (add-two g h y s .r)) in
             record {
-              read-is = let c = ap length (add-two g h s .code-is) in omega (arith, add-made-first g h s used read o f .read-is, add-made-second .read-is, simp length-append at c);
+              read-is = let c = ap length (add-two g h y s .code-is) in omega (arith, add-made-first g h y s used read o f .read-is, add-made-second .read-is, simp length-append at c);
               list = rw rows (record {
-                size = simp length-append (omega (arith, add-made-first g h s used read o f .list .size, add-made-second .list .size));
+                size = simp length-append (omega (arith, add-made-first g h y s used read o f .list .size, add-made-second .list .size));
                 list = let j : used + used' + 1 ≡ used + (used' + 1) = omega arith in rw j (two ∙ sym (append-assoc A B (0 ∷ [])));
               });
             }

@@ -1,28 +1,25 @@
 -- The arguments of a constructor, one after the other.
-use mathlib.Core.Path.{_≡_, refl, ap, ap₂, _∙_, sym, subst}
-use mathlib.Core.List.{List, map, [], _∷_, _++_, append-assoc, append-nil}
-use mathlib.Core.Bool.{Bool, true, false, _&&_}
+use mathlib.Core.Path.{_≡_, refl, ap, _∙_, sym, subst}
+use mathlib.Core.List.{List, [], _∷_}
+use mathlib.Core.Bool.{Bool, true, false}
 use Prim.Native.Nat.{ℕ, suc, _+_, _*_, _≤_, _<_, _-_}
-use native.Mathlib.Nat.{suc-mul, mul-assoc, le-trans}
+use native.Mathlib.Nat.{suc-mul}
 use native.Mathlib.Omega.{arith}
-use lib.ListN.{length, take, drop, getD, length-append, length-take, length-drop}
-use Rattle.signature.specs.Decoded.{Known, arity-of, argument-of, count-of}
-use Rattle.signature.specs.Lists.{All, none-left, also}
-use Rattle.signature.specs.Set.{bit, bit-if}
+use lib.ListN.{length, drop, getD, length-append, length-drop}
+use Rattle.signature.specs.Decoded.{arity-of}
+use Rattle.signature.specs.Lists.{All, also}
 use Rattle.signature.specs.Signature.{Signature, arguments}
 use Rattle.signature.proofs.Booleans.{and-left, and-right}
-use Rattle.signature.proofs.KnownFacts.{arity-is, argument-is}
+use Rattle.signature.proofs.KnownFacts.{arity-is}
 use Rattle.signature.proofs.Tests.{times-less}
-use Rattle.pattern.specs.Pattern.{Pattern, pattern-code, Patterns, pnil, pcons, patterns-code}
-use Rattle.pattern.specs.Weight.{weight-plus, weight-minus, product-plus, sum-minus, light-plus, light-minus, light-all-plus, light-all-minus}
+use Rattle.pattern.specs.Pattern.{Pattern, Patterns, pnil, pcons, patterns-code}
+use Rattle.pattern.specs.Weight.{light-plus, light-minus, light-all-plus, light-all-minus}
 use Rattle.pattern.specs.WellFormed.{WellFormed, AllWellFormed, well-nil, well-cons}
-use Rattle.rowlist.specs.Arguments.{GivenArgs, MadeArgs, lights-of, few-begun, HasFirst, Short, behind, next-rows, row-words}
-use Rattle.rowlist.specs.Build.{light-of, rows-of, GivenPat, Made}
-use Rattle.cell.specs.Coded.{kinds-of, code}
-use Rattle.rowlist.specs.Grow.{words-list, Filled}
-use Rattle.cell.specs.RowList.{from, each-with}
-use Rattle.rowlist.proofs.Behind.{behind-nil}
-use Rattle.cell.proofs.Walk.{from-is}
+use Rattle.builder.specs.Arguments.{GivenArgs, MadeArgs, lights-of}
+use Rattle.rowlist.specs.Next.{Short}
+use Rattle.builder.specs.Build.{light-of}
+use Rattle.rowlist.specs.Grow.{words-list}
+use Rattle.builder.proofs.Behind.{behind-nil}
 
 -- ---- lists that are begun are short
 pub list-le : (n : ℕ) (vs : List (List ℕ)) → Short n vs → length (words-list vs) ≤ length vs * (1 + n)
@@ -70,10 +67,14 @@ module _ {t : List ℕ} {c j : ℕ} {w : List ℕ} {b : Bool} {used : ℕ} {o : 
   pub args-count : arity-of t c ≡ length (arguments (g .known .sig) c)
   args-count = arity-is (g .known) c (g .head)
 
+  -- the list of rows that are begun, with its end
+  pub begun-small : used + 1 ≤ 65 + 192 * g .a
+  begun-small = omega (arith, g .list .size, list-le (3 * g .a) (g .begun) (g .short), times-less (length (g .begun)) 64 (1 + 3 * g .a) (1 + 3 * g .a) (g .count) (omega arith))
+
   -- none is left
-  pub args-end : arity-of t c ≤ j → MadeArgs (g .known .sig) b (g .ks) (g .ps) (g .begun) used 0 o
+  pub args-end : arity-of t c ≤ j → MadeArgs (g .known .sig) b (g .ks) (g .ps) (g .begun) (g .a + length (patterns-code (g .ps))) used 0 o
   args-end h = go (g .ks) (g .ps) (sym (g .kinds) ∙ no-drop j (arguments (g .known .sig) c) (omega (arith, h, args-count))) (g .well)
     where
-      go : (ks : List ℕ) (ps : Patterns) → ks ≡ [] → AllWellFormed (g .known .sig) ks ps → MadeArgs (g .known .sig) b ks ps (g .begun) used 0 o
-      go [] pnil e well-nil = record { read-is = refl; list = rw (behind-nil b (g .known .sig) (g .begun)) (g .list) }
+      go : (ks : List ℕ) (ps : Patterns) → ks ≡ [] → AllWellFormed (g .known .sig) ks ps → MadeArgs (g .known .sig) b ks ps (g .begun) (g .a + length (patterns-code ps)) used 0 o
+      go [] pnil e well-nil = record { read-is = refl; list = rw (behind-nil b (g .known .sig) (g .begun)) (g .list); small = omega (arith, begun-small, g .some-words) }
       go (k ∷ ks) ps e h = absurd (omega (arith, ap length e))

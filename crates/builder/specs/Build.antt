@@ -1,27 +1,20 @@
--- Build.
+-- The pattern in front of the words, and the list of its rows.
 use mathlib.Core.Path.{_≡_}
 use mathlib.Core.List.{List, _∷_, [], _++_}
-use mathlib.Core.Option.{some}
 use mathlib.Core.Bool.{Bool, true, false, cond, not}
 use Prim.Native.Nat.{ℕ, _<_, _^_, _-_, _+_, _*_, _≤_}
 use lib.Dec.{eqb, ltb}
-use lib.ListN.{length}
+use lib.ListN.{length, getD}
 use Rattle.signature.specs.Decoded.{Known}
-use Rattle.signature.specs.Lists.{is-empty}
-use Rattle.signature.specs.Signature.{Signature, heads}
-use Rattle.pattern.specs.Pattern.{Pattern, head, and, or, wild, absurd-pat, neg, var, pattern-code}
+use Rattle.signature.specs.Signature.{Signature}
+use Rattle.pattern.specs.Pattern.{Pattern, and, pattern-code}
 use Rattle.pattern.specs.Weight.{light-plus, light-minus}
 use Rattle.pattern.specs.WellFormed.{WellFormed}
 use Rattle.cell.specs.Cell.{Kinds}
 use Rattle.cell.specs.Coded.{kinds-of}
-use Rattle.cell.specs.Mask.{Within, mask}
 use Rattle.rowlist.specs.Product.{Product}
-use Rattle.row.specs.Row.{Row, rows-plus, rows-minus}
+use Rattle.rowlist.specs.Sides.{rows-of, Open}
 use Rattle.cell.specs.RowList.{entries}
-
-abbrev pub rows-of : Signature → ℕ → Bool → Pattern → List Row
-rows-of sig k true p = rows-plus sig k p
-rows-of sig k false p = rows-minus sig k p
 
 abbrev pub light-of : Bool → Pattern → Bool
 light-of true p = light-plus p
@@ -30,16 +23,6 @@ light-of false p = light-minus p
 -- words of each slice for each word of a pattern: of a list of at most 64 rows, each with its number and 3 words for each word of the pattern, and the list's end
 abbrev pub room-unit : ℕ
 room-unit = 257
-
--- no constructors; variables below 16
-abbrev pub Plain : Pattern → Type 0
-Plain (head c ps) = ⊥
-Plain (and p q) = Plain p × Plain q
-Plain (or p q) = Plain p × Plain q
-Plain wild = Unit {0}
-Plain absurd-pat = Unit {0}
-Plain (neg p) = Plain p
-Plain (var x) = x < 16
 
 -- what the words mean, on the side b
 abbrev pub multiplies : ℕ → Bool → Bool
@@ -55,14 +38,6 @@ vars-of w = cond (ltb w 261) 0 (2 ^ (w - 261))
 abbrev pub leaf-entries : ℕ → Bool → ℕ → ℕ → List ℕ
 leaf-entries w b tag full = cond (holds w b) (3 ∷ (tag ∷ (vars-of w ∷ (full ∷ [])))) []
 
--- ---- rows that are one stay of their kind
-pub record Open (K : Kinds) (sig : Signature) (k tag full : ℕ) : Type 0 where
-  pub kind : k < 256
-  pub some : is-empty (heads sig k) ≡ false
-  pub within : Within (K .first k) (heads sig k)
-  pub tag-is : tag ≡ 256 + k
-  pub full-is : full ≡ mask (K .first k) (heads sig k)
-
 -- ---- the pattern in front of the words, and room for what is built
 -- how many words the list of rows has without its end
 abbrev pub used-by : Kinds → Signature → ℕ → Bool → Pattern → ℕ
@@ -77,10 +52,14 @@ pub record GivenPat (t : List ℕ) (tag full : ℕ) (w : List ℕ) (b : Bool) (n
   pub code-is : w ≡ pattern-code p ++ rest
   pub well : WellFormed (known .sig) k p
   pub light : light-of b p ≡ true
-  pub plain : Plain p
   pub opened : Open (kinds-of (known .sig)) (known .sig) k tag full
   pub room : room-unit * length (pattern-code p) ≤ n
   pub work-room : room-unit * length (pattern-code p) ≤ m
+
+-- the pattern in front is a constructor's
+pub record GivenHead (t : List ℕ) (tag full : ℕ) (w : List ℕ) (b : Bool) (n m : ℕ) : Type 0 where
+  pub pat : GivenPat t tag full w b n m
+  pub small : getD w 0 0 < 256
 
 -- what was read and written
 pub record Made (K : Kinds) (sig : Signature) (k : ℕ) (b : Bool) (p : Pattern) (used read : ℕ) (o : List ℕ) : Type 0 where

@@ -1,12 +1,12 @@
--- `rowlist::build::full_of` meets its contract. Assumes nothing.
+-- `builder::build::full_of` meets its contract. Assumes nothing.
 use mathlib.Core.Path.{_≡_, ap, _∙_}
 use Prim.Native.Nat.{ℕ}
 use native.Mathlib.Omega.{arith}
 use borrow.Author.Needs.{needs}
 use lib.Dec.{ltb}
 use Rattle.signature.specs.Set.{bit-if}
-use Rattle.rowlist.proofs.build.full_of.Statement.{statement}
-use Rattle.rowlist.proofs.build.full_of.Tie as tie
+use Rattle.builder.proofs.build.full_of.Statement.{statement}
+use Rattle.builder.proofs.build.full_of.Tie as tie
 
 pub full-of-spec : {M : Type 1} → statement M
 full-of-spec =

@@ -2,23 +2,19 @@
 use mathlib.Core.Path.{_≡_, refl, ap, ap₂, _∙_, sym}
 use mathlib.Core.List.{List, map, [], _∷_, _++_, append-assoc, append-nil}
 use mathlib.Core.Bool.{Bool, true, false, cond}
-use Prim.Native.Nat.{ℕ, zero, suc, _+_, _*_, _≤_, _<_}
-use native.Mathlib.Nat.{mul-zero, mul-suc}
-use native.Mathlib.Omega.{arith}
+use Prim.Native.Nat.{ℕ, _+_, _*_, _<_}
 use borrow.Author.Tests.{ltb-true}
 use lib.Dec.{ltb}
 use lib.ListN.{length}
 use Rattle.signature.specs.Signature.{Signature}
-use Rattle.signature.proofs.Tests.{times-less}
 use Rattle.pattern.specs.Pattern.{Pattern, Patterns, pnil, pcons}
-use Rattle.pattern.specs.Weight.{weight-plus, product-plus}
-use Rattle.rowlist.specs.Arguments.{row-words, arg-words, open-words, behind, next-rows}
-use Rattle.rowlist.specs.Build.{rows-of}
+use Rattle.builder.specs.Arguments.{row-words, arg-words, open-words, behind}
+use Rattle.rowlist.specs.Next.{next-rows}
 use Rattle.cell.specs.Cell.{Kinds, wordss}
 use Rattle.cell.specs.Coded.{kinds-of, code, cellss}
 use Rattle.rowlist.specs.Grow.{words-list, appends, grown}
 use Rattle.row.specs.Row.{Row, Rows, rcons, each, open-row, open-rows, rows-plus, rows-minus, args-plus, args-minus}
-use Rattle.cell.specs.RowList.{each-with, entries}
+use Rattle.cell.specs.RowList.{entries}
 
 -- ---- rows behind rows
 appends-nil : (ws : List (List ℕ)) → appends [] ws ≡ ws

@@ -1,0 +1,9 @@
+pub mod ArgCalls
+pub mod ArgSteps
+pub mod ArgTurn
+pub mod Behind
+pub mod Building
+pub mod HeadRows
+pub mod NextLists
+pub mod Parts
+pub mod Rooms

@@ -1,0 +1,2 @@
+// The list of the rows of a pattern.
+pub mod build;
