@@ -23,8 +23,8 @@ use Rattle.pattern.specs.Weight.{weight-plus, weight-minus, product-plus, sum-m
 use Rattle.pattern.specs.WellFormed.{WellFormed, AllWellFormed, well-head, well-and, well-or, well-not, well-wild, well-absurd, well-var, well-nil, well-cons}
 use Rattle.pattern.proofs.Opened.{shape, inner}
 use Rattle.row.specs.Overlap.{any-plus, any-minus}
-use Rattle.rowlist.specs.Arguments.{lights-of}
-use Rattle.rowlist.specs.Build.{light-of}
+use Rattle.builder.specs.Arguments.{lights-of}
+use Rattle.builder.specs.Build.{light-of}
 use Rattle.rowlist.proofs.Typing.{args-there}
 use Rattle.ambiguity.specs.Ambiguity.{ambiguous-of, has-vars, taken-twice, kind-behind, own-variable}
 

@@ -19,9 +19,9 @@ use Rattle.pattern.specs.WellFormed.{WellFormed, well-head, AllWellFormed, well
 use Rattle.pattern.specs.Word.{part-count}
 use Rattle.pattern.proofs.Opened.{shape, inner, inner-length, kind-count, inner-count, shape-is, code-split}
 use Rattle.pattern.proofs.ReadSteps.{part, to-end}
-use Rattle.rowlist.specs.Arguments.{lights-of}
-use Rattle.rowlist.specs.Build.{room-unit}
-use Rattle.rowlist.proofs.ArgSteps.{NextArg, next-arg}
+use Rattle.builder.specs.Arguments.{lights-of}
+use Rattle.builder.specs.Build.{room-unit}
+use Rattle.builder.proofs.ArgSteps.{NextArg, next-arg}
 use Rattle.ambiguity.specs.Ambiguity.{ambiguous-of, has-vars, taken-twice, kind-behind, own-variable, Judged}
 use Rattle.ambiguity.specs.Parts.{GivenPart}
 use Rattle.ambiguity.specs.declared.ambiguous.Part.{Part}
@@ -104,7 +104,6 @@ module _ {t : List ℕ} {k : ℕ} {w : List ℕ} {b : Bool} {n m : ℕ} (g : Giv
       words = to-end w at ∙ words-are;
       well = view .well;
       light = view .light;
-      plainly = g .plainly;
       room = omega (arith, i, g .room, l .ends, size);
       work-room = omega (arith, i', g .work-room, l .ends, size);
     }
@@ -196,7 +195,7 @@ module _ {t : List ℕ} {k : ℕ} {w : List ℕ} {b : Bool} {n m : ℕ} (g : Giv
 
   module _ (n' m' : ℕ) (i : n' ≡ n) (i' : m' ≡ m) where
     pub again : GivenPart t k w b n' m'
-    again = record { known = g .known; there = g .there; pattern = g .pattern; rest = g .rest; words = g .words; well = g .well; light = g .light; plainly = g .plainly; room = omega (arith, i, g .room); work-room = omega (arith, i', g .work-room) }
+    again = record { known = g .known; there = g .there; pattern = g .pattern; rest = g .rest; words = g .words; well = g .well; light = g .light; room = omega (arith, i, g .room); work-room = omega (arith, i', g .work-room) }
 
     pub twice-so : (vars q : Bool) → ((o : GivenPart t k w b n' m') → q ≡ (vars && taken-twice b (o .known .sig) k (o .pattern))) → q ≡ (vars && taken-twice b (g .known .sig) k (g .pattern))
     unfolding again

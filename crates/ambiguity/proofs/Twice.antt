@@ -16,7 +16,7 @@ use Rattle.pattern.specs.WellFormed.{WellFormed, well-and, well-or}
 use Rattle.pattern.proofs.Opened.{shape, shape-is, word-there}
 use Rattle.cell.specs.RowList.{from}
 use Rattle.cell.proofs.Walk.{from-is}
-use Rattle.rowlist.specs.Build.{light-of}
+use Rattle.builder.specs.Build.{light-of}
 use Rattle.ambiguity.specs.Ambiguity.{doubles, taken-twice}
 use Rattle.ambiguity.specs.Parts.{GivenPart, GivenTwo, meets}
 use Rattle.ambiguity.proofs.Turns.{as-opens}
@@ -97,7 +97,6 @@ module _ {t : List ℕ} {k : ℕ} {w : List ℕ} {b : Bool} {n m : ℕ} (g : Giv
           well-second = two .wells .1;
           light-first = two .lights .0;
           light-second = two .lights .1;
-          plainly = g .plainly;
           room = omega (arith, g .room, size);
           work-room = omega (arith, g .work-room, size);
         }

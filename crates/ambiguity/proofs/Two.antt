@@ -19,10 +19,11 @@ use Rattle.row.specs.Row.{combine, each}
 use Rattle.cell.specs.Coded.{kinds-of}
 use Rattle.cell.specs.RowList.{from, entries, list-code}
 use Rattle.cell.proofs.Walk.{from-is, back}
-use Rattle.rowlist.specs.Build.{rows-of, GivenPat, Made, Open}
+use Rattle.rowlist.specs.Sides.{rows-of, Open}
+use Rattle.builder.specs.Build.{GivenPat, Made}
 use Rattle.rowlist.proofs.Kinded.{few-heads, full-set, open-kind, kinds-same}
-use Rattle.rowlist.proofs.Parts.{in-front}
-use Rattle.rowlist.proofs.Rooms.{list-small}
+use Rattle.builder.proofs.Parts.{in-front}
+use Rattle.builder.proofs.Rooms.{list-small}
 use Rattle.rowlist.proofs.Typing.{typed-rows}
 use Rattle.overlap.specs.Lists.{TwoLists}
 use Rattle.ambiguity.specs.Parts.{GivenTwo, meets}
@@ -55,7 +56,6 @@ module _ {t : List ℕ} {k : ℕ} {w : List ℕ} {b : Bool} {n m : ℕ} (g : Giv
       code-is = g .words;
       well = g .well-first;
       light = g .light-first;
-      plain = g .plainly (g .first);
       opened = opened;
       room = omega (arith, g .room);
       work-room = omega (arith, g .work-room);
@@ -79,7 +79,6 @@ module _ {t : List ℕ} {k : ℕ} {w : List ℕ} {b : Bool} {n m : ℕ} (g : Giv
         code-is = from-is w read ∙ ap (drop read) (g .words) ∙ drop-at (pattern-code (g .first)) (pattern-code (g .second) ++ g .rest) read (sym (first-made .read-is));
         well = g .well-second;
         light = g .light-second;
-        plain = g .plainly (g .second);
         opened = opened;
         room =
             let z : n' ≡ n - (used + 1) = i ∙ ap length (from-is o (used + 1)) ∙ length-drop (used + 1) o ∙ ap (λ (x : ℕ). x - (used + 1)) l in

@@ -27,7 +27,6 @@ module _ {t ws : List ℕ} {n m : ℕ} (g : GivenWhole t ws n m) where
         words = sym (w .is-code) ∙ sym (append-nil (pattern-code (g .pattern)));
         well = w .well-formed;
         light = g .light;
-        plainly = g .plainly;
         room = omega (arith, l, g .room);
         work-room = omega (arith, l, g .work-room);
       }

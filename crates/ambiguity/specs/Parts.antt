@@ -12,7 +12,7 @@ use Rattle.pattern.specs.WellFormed.{WellFormed}
 use Rattle.pattern.specs.Read.{read-pattern}
 use Rattle.pattern.specs.Weight.{light-plus}
 use Rattle.row.specs.Overlap.{overlap, overlap-minus}
-use Rattle.rowlist.specs.Build.{light-of, room-unit, Plain}
+use Rattle.builder.specs.Build.{light-of, room-unit}
 
 -- two patterns of kind k
 pub record GivenTwo (t : List ℕ) (k : ℕ) (w : List ℕ) (b : Bool) (n m : ℕ) : Type 0 where
@@ -26,7 +26,6 @@ pub record GivenTwo (t : List ℕ) (k : ℕ) (w : List ℕ) (b : Bool) (n m : �
   pub well-second : WellFormed (known .sig) k second
   pub light-first : light-of b first ≡ true
   pub light-second : light-of b second ≡ true
-  pub plainly : (p : Pattern) → Plain p
   pub room : room-unit * (length (pattern-code first) + length (pattern-code second)) ≤ n
   pub work-room : room-unit * (length (pattern-code first) + length (pattern-code second)) ≤ m
 
@@ -44,7 +43,6 @@ pub record GivenPart (t : List ℕ) (k : ℕ) (w : List ℕ) (b : Bool) (n m : �
   pub words : w ≡ pattern-code pattern ++ rest
   pub well : WellFormed (known .sig) k pattern
   pub light : light-of b pattern ≡ true
-  pub plainly : (p : Pattern) → Plain p
   pub room : room-unit * length (pattern-code pattern) ≤ n
   pub work-room : room-unit * length (pattern-code pattern) ≤ m
 
@@ -54,6 +52,5 @@ pub record GivenWhole (t ws : List ℕ) (n m : ℕ) : Type 0 where
   pub pattern : Pattern
   pub read : read-pattern (known .sig) ws ≡ some pattern
   pub light : light-plus pattern ≡ true
-  pub plainly : (p : Pattern) → Plain p
   pub room : room-unit * length ws ≤ n
   pub work-room : room-unit * length ws ≤ m

@@ -1,7 +1,7 @@
 // Two parts of a pattern side by side, by their rows.
+use builder::build::rows;
 use cell::cell::KIND_TAG;
 use overlap::lists::lists_meet;
-use rowlist::build::rows;
 use signature::decoded::count_of;
 use signature::set::full;
 ghost use mathlib.Core.Path.{_≡_};

@@ -1,0 +1,38 @@
+-- 01, Turned down: 7 to 10, and the weight of a pattern that passes them.
+use mathlib.Core.List.{List}
+use mathlib.Core.Option.{Option}
+use mathlib.Core.Bool.{cond}
+use Prim.Native.Nat.{ℕ, _*_, _≤_}
+use lib.Dec.{eqb}
+use Rattle.signature.specs.Decoded.{Known}
+use Rattle.signature.specs.Signature.{Signature}
+use Rattle.pattern.specs.Limits.{pattern-limit}
+use Rattle.pattern.specs.Pattern.{Pattern}
+use Rattle.pattern.specs.Read.{read-pattern}
+use Rattle.pattern.specs.Weight.{weight-by}
+use Rattle.row.specs.Admitted.{refusal-by}
+use Rattle.builder.specs.Build.{room-unit}
+use Rattle.admission.specs.declared.admit.Admission.{Admission}
+use Rattle.admission.specs.declared.admit.Admission.the-variants.{Passed, Refused}
+
+-- room for the rows of any pattern
+abbrev pub row-room : ℕ
+row-room = room-unit * pattern-limit
+
+-- the table of a signature, and two slices with room
+pub record GivenWords (t : List ℕ) (n m : ℕ) : Type 0 where
+  pub known : Known t
+  pub room : row-room ≤ n
+  pub work-room : row-room ≤ m
+
+-- the number of an answer
+abbrev pub number-of : Admission → ℕ
+number-of (Passed w) = 0
+number-of (Refused n) = n
+
+-- the first refusal of 7 to 10 that applies to these words, or what they weigh
+abbrev pub admission-by : Signature → Option Pattern → Admission
+admission-by sig o = cond (eqb (refusal-by sig o) 0) (Passed (weight-by o)) (Refused (refusal-by sig o))
+
+abbrev pub admission-of : Signature → List ℕ → Admission
+admission-of sig ws = admission-by sig (read-pattern sig ws)

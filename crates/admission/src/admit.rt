@@ -1,0 +1,41 @@
+// The first of refusals 7 to 10 that applies to a pattern, or its weight.
+use ambiguity::ambiguous::ambiguous;
+use pattern::linear::linear;
+use pattern::read::well_formed;
+use pattern::weight::Weighed;
+use pattern::weight::weigh;
+ghost use mathlib.Core.Path.{_≡_};
+ghost use lib.ListN.{length};
+ghost use Rattle.admission.specs.Admission.{GivenWords, admission-of};
+
+pub const MALFORMED: u16 = 7;
+
+pub const NOT_LINEAR: u16 = 8;
+
+pub const TOO_HEAVY: u16 = 9;
+
+pub const AMBIGUOUS: u16 = 10;
+
+pub enum Admission {
+    Passed(u16),
+    Refused(u16),
+}
+
+pub fn admit(t: &[u16], p: &[u16], out: &mut [u64], work: &mut [u64]) -> Admission
+    requires { ⌜ GivenWords (now t) (length (now out)) (length (now work)) ⌝ }
+    ensures { λ r. ⌜ ((g : GivenWords (now (t .entry)) (length (now (out .entry))) (length (now (work .entry)))) → r ≡ admission-of (g .known .sig) (now (p .entry))) ⌝ }
+{
+    if !well_formed(t, p) {
+        return Admission::Refused(MALFORMED);
+    }
+    if !linear(t, p) {
+        return Admission::Refused(NOT_LINEAR);
+    }
+    let Weighed::Light(weight) = weigh(t, p) else {
+        return Admission::Refused(TOO_HEAVY);
+    };
+    if ambiguous(t, p, out, work) {
+        return Admission::Refused(AMBIGUOUS);
+    }
+    Admission::Passed(weight)
+}

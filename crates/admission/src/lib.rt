@@ -1,0 +1,2 @@
+// A pattern by itself: refusals 7 to 10, and its weight.
+pub mod admit;
