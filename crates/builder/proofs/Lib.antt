@@ -7,3 +7,4 @@ pub mod HeadRows
 pub mod NextLists
 pub mod Parts
 pub mod Rooms
+pub mod Whole

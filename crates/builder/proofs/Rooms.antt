@@ -49,10 +49,13 @@ module _ (K : Kinds) (k : ℕ) where
   entries-costs [] = refl
   entries-costs (r ∷ rs) = simp length-append (omega (arith, entries-costs rs))
 
-  pub entries-small : (l : ℕ) (rs : List Row) → All (λ r. place-count r ≤ l) rs → length rs ≤ 64 → length (entries K k rs) ≤ 64 + 192 * l
-  entries-small l rs h n =
+  pub entries-le : (l : ℕ) (rs : List Row) → All (λ r. place-count r ≤ l) rs → length (entries K k rs) ≤ length rs * (1 + 3 * l)
+  entries-le l rs h =
       let a : costs (λ r. 1 + length (code K r k)) rs ≤ length rs * (1 + 3 * l) = costs-le (λ r. 1 + length (code K r k)) (1 + 3 * l) (all-change _ (λ r (q : place-count r ≤ l). omega (arith, code-places K r k)) h) in
-      omega (arith, a, entries-costs rs, times-less (length rs) 64 (1 + 3 * l) (1 + 3 * l) n (omega arith))
+      omega (arith, a, entries-costs rs)
+
+  pub entries-small : (l : ℕ) (rs : List Row) → All (λ r. place-count r ≤ l) rs → length rs ≤ 64 → length (entries K k rs) ≤ 64 + 192 * l
+  entries-small l rs h n = omega (arith, entries-le l rs h, times-less (length rs) 64 (1 + 3 * l) (1 + 3 * l) n (omega arith))
 
   -- the room of a product
   for-small : (i j : ℕ) (r : Row) (ss : List Row) → place-count r ≤ i → All (λ s. place-count s ≤ j) ss → room-for K k r ss ≤ length ss * (1 + 3 * (i + j))

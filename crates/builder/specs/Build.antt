@@ -8,13 +8,15 @@ use lib.ListN.{length, getD}
 use Rattle.signature.specs.Decoded.{Known}
 use Rattle.signature.specs.Signature.{Signature}
 use Rattle.pattern.specs.Pattern.{Pattern, and, pattern-code}
-use Rattle.pattern.specs.Weight.{light-plus, light-minus}
-use Rattle.pattern.specs.WellFormed.{WellFormed}
+use Rattle.pattern.specs.Limits.{pattern-limit}
+use Rattle.pattern.specs.Weight.{light-plus, light-minus, weight-plus}
+use Rattle.pattern.specs.WellFormed.{WellFormed, PatternWords}
 use Rattle.cell.specs.Cell.{Kinds}
 use Rattle.cell.specs.Coded.{kinds-of}
 use Rattle.rowlist.specs.Product.{Product}
 use Rattle.rowlist.specs.Sides.{rows-of, Open}
-use Rattle.cell.specs.RowList.{entries}
+use Rattle.cell.specs.RowList.{entries, list-code}
+use Rattle.row.specs.Row.{rows-plus}
 
 abbrev pub light-of : Bool → Pattern → Bool
 light-of true p = light-plus p
@@ -65,3 +67,23 @@ pub record GivenHead (t : List ℕ) (tag full : ℕ) (w : List ℕ) (b : Bool) (
 pub record Made (K : Kinds) (sig : Signature) (k : ℕ) (b : Bool) (p : Pattern) (used read : ℕ) (o : List ℕ) : Type 0 where
   pub read-is : read ≡ length (pattern-code p)
   pub list : Product (entries K k (rows-of sig k b p)) used o
+
+-- ---- a whole pattern, of kind 0, that passed 7 and 9
+-- words of each slice: for a pattern of 64 words
+abbrev pub row-room : ℕ
+row-room = pattern-limit * room-unit
+
+pub record GivenWhole (t ws : List ℕ) (n m : ℕ) : Type 0 where
+  pub known : Known t
+  pub p : Pattern
+  pub words : PatternWords (known .sig) ws p
+  pub light : light-plus p ≡ true
+  pub room : row-room ≤ n
+  pub work-room : row-room ≤ m
+
+-- the list of its rows stands first, of n words without its end: a row for each of its weight at most
+pub record RowsFirst (sig : Signature) (p : Pattern) (n : ℕ) (o : List ℕ) : Type 0 where
+  pub rest : List ℕ
+  pub code-is : o ≡ list-code (kinds-of sig) 0 (rows-plus sig 0 p) ++ rest
+  pub size : n + 1 ≡ length (list-code (kinds-of sig) 0 (rows-plus sig 0 p))
+  pub small : n ≤ weight-plus p * (1 + 3 * pattern-limit)

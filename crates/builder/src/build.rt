@@ -24,7 +24,7 @@ ghost use Rattle.cell.specs.RowList.{entries};
 ghost use mathlib.Core.List.{[], _∷_};
 ghost use Rattle.cell.specs.RowList.{from};
 ghost use Rattle.cell.specs.Coded.{kinds-of};
-ghost use Rattle.builder.specs.Build.{multiplies, vars-of, leaf-entries, GivenPat, GivenHead, Made};
+ghost use Rattle.builder.specs.Build.{multiplies, vars-of, leaf-entries, GivenPat, GivenHead, Made, GivenWhole, RowsFirst};
 ghost use Rattle.rowlist.specs.Product.{GivenProduct, Product, products};
 
 // The words of the connectives, of the wildcard and of absurd.
@@ -124,6 +124,9 @@ fn place_of(t: &[u16], tag: u64, c: usize) -> u32
     let f = first_of(t, k) as usize;
     (c - f) as u32
 }
+
+// Words that each slice needs for a pattern of 64 words.
+pub const ROW_ROOM: usize = 16448;
 
 pub struct Built {
     pub used: usize,
@@ -236,4 +239,14 @@ fn args(
         used: b.used,
         read: from + b.read,
     }
+}
+
+// The rows of a whole pattern: their list first in out, of so many words without its end.
+pub fn build(t: &[u16], p: &[u16], out: &mut [u64], work: &mut [u64]) -> usize
+    requires { ⌜ GivenWhole (now t) (now p) (length (now out)) (length (now work)) ⌝ }
+    ensures { λ r. ⌜ ((g : GivenWhole (now (t .entry)) (now (p .entry)) (length (now (out .entry))) (length (now (work .entry)))) → RowsFirst (g .known .sig) (g .p) r (now (out .exit))) ⌝ }
+{
+    let full = full_of(t, 0);
+    let a = rows(t, KIND_TAG, full, p, true, out, work);
+    a.used
 }

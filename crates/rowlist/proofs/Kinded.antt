@@ -10,9 +10,10 @@ use native.Mathlib.Omega.{arith}
 use lib.Dec.{eqb, ltb}
 use lib.ListN.{length}
 use Rattle.signature.specs.Decoded.{Known, count-of}
+use Rattle.signature.specs.Lawful.{KindsRise, rise-end, rise-same, rise-next, KindsStart, start-0}
 use Rattle.signature.specs.Lists.{memb, is-empty, first}
 use Rattle.signature.specs.Set.{bit, bit-if}
-use Rattle.signature.specs.Signature.{heads, arguments-at}
+use Rattle.signature.specs.Signature.{Signature, heads, arguments-at}
 use Rattle.signature.proofs.Heads.{Consecutive, consecutive-nil, consecutive-cons, consecutive-of, has-head, has-kind, constructor-of}
 use Rattle.signature.proofs.KnownFacts.{words-of, arity-is, is-constructor, few-constructors, long}
 use Rattle.signature.proofs.LawfulFacts.{kinds-kind}
@@ -50,9 +51,21 @@ memb-run (suc i) (consecutive-cons {f = f} {xs = xs} r) =
     let z : f + suc i ≡ suc f + i = omega arith in
     rw (z, eqb-no (suc f + i) f (omega arith)) (memb-run i r ∙ sym (ltb-next i (length xs) (ltb i (length xs)) refl))
 
+rise-some : {k n : ℕ} {cs : Signature} → KindsRise k cs n → 0 < n
+rise-some (rise-end e) = omega (arith, e)
+rise-some (rise-same e h) = rise-some h
+rise-some (rise-next e h) = rise-some h
+
+start-some : {n : ℕ} {cs : Signature} → KindsStart cs n → 0 < n
+start-some (start-0 e h) = rise-some h
+
 module _ {t : List ℕ} (g : Known t) where
   pub kinds-same : g .decoded .n ≡ words-of g .n
   kinds-same = some-inj (g .decoded .n) (words-of g .n) (sym (g .decoded .kinds-are) ∙ is-kinds (words-of g .rises))
+
+  -- kind 0 exists
+  pub kind-zero : 0 < g .decoded .n
+  kind-zero = omega (arith, kinds-same, start-some (words-of g .rises))
 
   module _ (k : ℕ) (l : k < g .decoded .n) where
     some-head : is-empty (heads (g .sig) k) ≡ false
