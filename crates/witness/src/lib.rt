@@ -1,0 +1,2 @@
+// A booking that two patterns share, as words.
+pub mod fill;
