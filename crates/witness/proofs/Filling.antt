@@ -60,7 +60,7 @@ part-back o₀ o done v ys n m len l f =
 
 -- ---- a place at which some heads of its kind are allowed
 module _ {t : List ℕ} (g : Known t) (k d : ℕ) (cs : List ℕ) (h : All (λ c. memb c (heads (g .sig) k) ≡ true) (d ∷ cs)) where
-  kind-here : k < g .decoded .n
+  pub kind-here : k < g .decoded .n
   kind-here = let q = kind-of-head (g .sig) k d (first-of h) in kind-there g k d (q .0) (q .1)
 
   unfoldable free-given : (kk al : ℕ) (p : List ℕ) → kk ≡ k → al ≡ mask (first (heads (g .sig) k)) (d ∷ cs) → place-words ≤ length p → GivenPlace t kk al p

@@ -1,2 +1,3 @@
 // A booking that two patterns share, as words.
 pub mod fill;
+pub mod pair;
