@@ -1,3 +1,4 @@
 // A booking that two patterns share, as words.
 pub mod fill;
+pub mod lists;
 pub mod pair;
