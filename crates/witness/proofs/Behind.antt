@@ -10,7 +10,7 @@ use Rattle.signature.specs.Signature.{Signature}
 use Rattle.signature.specs.Value.{Value, Values, vnil, vcons, code, codes, sizes, depths}
 use Rattle.row.specs.Limits.{place-words}
 use Rattle.row.specs.Row.{Row, Rows, named, free, rnil, rcons}
-use Rattle.row.specs.RowFits.{Good, Goods, goods-nil, goods-cons, place-count, places-count, rows-fit}
+use Rattle.row.specs.RowFits.{Goods, goods-nil, goods-cons, place-count, places-count, rows-fit}
 use Rattle.cell.specs.Cell.{Kinds, words, wordss}
 use Rattle.cell.specs.Coded.{cells, cellss}
 use Rattle.witness.specs.Fill.{Taken}

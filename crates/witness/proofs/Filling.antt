@@ -1,10 +1,10 @@
 -- A row's cells are taken one after the other, and what each stands for is written.
 use borrow.Author.Tests.{lt-ltb, le-ltb}
-use mathlib.Core.Path.{_≡_, refl, ap, sym, _∙_, subst}
+use mathlib.Core.Path.{_≡_, refl, ap, sym, _∙_}
 use mathlib.Core.List.{List, [], _∷_, _++_, append-assoc, append-nil}
 use mathlib.Core.Bool.{Bool, true, false}
 use mathlib.Core.Option.{some}
-use Prim.Native.Nat.{ℕ, suc, _+_, _-_, _*_, _≤_, _<_}
+use Prim.Native.Nat.{ℕ, _+_, _-_, _*_, _≤_, _<_}
 use native.Mathlib.Omega.{arith}
 use lib.Dec.{eqb}
 use lib.ListN.{length, drop, take, getD, length-append, length-drop, drop-of-length-le}
@@ -12,7 +12,7 @@ use lib.Seq.{drop-drop, drop-at, take-at}
 use Rattle.signature.specs.Decoded.{Known}
 use Rattle.signature.specs.Lawful.{of-kind}
 use Rattle.signature.specs.Lists.{All, none-left, also, first, memb}
-use Rattle.signature.specs.Signature.{Signature, arguments-at, heads}
+use Rattle.signature.specs.Signature.{arguments-at, heads}
 use Rattle.signature.specs.Value.{Value, Values, con, vnil, vcons, code, codes, size}
 use Rattle.signature.proofs.Heads.{args-same, kind-of-head}
 use Rattle.signature.proofs.ListFacts.{first-of}
@@ -21,14 +21,14 @@ use Rattle.signature.proofs.Tests.{eqb-self, eqb-eq, true≢false}
 use Rattle.signature.proofs.Values.{length-code, depth-size}
 use Rattle.pattern.specs.Limits.{pattern-limit}
 use Rattle.row.specs.Limits.{place-words}
-use Rattle.row.specs.Row.{Row, Rows, named, free, rnil, rcons}
-use Rattle.row.specs.RowFits.{Good, good-named, good-free, Goods, goods-nil, goods-cons, place-count, places-count}
+use Rattle.row.specs.Row.{Rows, named, free, rnil, rcons}
+use Rattle.row.specs.RowFits.{good-named, good-free, Goods, goods-nil, goods-cons, places-count}
 use Rattle.cell.specs.Cell.{wordss}
 use Rattle.cell.specs.Coded.{kinds-of, cellss, code as row-code}
 use Rattle.cell.specs.Cursor.{opensOf}
 use Rattle.cell.specs.Mask.{mask, Within}
 use Rattle.cell.specs.RowList.{from}
-use Rattle.cell.proofs.Columns.{Three, three-at}
+use Rattle.cell.proofs.Columns.{three-at}
 use Rattle.cell.proofs.Walk.{from-is, back}
 use Rattle.rowlist.proofs.Kinded.{known-head, kind-there, within-kind}
 use Rattle.overlap.specs.Least.{GivenPlace, Placed}

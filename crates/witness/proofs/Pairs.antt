@@ -1,16 +1,15 @@
 -- Two rows as one, and a value that it takes.
 use mathlib.Core.Path.{_≡_, refl, ap, sym, _∙_, subst}
-use mathlib.Core.List.{List, [], _++_, append-nil}
+use mathlib.Core.List.{List, [], append-nil}
 use mathlib.Core.Bool.{true, _&&_}
 use mathlib.Core.Option.{Option, none, some}
-use Prim.Native.Nat.{ℕ, suc, _+_, _*_, _≤_, _<_}
+use Prim.Native.Nat.{ℕ, suc, _+_, _*_, _≤_}
 use native.Mathlib.Omega.{arith}
 use lib.ListN.{length, drop, take}
 use lib.Seq.{take-at}
 use Rattle.signature.specs.Decoded.{Known}
 use Rattle.signature.specs.Lists.{is-some, first}
 use Rattle.signature.specs.Signature.{heads}
-use Rattle.signature.specs.Value.{Value}
 use Rattle.signature.proofs.Booleans.{and-left, and-right}
 use Rattle.signature.proofs.Heads.{args-same}
 use Rattle.signature.proofs.ListFacts.{Kept, kept, dropped}

@@ -1,10 +1,10 @@
 -- A row with each row of a list, until two of them have a value in common.
-use mathlib.Core.Path.{_≡_, refl, sym, _∙_, subst}
-use mathlib.Core.List.{List, []}
+use mathlib.Core.Path.{_≡_, refl, sym, subst}
+use mathlib.Core.List.{List}
 use mathlib.Core.Bool.{Bool, true, false, not}
 use Prim.Native.Nat.{ℕ, _+_, _≤_, _<_}
 use native.Mathlib.Omega.{arith}
-use lib.ListN.{length, getD}
+use lib.ListN.{getD}
 use Rattle.signature.specs.Decoded.{Known}
 use Rattle.signature.specs.Lists.{All, none-left, also, is-some, is-empty}
 use Rattle.signature.specs.Value.{Value}

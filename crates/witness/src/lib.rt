@@ -2,3 +2,4 @@
 pub mod fill;
 pub mod lists;
 pub mod pair;
+pub mod promises;

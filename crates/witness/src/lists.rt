@@ -14,7 +14,7 @@ ghost use Rattle.witness.specs.Lists.{GivenRowList, Shown};
 ghost use Rattle.witness.specs.Pair.{Both, Found};
 
 // A value that the row at the front of x and some row of the list y take, first in out; how many words, 0 where there is none.
-pub fn row_witness(t: &[u16], x: &[u64], y: &[u64], out: &mut [u16]) -> usize
+fn row_witness(t: &[u16], x: &[u64], y: &[u64], out: &mut [u16]) -> usize
     requires { ⌜ GivenRowList (now t) (now x) (now y) (now out) ⌝ }
     ensures { λ n. ⌜ ((g : GivenRowList (now (t .entry)) (now (x .entry)) (now (y .entry)) (now (out .entry))) → Found (Both (g .known .sig) (g .kind) (row-fits (g .r)) (fits-some (g .ss))) (not (is-empty (ones (g .r) (g .ss)))) n (now (out .entry)) (now (out .exit))) ⌝ }
 {

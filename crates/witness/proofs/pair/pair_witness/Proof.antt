@@ -1,8 +1,7 @@
 -- `witness::pair::pair_witness` meets its contract. Assumes nothing.
-use mathlib.Core.Path.{_≡_, refl, sym}
+use mathlib.Core.Path.{sym}
 use native.Mathlib.Omega.{arith}
 use borrow.Author.Needs.{needs}
-use lib.ListN.{length}
 use lib.Seq.{length-take-le}
 use Rattle.witness.proofs.Pairs.{given, none-of, row-of, found-of, fits-in}
 use Rattle.witness.proofs.pair.pair_witness.Statement.{statement}
