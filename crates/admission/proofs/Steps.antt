@@ -3,9 +3,7 @@ use mathlib.Core.Path.{_≡_, refl, sym, ap, subst, _∙_}
 use mathlib.Core.List.{List}
 use mathlib.Core.Option.{Option, none, some}
 use mathlib.Core.Bool.{Bool, true, false, cond}
-use Prim.Native.Nat.{ℕ, _*_, _≤_}
-use native.Mathlib.Omega.{arith}
-use lib.ListN.{length}
+use Prim.Native.Nat.{ℕ}
 use Rattle.signature.specs.Decoded.{Known}
 use Rattle.signature.specs.Lists.{is-some}
 use Rattle.signature.specs.Signature.{Signature}
@@ -20,7 +18,7 @@ use Rattle.pattern.specs.declared.weight.Weighed.{Weighed}
 use Rattle.pattern.specs.declared.weight.Weighed.the-variants.{Light, Heavy}
 use Rattle.pattern.proofs.PatternBack.{pattern-words}
 use Rattle.row.specs.Overlap.{ambiguous-plus}
-use Rattle.ambiguity.specs.Parts.{GivenWhole}
+use Rattle.builder.specs.Build.{GivenWhole}
 use Rattle.admission.specs.Admission.{GivenWords, admission-by, admission-of}
 use Rattle.admission.specs.declared.admit.Admission.{Admission}
 use Rattle.admission.specs.declared.admit.Admission.the-variants.{Passed, Refused}
@@ -82,10 +80,9 @@ module _ {t : List ℕ} {n m : ℕ} (g : GivenWords t n m) (ws : List ℕ) where
 
             pub whole-given : GivenWhole t ws n m
             whole-given =
-                let q = pattern-words (g .known .sig) ws (the-pattern .0) (the-pattern .1) in
-                record { known = g .known; pattern = the-pattern .0; read = the-pattern .1; light = light-so .0; room = omega (arith, q .at-most, g .room); work-room = omega (arith, q .at-most, g .work-room) }
+                record { known = g .known; p = the-pattern .0; words = pattern-words (g .known .sig) ws (the-pattern .0) (the-pattern .1); light = light-so .0; room = g .room; work-room = g .work-room }
 
-            module _ (a : Bool) (a-is : (q : GivenWhole t ws n m) → a ≡ ambiguous-plus (q .known .sig) 0 (q .pattern)) where
+            module _ (a : Bool) (a-is : (q : GivenWhole t ws n m) → a ≡ ambiguous-plus (q .known .sig) 0 (q .p)) where
               ambiguous-so : ambiguous-plus (g .known .sig) 0 (the-pattern .0) ≡ a
               unfolding whole-given
               ambiguous-so = sym (a-is whole-given)

@@ -2,22 +2,17 @@
 use mathlib.Core.List.{List}
 use mathlib.Core.Option.{Option}
 use mathlib.Core.Bool.{cond}
-use Prim.Native.Nat.{ℕ, _*_, _≤_}
+use Prim.Native.Nat.{ℕ, _≤_}
 use lib.Dec.{eqb}
 use Rattle.signature.specs.Decoded.{Known}
 use Rattle.signature.specs.Signature.{Signature}
-use Rattle.pattern.specs.Limits.{pattern-limit}
 use Rattle.pattern.specs.Pattern.{Pattern}
 use Rattle.pattern.specs.Read.{read-pattern}
 use Rattle.pattern.specs.Weight.{weight-by}
 use Rattle.row.specs.Admitted.{refusal-by}
-use Rattle.builder.specs.Build.{room-unit}
+use Rattle.builder.specs.Build.{row-room}
 use Rattle.admission.specs.declared.admit.Admission.{Admission}
 use Rattle.admission.specs.declared.admit.Admission.the-variants.{Passed, Refused}
-
--- room for the rows of any pattern
-abbrev pub row-room : ℕ
-row-room = room-unit * pattern-limit
 
 -- the table of a signature, and two slices with room
 pub record GivenWords (t : List ℕ) (n m : ℕ) : Type 0 where

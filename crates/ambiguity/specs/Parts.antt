@@ -1,7 +1,6 @@
 -- Parts of a pattern at the front of some words, at a side, with room for their rows.
 use mathlib.Core.Path.{_≡_}
 use mathlib.Core.List.{List, _++_}
-use mathlib.Core.Option.{some}
 use mathlib.Core.Bool.{Bool, true, false}
 use Prim.Native.Nat.{ℕ, _+_, _*_, _≤_, _<_}
 use lib.ListN.{length}
@@ -9,8 +8,6 @@ use Rattle.signature.specs.Decoded.{Known}
 use Rattle.signature.specs.Signature.{Signature}
 use Rattle.pattern.specs.Pattern.{Pattern, pattern-code}
 use Rattle.pattern.specs.WellFormed.{WellFormed}
-use Rattle.pattern.specs.Read.{read-pattern}
-use Rattle.pattern.specs.Weight.{light-plus}
 use Rattle.row.specs.Overlap.{overlap, overlap-minus}
 use Rattle.builder.specs.Build.{light-of, room-unit}
 
@@ -45,12 +42,3 @@ pub record GivenPart (t : List ℕ) (k : ℕ) (w : List ℕ) (b : Bool) (n m : �
   pub light : light-of b pattern ≡ true
   pub room : room-unit * length (pattern-code pattern) ≤ n
   pub work-room : room-unit * length (pattern-code pattern) ≤ m
-
--- a whole pattern, past 7 and 9
-pub record GivenWhole (t ws : List ℕ) (n m : ℕ) : Type 0 where
-  pub known : Known t
-  pub pattern : Pattern
-  pub read : read-pattern (known .sig) ws ≡ some pattern
-  pub light : light-plus pattern ≡ true
-  pub room : room-unit * length ws ≤ n
-  pub work-room : room-unit * length ws ≤ m

@@ -15,7 +15,8 @@ ghost use Rattle.signature.specs.Lists.{_or-else_};
 ghost use Rattle.pattern.specs.Word.{form-of, head-small};
 ghost use Rattle.row.specs.Overlap.{ambiguous-plus};
 ghost use Rattle.ambiguity.specs.Ambiguity.{doubles, taken-twice, kind-behind, own-variable, Judged};
-ghost use Rattle.ambiguity.specs.Parts.{GivenPart, GivenWhole};
+ghost use Rattle.ambiguity.specs.Parts.{GivenPart};
+ghost use Rattle.builder.specs.Build.{GivenWhole};
 
 // Whether a part has variables at its side, and how many words it takes; or that it, or a part of it, is ambiguous.
 pub enum Part {
@@ -138,7 +139,7 @@ fn ambiguous_at(
 // Whether a pattern past 7 to 9 is ambiguous.
 pub fn ambiguous(t: &[u16], p: &[u16], out: &mut [u64], work: &mut [u64]) -> bool
     requires { ⌜ GivenWhole (now t) (now p) (length (now out)) (length (now work)) ⌝ }
-    ensures { λ r. ⌜ ((g : GivenWhole (now (t .entry)) (now (p .entry)) (length (now (out .entry))) (length (now (work .entry)))) → r ≡ ambiguous-plus (g .known .sig) 0 (g .pattern)) ⌝ }
+    ensures { λ r. ⌜ ((g : GivenWhole (now (t .entry)) (now (p .entry)) (length (now (out .entry))) (length (now (work .entry)))) → r ≡ ambiguous-plus (g .known .sig) 0 (g .p)) ⌝ }
 {
     let r = ambiguous_at(t, 0, p, true, out, work);
     match r {

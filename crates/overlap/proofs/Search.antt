@@ -7,7 +7,7 @@ use Prim.Native.Nat.{ℕ, _≤_, _+_, _<_}
 use native.Mathlib.Omega.{arith}
 use lib.ListN.{length, drop, length-drop, getD, length-append}
 use lib.Seq.{drop-drop, drop-at}
-use Rattle.signature.specs.Lists.{any, _or-else_, is-some, is-empty, somes}
+use Rattle.signature.specs.Lists.{In, in-here, in-there, any, _or-else_, is-some, is-empty, somes}
 use Rattle.cell.specs.Cell.{Kinds}
 use Rattle.cell.specs.Coded.{code, Typed}
 use Rattle.rowlist.specs.Product.{Typed-all, ones}
@@ -31,17 +31,19 @@ pub record Mid {ar y : List ℕ} (g : Task ar y) (at : ℕ) (todo : List Row) : 
   pub code-is : drop at y ≡ list-code (g .K) (g .kind) todo ++ g .rest
   pub typed : Typed-all (g .K) ar (g .kind) todo
   pub same : any (g .test) (g .rows) ≡ any (g .test) todo
+  pub members : (s : Row) → In s todo → In s (g .rows)
 
 abbrev pub Now : {ar y : List ℕ} → Task ar y → ℕ → Type 0
 Now g at = (todo : List Row) × Mid g at todo
 
 pub start : {ar y : List ℕ} (g : Task ar y) → Now g 0
-start g = (g .rows, record { code-is = g .code-is; typed = g .typed; same = refl })
+start g = (g .rows, record { code-is = g .code-is; typed = g .typed; same = refl; members = λ s i. i })
 
 -- the row in front
 pub record Head {ar y : List ℕ} (g : Task ar y) (at : ℕ) (s : Row) : Type 0 where
   pub rest : List ℕ
   pub typed : Typed (g .K) ar s (g .kind)
+  pub member : In s (g .rows)
   pub code-is : from y (at + 1) ≡ code (g .K) s (g .kind) ++ rest
 
 module _ {ar y : List ℕ} (g : Task ar y) (at : ℕ) where
@@ -66,6 +68,7 @@ module _ {ar y : List ℕ} (g : Task ar y) (at : ℕ) where
   head-at s todo m = record {
     rest = list-code (g .K) (g .kind) todo ++ g .rest;
     typed = m .typed .0;
+    member = m .members s in-here;
     code-is = from-is y (at + 1) ∙ next-row s todo m;
   }
 
@@ -97,6 +100,7 @@ module _ {ar y : List ℕ} (g : Task ar y) (at : ℕ) where
             code-is = sym (drop-drop (getD y at 0) (at + 1) y) ∙ ap (drop (getD y at 0)) nr ∙ drop-at (code (g .K) s (g .kind)) (list-code (g .K) (g .kind) todo ++ g .rest) (getD y at 0) (sym len);
             typed = m .typed .1;
             same = m .same ∙ ap (λ (b : Bool). b or-else any (g .test) todo) (sym (f s (head-at s todo m)));
+            members = λ q i. m .members q (in-there i);
           },
         ),
         omega (arith, length-drop (at + 1) y, simp length-append at (ap length nr)),
@@ -106,7 +110,7 @@ module _ {ar y : List ℕ} (g : Task ar y) (at : ℕ) where
   past m h f = past-at (m .0) (m .1) h f
 
 -- ---- the two tests
-any-ones : (r : Row) (ss : List Row) → any (λ s. is-some (combine r s)) ss ≡ not (is-empty (ones r ss))
+pub any-ones : (r : Row) (ss : List Row) → any (λ s. is-some (combine r s)) ss ≡ not (is-empty (ones r ss))
 any-ones r [] = refl
 any-ones r (s ∷ ss) = go (combine r s) (any-ones r ss)
   where
@@ -119,7 +123,7 @@ empty-append [] b = refl
 empty-append (none ∷ a) b = empty-append a b
 empty-append (some t ∷ a) b = refl
 
-any-each : (rs ss : List Row) → any (λ r. not (is-empty (ones r ss))) rs ≡ not (is-empty (somes (each combine rs ss)))
+pub any-each : (rs ss : List Row) → any (λ r. not (is-empty (ones r ss))) rs ≡ not (is-empty (somes (each combine rs ss)))
 any-each [] ss = refl
 any-each (r ∷ rs) ss = ap (λ (b : Bool). not (is-empty (ones r ss)) or-else b) (any-each rs ss) ∙ empty-append (map (combine r) ss) (each combine rs ss)
 

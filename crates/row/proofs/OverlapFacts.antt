@@ -24,6 +24,7 @@ use Rattle.row.specs.Limits.{place-words}
 use Rattle.row.specs.Overlap.{overlap}
 use Rattle.row.specs.Row.{Row, each, combine, rows-plus, Rows, named, free, rnil, rcons, combines, open-rows, other-than, open-row, rows-minus, args-plus, args-minus}
 use Rattle.row.specs.RowFits.{fits-some, row-fits, place-count, rows-fit, places-count}
+pub use Rattle.row.specs.RowFits.{Good, good-named, good-free, Goods, goods-nil, goods-cons}
 use Rattle.row.proofs.Places.{all-each, product-places, plus-places}
 use Rattle.row.proofs.RowTheorem.{products-fit, plus-fits}
 
@@ -36,52 +37,42 @@ module _ (sig : Signature) where
   pub shared-overlap : {k : ℕ} (p q : Pattern) → WellFormed sig k p → WellFormed sig k q → (v : Value) → OfKind sig k v → is-fit (decide p v 0) ≡ true → is-fit (decide q v 0) ≡ true → overlap sig k p q ≡ true
   shared-overlap {k} p q s t v h e f = some-of (somes (each combine (rows-plus sig k p) (rows-plus sig k q))) v (products-fit (rows-plus sig k p) (rows-plus sig k q) v ∙ rw (plus-fits sig p s v h 0, plus-fits sig q t v h 0, e, f))
 
-  -- rows in which some constructor of the kind is left at each place
-  mutual
-    pub data Good : ℕ → Row → Type 0 where
-      good-named : {k c : ℕ} {xs js : List ℕ} {rs : Rows} → arguments-at sig k c ≡ some js → Goods js rs → Good k (named xs c rs)
-      good-free : {k c : ℕ} {xs cs : List ℕ} → All (λ d. memb d (heads sig k) ≡ true) (c ∷ cs) → Good k (free xs (c ∷ cs))
-
-    pub data Goods : List ℕ → Rows → Type 0 where
-      goods-nil : Goods [] rnil
-      goods-cons : {k : ℕ} {ks : List ℕ} {r : Row} {rs : Rows} → Good k r → Goods ks rs → Goods (k ∷ ks) (rcons r rs)
-
-  free-good : {k : ℕ} (xs cs : List ℕ) → All (λ d. memb d (heads sig k) ≡ true) cs → Kept (Good k) (require (not (is-empty cs)) >>= λ u. some (free xs cs))
+  free-good : {k : ℕ} (xs cs : List ℕ) → All (λ d. memb d (heads sig k) ≡ true) cs → Kept (Good sig k) (require (not (is-empty cs)) >>= λ u. some (free xs cs))
   free-good xs [] h = dropped
   free-good xs (c ∷ cs) h = kept (free xs (c ∷ cs)) (good-free h)
 
   mutual
-    pub combine-good : {k : ℕ} (r s : Row) → Good k r → Good k s → Kept (Good k) (combine r s)
+    pub combine-good : {k : ℕ} (r s : Row) → Good sig k r → Good sig k s → Kept (Good sig k) (combine r s)
     combine-good {k} (named xs c rs) (named ys d ss) (good-named {js = js} e g) (good-named {js = is} e′ h) = go (eqb c d) refl (λ h′. combines-good rs ss g h′)
       where
-        go : (b : Bool) → eqb c d ≡ b → (Goods js ss → Kept (Goods js) (combines rs ss)) → Kept (Good k) (combine (named xs c rs) (named ys d ss))
+        go : (b : Bool) → eqb c d ≡ b → (Goods sig js ss → Kept (Goods sig js) (combines rs ss)) → Kept (Good sig k) (combine (named xs c rs) (named ys d ss))
         go true q f = rw q (kept-bind _ (λ ts w. kept (named (xs ++ ys) c ts) (good-named e w)) (f (rw (same-args sig k c d e e′ (eqb-eq c d q)) at h)))
         go false q f = rw q dropped
     combine-good (named xs c rs) (free ys (d ∷ ds)) (good-named e g) (good-free h) = kept-if (memb c (d ∷ ds)) (named (xs ++ ys) c rs) (λ q. good-named e g)
     combine-good (free xs (c ∷ cs)) (named ys d ss) (good-free h) (good-named e g) = kept-if (memb d (c ∷ cs)) (named (xs ++ ys) d ss) (λ q. good-named e g)
     combine-good (free xs (c ∷ cs)) (free ys (d ∷ ds)) (good-free h) (good-free g) = free-good (xs ++ ys) (keep (λ e. memb e (d ∷ ds)) (c ∷ cs)) (keep-all (λ e. memb e (d ∷ ds)) h)
 
-    pub combines-good : {ks : List ℕ} (rs ss : Rows) → Goods ks rs → Goods ks ss → Kept (Goods ks) (combines rs ss)
+    pub combines-good : {ks : List ℕ} (rs ss : Rows) → Goods sig ks rs → Goods sig ks ss → Kept (Goods sig ks) (combines rs ss)
     combines-good rnil rnil goods-nil goods-nil = kept rnil goods-nil
     combines-good rnil (rcons s ss) g h = dropped
     combines-good (rcons r rs) rnil g h = dropped
     combines-good (rcons r rs) (rcons s ss) (goods-cons g h) (goods-cons g′ h′) = kept-bind _ (λ t w. kept-bind _ (λ ts w′. kept (rcons t ts) (goods-cons w w′)) (combines-good rs ss h h′)) (combine-good r s g g′)
 
-  open-good : {k : ℕ} (xs cs : List ℕ) → is-empty cs ≡ false → All (λ d. memb d (heads sig k) ≡ true) cs → Good k (free xs cs)
+  open-good : {k : ℕ} (xs cs : List ℕ) → is-empty cs ≡ false → All (λ d. memb d (heads sig k) ≡ true) cs → Good sig k (free xs cs)
   open-good xs [] e h = true≢false e
   open-good xs (c ∷ cs) e h = good-free h
 
-  all-good : {k : ℕ} (xs : List ℕ) → Small sig k → Good k (free xs (heads sig k))
+  all-good : {k : ℕ} (xs : List ℕ) → Small sig k → Good sig k (free xs (heads sig k))
   all-good {k} xs s = open-good xs (heads sig k) (has-head sig s) (all-of (heads sig k) (λ d m. m))
 
-  opens-good : {ks : List ℕ} → All (Small sig) ks → Goods ks (open-rows sig ks)
+  opens-good : {ks : List ℕ} → All (Small sig) ks → Goods sig ks (open-rows sig ks)
   opens-good none-left = goods-nil
   opens-good (also k s p) = goods-cons (all-good [] s) (opens-good p)
 
-  other-good : (k c : ℕ) → All (Good k) (other-than sig k c)
+  other-good : (k c : ℕ) → All (Good sig k) (other-than sig k c)
   other-good k c = go (keep (λ d. not (eqb c d)) (heads sig k)) (keep-all (λ d. not (eqb c d)) (all-of (heads sig k) (λ d m. m)))
     where
-      go : (cs : List ℕ) → All (λ d. memb d (heads sig k) ≡ true) cs → All (Good k) (cond (is-empty cs) [] (free [] cs ∷ []))
+      go : (cs : List ℕ) → All (λ d. memb d (heads sig k) ≡ true) cs → All (Good sig k) (cond (is-empty cs) [] (free [] cs ∷ []))
       go [] h = none-left
       go (d ∷ ds) h = also (free [] (d ∷ ds)) (good-free h) none-left
 

@@ -21,7 +21,7 @@ all-each f g (also x p ps) qs = all-append (all-map (f x) (λ b q. g x b p q) qs
 
 -- two rows as one share at least the place at the top
 mutual
-  combine-places : (r s : Row) → Kept (λ t. suc (place-count t) ≤ place-count r + place-count s) (combine r s)
+  pub combine-places : (r s : Row) → Kept (λ t. suc (place-count t) ≤ place-count r + place-count s) (combine r s)
   combine-places (named xs c rs) (named ys d ss) = kept-bind _ (λ u w. kept-bind _ (λ ts l. kept (named (xs ++ ys) c ts) (omega arith)) (combines-places rs ss)) (any-kept (eqb c d))
   combine-places (named xs c rs) (free ys ds) = kept-bind _ (λ u w. kept (named (xs ++ ys) c rs) (omega arith)) (any-kept (memb c ds))
   combine-places (free xs cs) (named ys d ss) = kept-bind _ (λ u w. kept (named (xs ++ ys) d ss) (omega arith)) (any-kept (memb d cs))

@@ -1,10 +1,12 @@
--- What a row takes and binds, and how many places it has.
-use mathlib.Core.List.{List}
+-- What a row takes and binds, how many places it has, and which rows take some value.
+use mathlib.Core.Path.{_≡_}
+use mathlib.Core.List.{List, [], _∷_}
 use mathlib.Core.Option.{Option, none, some}
 use mathlib.Core.Bool.{Bool, _&&_, true, false}
 use Prim.Native.Nat.{ℕ, suc, _+_}
 use lib.Dec.{eqb}
-use Rattle.signature.specs.Lists.{memb, any, _or-else_}
+use Rattle.signature.specs.Lists.{All, memb, any, _or-else_}
+use Rattle.signature.specs.Signature.{Signature, arguments-at, heads}
 use Rattle.signature.specs.Value.{Value, con, Values, vnil, vcons, size}
 use Rattle.row.specs.Row.{Row, named, free, Rows, rnil, rcons}
 
@@ -58,3 +60,14 @@ abbrev mutual
   rows-bind rnil vs i x j = false
   rows-bind (rcons r rs) vnil i x j = false
   rows-bind (rcons r rs) (vcons v vs) i x j = row-binds r v i x j or-else rows-bind rs vs (i + size v) x j
+
+module _ (sig : Signature) where
+  -- a row of kind k: its constructors are of the kinds of their places, and each place has one that is allowed
+  mutual
+    pub data Good : ℕ → Row → Type 0 where
+      good-named : {k c : ℕ} {xs js : List ℕ} {rs : Rows} → arguments-at sig k c ≡ some js → Goods js rs → Good k (named xs c rs)
+      good-free : {k c : ℕ} {xs cs : List ℕ} → All (λ d. memb d (heads sig k) ≡ true) (c ∷ cs) → Good k (free xs (c ∷ cs))
+
+    pub data Goods : List ℕ → Rows → Type 0 where
+      goods-nil : Goods [] rnil
+      goods-cons : {k : ℕ} {ks : List ℕ} {r : Row} {rs : Rows} → Good k r → Goods ks rs → Goods (k ∷ ks) (rcons r rs)

@@ -1,0 +1,4 @@
+pub mod Fill
+pub mod Laws
+pub mod Lists
+pub mod Pair
