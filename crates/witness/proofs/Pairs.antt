@@ -26,7 +26,7 @@ use Rattle.cell.specs.Coded.{kinds-of, code, code-of, Typed, Typeds}
 use Rattle.cell.specs.Lockstep.{GivenRows, Result}
 use Rattle.cell.proofs.RowListFacts.{kept-is, kept-le}
 use Rattle.rowlist.proofs.Kinded.{known-head, open-kind, within-kind}
-use Rattle.rowlist.proofs.Rooms.{code-places}
+use Rattle.builder.proofs.Rooms.{code-places}
 use Rattle.witness.specs.Fill.{GivenRow, Filled}
 use Rattle.witness.specs.Pair.{GivenPair, Both, Found}
 use Rattle.witness.proofs.Filling.{kind-here, within-all}
