@@ -1,0 +1,86 @@
+-- The rules of a table one after the other: what holds of their patterns so far, and where their rows stand.
+use mathlib.Core.Path.{_≡_}
+use mathlib.Core.List.{List, [], _∷_, _++_}
+use mathlib.Core.Bool.{Bool, true, false, not, _&&_}
+use Prim.Native.Nat.{ℕ, _+_, _*_, _≤_}
+use lib.Dec.{eqb, leb}
+use lib.ListN.{length, take}
+use Rattle.signature.specs.Decoded.{Known}
+use Rattle.signature.specs.Lists.{any}
+use Rattle.signature.specs.Signature.{Signature}
+use Rattle.pattern.specs.Limits.{pattern-limit}
+use Rattle.pattern.specs.Pattern.{Pattern}
+use Rattle.pattern.specs.Weight.{weight, weight-plus, light-plus}
+use Rattle.pattern.specs.WellFormed.{PatternWords}
+use Rattle.row.specs.Admitted.{refusal-of-pattern}
+use Rattle.row.specs.Overlap.{shares}
+use Rattle.row.specs.Row.{rows-plus}
+use Rattle.cell.specs.Coded.{kinds-of}
+use Rattle.cell.specs.RowList.{list-code}
+use Rattle.builder.specs.Build.{row-room}
+use Rattle.loading.specs.Lists.{lists-for}
+use Rattle.loading.specs.declared.add.Step.{Step}
+use Rattle.loading.specs.declared.add.Step.the-variants.{Added, Unsound}
+
+-- "at most 64 rules weighing at most 256 in all"
+abbrev pub rules-limit : ℕ
+rules-limit = 64
+
+abbrev pub weights-limit : ℕ
+weights-limit = 256
+
+-- what the patterns weigh in all
+abbrev pub weights : Signature → List (List ℕ) → ℕ
+weights sig [] = 0
+weights sig (ws ∷ wss) = weight sig ws + weights sig wss
+
+-- a row has at most 64 cells of three words, and its number of words
+abbrev pub row-words : ℕ
+row-words = 1 + 3 * pattern-limit
+
+-- words of the lists of patterns of this weight: besides their rows, each has its number of words and its end
+abbrev pub lists-room : ℕ → ℕ → ℕ
+lists-room w n = w * row-words + 2 * n
+
+-- room for all rules of a table, and for one pattern more
+abbrev pub rows-room : ℕ
+rows-room = lists-room weights-limit rules-limit + 1 + row-room
+
+-- a pattern past 7 and 9, and room behind the words that are used
+pub record GivenPlace (t ws : List ℕ) (used n m : ℕ) : Type 0 where
+  pub known : Known t
+  pub p : Pattern
+  pub words : PatternWords (known .sig) ws p
+  pub light : light-plus p ≡ true
+  pub room : used + 1 + row-room ≤ n
+  pub work-room : row-room ≤ m
+
+-- the list of its rows stands there, behind its number of words
+pub record Placed (sig : Signature) (p : Pattern) (used r : ℕ) (rows rows′ : List ℕ) : Type 0 where
+  pub rest : List ℕ
+  pub code-is : rows′ ≡ take used rows ++ (length (list-code (kinds-of sig) 0 (rows-plus sig 0 p)) ∷ (list-code (kinds-of sig) 0 (rows-plus sig 0 p) ++ rest))
+  pub next : r ≡ used + 1 + length (list-code (kinds-of sig) 0 (rows-plus sig 0 p))
+  pub small : r ≤ used + 2 + weight-plus p * row-words
+
+-- the lists of the patterns so far stand first
+pub record GivenAdd (t : List ℕ) (n used total : ℕ) (rows : List ℕ) (m : ℕ) : Type 0 where
+  pub known : Known t
+  pub wss : List (List ℕ)
+  pub rest : List ℕ
+  pub code-is : rows ≡ lists-for (known .sig) wss ++ rest
+  pub used-is : used ≡ length (lists-for (known .sig) wss)
+  pub many : length wss ≡ n
+  pub few : n ≤ rules-limit
+  pub total-is : total ≡ weights (known .sig) wss
+  pub light : total ≤ weights-limit
+  pub small : used ≤ lists-room total n
+  pub room : rows-room ≤ length rows
+  pub work-room : row-room ≤ m
+
+-- a pattern that can go with these: past 7 to 10, not too heavy, and sharing no booking
+abbrev pub goes-with : Signature → List (List ℕ) → List ℕ → Bool
+goes-with sig wss ws = eqb (refusal-of-pattern sig ws) 0 && leb (weight sig ws + weights sig wss) weights-limit && not (any (λ us. shares sig us ws) wss)
+
+abbrev pub Stepped : Signature → List (List ℕ) → List ℕ → Step → List ℕ → Type 0
+Stepped sig wss ws Unsound rows = goes-with sig wss ws ≡ false
+Stepped sig wss ws (Added used total) rows = (goes-with sig wss ws ≡ true) × (total ≡ weight sig ws + weights sig wss) × (used ≡ length (lists-for sig (wss ++ (ws ∷ [])))) × ((rest : List ℕ) × (rows ≡ lists-for sig (wss ++ (ws ∷ [])) ++ rest)) × (used ≤ lists-room total (length (wss ++ (ws ∷ []))))

@@ -1,0 +1,53 @@
+// One rule more: the checks of its pattern, and its rows behind those of the rules before it.
+use crate::lists::some_shares;
+use admission::admit::Admission;
+use admission::admit::admit;
+use builder::build::build;
+ghost use lib.ListN.{length};
+ghost use Rattle.loading.specs.Add.{GivenPlace, Placed, GivenAdd, Stepped};
+
+// What the rules of a table may weigh in all.
+pub const WEIGHT: u16 = 256;
+
+// The words used and the weight, with the rule; or that no sound table has it.
+pub enum Step {
+    Added(usize, u16),
+    Unsound,
+}
+
+// The list of a pattern's rows, behind its number of words, from an index on; the index behind it.
+pub fn place(t: &[u16], p: &[u16], used: usize, rows: &mut [u64], work: &mut [u64]) -> usize
+    requires { ⌜ GivenPlace (now t) (now p) used (length (now rows)) (length (now work)) ⌝ }
+    ensures { λ r. ⌜ ((g : GivenPlace (now (t .entry)) (now (p .entry)) used (length (now (rows .entry))) (length (now (work .entry)))) → Placed (g .known .sig) (g .p) used r (now (rows .entry)) (now (rows .exit))) ⌝ }
+{
+    let at = used + 1;
+    let k = build(t, p, &mut rows[at..], work);
+    rows[used] = (k + 1) as u64;
+    at + k + 1
+}
+
+pub fn add(
+    t: &[u16],
+    p: &[u16],
+    n: u16,
+    used: usize,
+    weight: u16,
+    rows: &mut [u64],
+    work: &mut [u64],
+) -> Step
+    requires { ⌜ GivenAdd (now t) n used weight (now rows) (length (now work)) ⌝ }
+    ensures { λ r. ⌜ ((g : GivenAdd (now (t .entry)) n used weight (now (rows .entry)) (length (now (work .entry)))) → Stepped (g .known .sig) (g .wss) (now (p .entry)) r (now (rows .exit))) ⌝ }
+{
+    let Admission::Passed(w) = admit(t, p, &mut rows[used..], work) else {
+        return Step::Unsound;
+    };
+    let total = weight + w;
+    if WEIGHT < total {
+        return Step::Unsound;
+    }
+    let end = place(t, p, used, rows, work);
+    if some_shares(t, rows, n, used + 1) {
+        return Step::Unsound;
+    }
+    Step::Added(end, total)
+}
