@@ -11,21 +11,20 @@ use signature::decoded::count_of;
 use signature::decoded::first_of;
 use signature::set::full;
 use signature::set::without;
-ghost use Rattle.builder.specs.Arguments.{GivenArgs, MadeArgs};
-ghost use Rattle.pattern.specs.Pattern.{patterns-code};
+ghost use mathlib.Core.Path.{_≡_};
+ghost use mathlib.Core.List.{[], _∷_};
+ghost use Prim.Native.Nat.{ℕ, _+_, _-_, _≤_, _<_};
 ghost use lib.Dec.{ltb};
+ghost use lib.ListN.{length};
 ghost use Rattle.signature.specs.Decoded.{decoded-length, count-of, first-of};
 ghost use Rattle.signature.specs.Limits.{kind-limit};
 ghost use Rattle.signature.specs.Set.{set-limit, bit, bit-if};
-ghost use mathlib.Core.Path.{_≡_};
-ghost use Prim.Native.Nat.{ℕ, _+_, _-_, _≤_, _<_};
-ghost use lib.ListN.{length};
-ghost use Rattle.cell.specs.RowList.{entries};
-ghost use mathlib.Core.List.{[], _∷_};
-ghost use Rattle.cell.specs.RowList.{from};
+ghost use Rattle.pattern.specs.Pattern.{patterns-code};
 ghost use Rattle.cell.specs.Coded.{kinds-of};
-ghost use Rattle.builder.specs.Build.{multiplies, vars-of, leaf-entries, GivenPat, GivenHead, Made, GivenWhole, RowsFirst};
+ghost use Rattle.cell.specs.RowList.{entries, from};
 ghost use Rattle.rowlist.specs.Product.{GivenProduct, Product, products};
+ghost use Rattle.builder.specs.Arguments.{GivenArgs, MadeArgs};
+ghost use Rattle.builder.specs.Build.{multiplies, vars-of, leaf-entries, GivenPat, GivenHead, Made, GivenWhole, RowsFirst};
 
 // The words of the connectives, of the wildcard and of absurd.
 const AND: u16 = 256;
@@ -149,25 +148,21 @@ pub fn rows(
     let w = p[0];
     if w == NOT {
         let a = rows(t, tag, full, &p[1..], !plus, out, work);
-        return Built {
-            used: a.used,
-            read: a.read + 1,
-        };
+        let read = a.read + 1;
+        return Built { used: a.used, read };
     }
     if w >= WILD {
-        let n = leaf(w, plus, tag, full, out);
-        return Built { used: n, read: 1 };
+        let used = leaf(w, plus, tag, full, out);
+        return Built { used, read: 1 };
     }
     if is_product(w, plus) {
         let a = rows(t, tag, full, &p[1..], plus, work, out);
         let from = a.read + 1;
         let at = a.used + 1;
         let b = rows(t, tag, full, &p[from..], plus, &mut work[at..], out);
-        let n = times(t, work, at, out);
-        return Built {
-            used: n,
-            read: from + b.read,
-        };
+        let used = times(t, work, at, out);
+        let read = from + b.read;
+        return Built { used, read };
     }
     if w < AND {
         return head_rows(t, tag, full, p, plus, out, work);
@@ -176,10 +171,9 @@ pub fn rows(
     let from = a.read + 1;
     let at = a.used;
     let b = rows(t, tag, full, &p[from..], plus, &mut out[at..], work);
-    Built {
-        used: at + b.used,
-        read: from + b.read,
-    }
+    let used = at + b.used;
+    let read = from + b.read;
+    Built { used, read }
 }
 
 // The rows of the constructor in front of p.
@@ -235,10 +229,8 @@ fn args(
     let n = next_rows(plus, tag, set, work, at, out);
     let from = a.read;
     let b = args(t, c, j + 1, &p[from..], plus, n, out, work);
-    Built {
-        used: b.used,
-        read: from + b.read,
-    }
+    let read = from + b.read;
+    Built { used: b.used, read }
 }
 
 // The rows of a whole pattern: their list first in out, of so many words without its end.
