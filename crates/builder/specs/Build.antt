@@ -63,6 +63,18 @@ pub record GivenHead (t : List ℕ) (tag full : ℕ) (w : List ℕ) (b : Bool) (
   pub pat : GivenPat t tag full w b n m
   pub small : getD w 0 0 < 256
 
+-- the pattern in front is two parts whose rows are multiplied
+pub record GivenMultiplied (t : List ℕ) (tag full : ℕ) (w : List ℕ) (b : Bool) (n m : ℕ) : Type 0 where
+  pub pat : GivenPat t tag full w b n m
+  pub word : multiplies (getD w 0 0) b ≡ true
+
+-- the pattern in front is two parts whose rows are added
+pub record GivenAdded (t : List ℕ) (tag full : ℕ) (w : List ℕ) (b : Bool) (n m : ℕ) : Type 0 where
+  pub pat : GivenPat t tag full w b n m
+  pub word : multiplies (getD w 0 0) b ≡ false
+  pub low : 256 ≤ getD w 0 0
+  pub high : getD w 0 0 < 258
+
 -- what was read and written
 pub record Made (K : Kinds) (sig : Signature) (k : ℕ) (b : Bool) (p : Pattern) (used read : ℕ) (o : List ℕ) : Type 0 where
   pub read-is : read ≡ length (pattern-code p)

@@ -24,7 +24,7 @@ ghost use Rattle.cell.specs.Coded.{kinds-of};
 ghost use Rattle.cell.specs.RowList.{entries, from};
 ghost use Rattle.rowlist.specs.Product.{GivenProduct, Product, products};
 ghost use Rattle.builder.specs.Arguments.{GivenArgs, MadeArgs};
-ghost use Rattle.builder.specs.Build.{multiplies, vars-of, leaf-entries, GivenPat, GivenHead, Made, GivenWhole, RowsFirst};
+ghost use Rattle.builder.specs.Build.{multiplies, vars-of, leaf-entries, GivenPat, GivenHead, GivenMultiplied, GivenAdded, Made, GivenWhole, RowsFirst};
 
 // The words of the connectives, of the wildcard and of absurd.
 const AND: u16 = 256;
@@ -155,18 +155,50 @@ pub fn rows(
         let used = leaf(w, plus, tag, full, out);
         return Built { used, read: 1 };
     }
-    if is_product(w, plus) {
-        let a = rows(t, tag, full, &p[1..], plus, work, out);
-        let from = a.read + 1;
-        let at = a.used + 1;
-        let b = rows(t, tag, full, &p[from..], plus, &mut work[at..], out);
-        let used = times(t, work, at, out);
-        let read = from + b.read;
-        return Built { used, read };
-    }
     if w < AND {
         return head_rows(t, tag, full, p, plus, out, work);
     }
+    if is_product(w, plus) {
+        return multiplied(t, tag, full, p, plus, out, work);
+    }
+    added(t, tag, full, p, plus, out, work)
+}
+
+// The rows of two parts that are multiplied: both lists in the workspace, the second behind the first.
+fn multiplied(
+    t: &[u16],
+    tag: u64,
+    full: u64,
+    p: &[u16],
+    plus: bool,
+    out: &mut [u64],
+    work: &mut [u64],
+) -> Built
+    requires { ⌜ GivenMultiplied (now t) tag full (now p) plus (length (now out)) (length (now work)) ⌝ }
+    ensures { λ r. ⌜ ((g : GivenMultiplied (now (t .entry)) tag full (now (p .entry)) plus (length (now (out .entry))) (length (now (work .entry)))) → Made (kinds-of (g .pat .known .sig)) (g .pat .known .sig) (g .pat .k) plus (g .pat .p) (r .used) (r .read) (now (out .exit))) ⌝ }
+{
+    let a = rows(t, tag, full, &p[1..], plus, work, out);
+    let from = a.read + 1;
+    let at = a.used + 1;
+    let b = rows(t, tag, full, &p[from..], plus, &mut work[at..], out);
+    let used = times(t, work, at, out);
+    let read = from + b.read;
+    Built { used, read }
+}
+
+// The rows of two parts that are added: the second list behind the first.
+fn added(
+    t: &[u16],
+    tag: u64,
+    full: u64,
+    p: &[u16],
+    plus: bool,
+    out: &mut [u64],
+    work: &mut [u64],
+) -> Built
+    requires { ⌜ GivenAdded (now t) tag full (now p) plus (length (now out)) (length (now work)) ⌝ }
+    ensures { λ r. ⌜ ((g : GivenAdded (now (t .entry)) tag full (now (p .entry)) plus (length (now (out .entry))) (length (now (work .entry)))) → Made (kinds-of (g .pat .known .sig)) (g .pat .known .sig) (g .pat .k) plus (g .pat .p) (r .used) (r .read) (now (out .exit))) ⌝ }
+{
     let a = rows(t, tag, full, &p[1..], plus, out, work);
     let from = a.read + 1;
     let at = a.used;

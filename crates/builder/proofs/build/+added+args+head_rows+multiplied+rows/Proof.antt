@@ -1,10 +1,12 @@
--- The proof of the cycle of calls {args, head_rows, rows}. The measure is three times the number of unread words, and which of the three is called. Assumes nothing.
+-- The proof of the cycle of calls {added, args, head_rows, multiplied, rows}. The measure is three times the number of unread words, and which of them is called. Assumes nothing.
 use mathlib.Core.Path.{_≡_, refl, sym, _∙_}
 use Prim.Native.Nat.{ℕ, _+_, _*_, _^_, _<_}
 use native.Mathlib.Nat.{one-mul}
 use native.Mathlib.Omega.{arith}
 use lib.ListN.{length, length-take, length-drop}
 use lib.Pow.{shl-exact}
+use borrow.Fn.Kinds.{In}
+use borrow.Fn.PlainCycle.{Measures, is, falls, and}
 use Rattle.signature.proofs.KnownFacts.{long, few-constructors, few-arguments}
 use Rattle.cell.proofs.Walk.{back-length}
 use Rattle.builder.proofs.ArgSteps.{args-end, args-count}
@@ -12,17 +14,21 @@ use Rattle.builder.proofs.ArgCalls.{arg-kind, few-of-kind, begun-fits, 
 use Rattle.builder.proofs.ArgTurn.{next-given, rest-given, args-made, args-read}
 use Rattle.builder.proofs.HeadRows.{head-place, head-room, args-given, head-read, plus-made, others-given, minus-made}
 use Rattle.builder.proofs.Parts.{some-word, neg-given, neg-made, leaf-given, leaf-made, mult-first, mult-bounds, mult-second, mult-read, mult-at, mult-lists, mult-made, add-first, add-bounds, add-second, add-read, add-made}
-use borrow.Fn.Kinds.{In}
-use borrow.Fn.PlainCycle.{Measures, is, falls, and}
+use Rattle.builder.proofs.build.added.Reads as added
+use Rattle.builder.proofs.build.added.Kinds as added-kinds
+use Rattle.builder.proofs.build.+added+args+head_rows+multiplied+rows.Lts-added as added-lts
 use Rattle.builder.proofs.build.args.Reads as args
 use Rattle.builder.proofs.build.args.Kinds as args-kinds
-use Rattle.builder.proofs.build.+args+head_rows+rows.Lts-args as args-lts
+use Rattle.builder.proofs.build.+added+args+head_rows+multiplied+rows.Lts-args as args-lts
 use Rattle.builder.proofs.build.head_rows.Reads as head-rows
 use Rattle.builder.proofs.build.head_rows.Kinds as head-rows-kinds
-use Rattle.builder.proofs.build.+args+head_rows+rows.Lts-head_rows as head-rows-lts
+use Rattle.builder.proofs.build.+added+args+head_rows+multiplied+rows.Lts-head_rows as head-rows-lts
+use Rattle.builder.proofs.build.multiplied.Reads as multiplied
+use Rattle.builder.proofs.build.multiplied.Kinds as multiplied-kinds
+use Rattle.builder.proofs.build.+added+args+head_rows+multiplied+rows.Lts-multiplied as multiplied-lts
 use Rattle.builder.proofs.build.rows.Reads as rows
 use Rattle.builder.proofs.build.rows.Kinds as rows-kinds
-use Rattle.builder.proofs.build.+args+head_rows+rows.Lts-rows as rows-lts
+use Rattle.builder.proofs.build.+added+args+head_rows+multiplied+rows.Lts-rows as rows-lts
 use Rattle.builder.proofs.build.full_of.Reads as full-of-reads
 use Rattle.builder.proofs.build.is_product.Reads as is-product-reads
 use Rattle.builder.proofs.build.leaf.Reads as leaf-reads
@@ -35,8 +41,11 @@ use Rattle.rowlist.proofs.next.others.Reads as others-reads
 use Rattle.signature.proofs.decoded.argument_of.Reads as argument-of-reads
 use Rattle.signature.proofs.decoded.arity_of.Reads as arity-of-reads
 use Rattle.signature.proofs.set.without.Reads as without-reads
-use Rattle.builder.proofs.build.+args+head_rows+rows.{statement}
-use Rattle.builder.proofs.build.+args+head_rows+rows.Tie.{close}
+use Rattle.builder.proofs.build.+added+args+head_rows+multiplied+rows.{statement}
+use Rattle.builder.proofs.build.+added+args+head_rows+multiplied+rows.Tie.{close}
+
+abbrev μ-added : Measures 4 added-kinds.ps ℕ
+μ-added κs a = 3 * length (a .1 .1 .1 .0 .now)
 
 abbrev μ-args : Measures 4 args-kinds.ps ℕ
 μ-args κs a = 3 * length (a .1 .1 .1 .0 .now) + 2
@@ -44,8 +53,17 @@ abbrev μ-args : Measures 4 args-kinds.ps ℕ
 abbrev μ-head-rows : Measures 4 head-rows-kinds.ps ℕ
 μ-head-rows κs a = 3 * length (a .1 .1 .1 .0 .now)
 
+abbrev μ-multiplied : Measures 4 multiplied-kinds.ps ℕ
+μ-multiplied κs a = 3 * length (a .1 .1 .1 .0 .now)
+
 abbrev μ-rows : Measures 4 rows-kinds.ps ℕ
 μ-rows κs a = 3 * length (a .1 .1 .1 .0 .now) + 1
+
+abbrev added-at : ℕ → In 4 added-kinds.ps
+added-at t = and 4 added-kinds.ps (is 4 added-kinds.ps μ-added t) added.Pre
+
+abbrev added-below : ℕ → In 4 added-kinds.ps
+added-below t = and 4 added-kinds.ps (falls 4 added-kinds.ps _<_ μ-added t) added.Pre
 
 abbrev args-at : ℕ → In 4 args-kinds.ps
 args-at t = and 4 args-kinds.ps (is 4 args-kinds.ps μ-args t) args.Pre
@@ -57,8 +75,13 @@ abbrev head-rows-at : ℕ → In 4 head-rows-kinds.ps
 head-rows-at t = and 4 head-rows-kinds.ps (is 4 head-rows-kinds.ps μ-head-rows t) head-rows.Pre
 
 abbrev head-rows-below : ℕ → In 4 head-rows-kinds.ps
-head-rows-below t =
-    and 4 head-rows-kinds.ps (falls 4 head-rows-kinds.ps _<_ μ-head-rows t) head-rows.Pre
+head-rows-below t = and 4 head-rows-kinds.ps (falls 4 head-rows-kinds.ps _<_ μ-head-rows t) head-rows.Pre
+
+abbrev multiplied-at : ℕ → In 4 multiplied-kinds.ps
+multiplied-at t = and 4 multiplied-kinds.ps (is 4 multiplied-kinds.ps μ-multiplied t) multiplied.Pre
+
+abbrev multiplied-below : ℕ → In 4 multiplied-kinds.ps
+multiplied-below t = and 4 multiplied-kinds.ps (falls 4 multiplied-kinds.ps _<_ μ-multiplied t) multiplied.Pre
 
 abbrev rows-at : ℕ → In 4 rows-kinds.ps
 rows-at t = and 4 rows-kinds.ps (is 4 rows-kinds.ps μ-rows t) rows.Pre
@@ -66,23 +89,39 @@ rows-at t = and 4 rows-kinds.ps (is 4 rows-kinds.ps μ-rows t) rows.Pre
 abbrev rows-below : ℕ → In 4 rows-kinds.ps
 rows-below t = and 4 rows-kinds.ps (falls 4 rows-kinds.ps _<_ μ-rows t) rows.Pre
 
-pub +args+head-rows+rows-spec : {M : Type 1} → statement M
-+args+head-rows+rows-spec = close μ-args μ-head-rows μ-rows (λ t. args-lts.spec (
-  arity-of-reads.Asked,
-  arity-of-reads.Learnt,
-  argument-of-reads.Asked,
-  argument-of-reads.Learnt,
-  full-of-reads.Asked,
-  full-of-reads.Learnt,
-  copy-reads.Asked,
-  copy-reads.Learnt,
-  rows-below t,
-  rows.Post,
-  next-rows-reads.Asked,
-  next-rows-reads.Learnt,
-  args-below t,
-  args.Post,
-)
+pub +added+args+head-rows+multiplied+rows-spec : {M : Type 1} → statement M
++added+args+head-rows+multiplied+rows-spec =
+    close
+    μ-added
+    μ-args
+    μ-head-rows
+    μ-multiplied
+    μ-rows
+    (λ t. added-lts.spec
+    (rows-below t, rows.Post)
+    (added-at t)
+    added.Post
+    (λ c. some-word (c .before .before .before .before .pre .1 .pat))
+    (λ c. some-word (c .before .before .before .before .pre .1 .pat))
+    (λ c. omega arith)
+    (λ c κs. (simp (length-take, length-drop) (omega (arith, c .before .before .before .before .before .before .before .pre .0, some-word (c .before .before .before .before .before .before .before .pre .1 .pat))), add-first (c .before .before .before .before .before .before .before .pre .1 .pat) (c .before .before .before .before .before .before .before .pre .1 .word) (c .before .before .before .before .before .before .before .pre .1 .low) (c .before .before .before .before .before .before .before .pre .1 .high)))
+    (λ c. omega (arith, add-bounds (c .before .before .before .before .before .before .before .before .before .before .before .before .before .pre .1 .pat) (c .before .before .before .before .before .before .before .before .before .before .before .before .before .pre .1 .word) (c .before .before .before .before .before .before .before .before .before .before .before .before .before .pre .1 .low) (c .before .before .before .before .before .before .before .before .before .before .before .before .before .pre .1 .high) (c .before .before .before .before .before .rows .result .used) (c .before .before .before .before .before .rows .result .read) (c .before .before .before .before .before .rows .last .1 .1 .1 .1 .1 .0) (c .before .before .before .before .before .rows .ensures) .0, c .before .before .before .before .before .before .before .before .before .before .before .before .before .good))
+    (λ c. omega (arith, add-bounds (c .before .before .before .before .before .before .before .before .before .before .before .before .before .pre .1 .pat) (c .before .before .before .before .before .before .before .before .before .before .before .before .before .pre .1 .word) (c .before .before .before .before .before .before .before .before .before .before .before .before .before .pre .1 .low) (c .before .before .before .before .before .before .before .before .before .before .before .before .before .pre .1 .high) (c .before .before .before .before .before .rows .result .used) (c .before .before .before .before .before .rows .result .read) (c .before .before .before .before .before .rows .last .1 .1 .1 .1 .1 .0) (c .before .before .before .before .before .rows .ensures) .0, c .before .before .before .before .before .before .before .before .before .before .before .before .before .good))
+    (λ c. omega (arith, add-bounds (c .before .before .before .before .before .before .before .before .before .before .before .before .before .pre .1 .pat) (c .before .before .before .before .before .before .before .before .before .before .before .before .before .pre .1 .word) (c .before .before .before .before .before .before .before .before .before .before .before .before .before .pre .1 .low) (c .before .before .before .before .before .before .before .before .before .before .before .before .before .pre .1 .high) (c .before .before .before .before .before .rows .result .used) (c .before .before .before .before .before .rows .result .read) (c .before .before .before .before .before .rows .last .1 .1 .1 .1 .1 .0) (c .before .before .before .before .before .rows .ensures) .0))
+    (λ c. omega (arith, add-bounds (c .before .before .before .before .before .before .before .before .before .before .before .before .before .pre .1 .pat) (c .before .before .before .before .before .before .before .before .before .before .before .before .before .pre .1 .word) (c .before .before .before .before .before .before .before .before .before .before .before .before .before .pre .1 .low) (c .before .before .before .before .before .before .before .before .before .before .before .before .before .pre .1 .high) (c .before .before .before .before .before .rows .result .used) (c .before .before .before .before .before .rows .result .read) (c .before .before .before .before .before .rows .last .1 .1 .1 .1 .1 .0) (c .before .before .before .before .before .rows .ensures) .0))
+    (λ c. omega arith)
+    (λ c. omega (arith, add-bounds (c .before .before .before .before .before .before .before .before .before .before .before .before .before .before .pre .1 .pat) (c .before .before .before .before .before .before .before .before .before .before .before .before .before .before .pre .1 .word) (c .before .before .before .before .before .before .before .before .before .before .before .before .before .before .pre .1 .low) (c .before .before .before .before .before .before .before .before .before .before .before .before .before .before .pre .1 .high) (c .before .before .before .before .before .before .rows .result .used) (c .before .before .before .before .before .before .rows .result .read) (c .before .before .before .before .before .before .rows .last .1 .1 .1 .1 .1 .0) (c .before .before .before .before .before .before .rows .ensures) .1, c .before .before .before .before .before .before .rows .kept .1 .1 .1 .1 .1 .0, c .before .before .before .before .before .before .before .before .before .before .before .before .before .before .good))
+    (λ c. omega (arith, add-bounds (c .before .before .before .before .before .before .before .before .before .before .before .before .before .before .pre .1 .pat) (c .before .before .before .before .before .before .before .before .before .before .before .before .before .before .pre .1 .word) (c .before .before .before .before .before .before .before .before .before .before .before .before .before .before .pre .1 .low) (c .before .before .before .before .before .before .before .before .before .before .before .before .before .before .pre .1 .high) (c .before .before .before .before .before .before .rows .result .used) (c .before .before .before .before .before .before .rows .result .read) (c .before .before .before .before .before .before .rows .last .1 .1 .1 .1 .1 .0) (c .before .before .before .before .before .before .rows .ensures) .1))
+    (λ c. omega (arith, add-bounds (c .before .before .before .before .before .before .before .before .before .before .before .before .before .before .pre .1 .pat) (c .before .before .before .before .before .before .before .before .before .before .before .before .before .before .pre .1 .word) (c .before .before .before .before .before .before .before .before .before .before .before .before .before .before .pre .1 .low) (c .before .before .before .before .before .before .before .before .before .before .before .before .before .before .pre .1 .high) (c .before .before .before .before .before .before .rows .result .used) (c .before .before .before .before .before .before .rows .result .read) (c .before .before .before .before .before .before .rows .last .1 .1 .1 .1 .1 .0) (c .before .before .before .before .before .before .rows .ensures) .1))
+    (λ c. omega arith)
+    (λ c κs. (simp (length-take, length-drop) (omega (arith, c .before .before .before .before .before .before .before .before .before .before .before .before .before .before .before .before .pre .0, some-word (c .before .before .before .before .before .before .before .before .before .before .before .before .before .before .before .before .pre .1 .pat), add-bounds (c .before .before .before .before .before .before .before .before .before .before .before .before .before .before .before .before .pre .1 .pat) (c .before .before .before .before .before .before .before .before .before .before .before .before .before .before .before .before .pre .1 .word) (c .before .before .before .before .before .before .before .before .before .before .before .before .before .before .before .before .pre .1 .low) (c .before .before .before .before .before .before .before .before .before .before .before .before .before .before .before .before .pre .1 .high) (c .before .before .before .before .before .before .before .before .rows .result .used) (c .before .before .before .before .before .before .before .before .rows .result .read) (c .before .before .before .before .before .before .before .before .rows .last .1 .1 .1 .1 .1 .0) (c .before .before .before .before .before .before .before .before .rows .ensures) .0)), add-second (c .before .before .before .before .before .before .before .before .before .before .before .before .before .before .before .before .pre .1 .pat) (c .before .before .before .before .before .before .before .before .before .before .before .before .before .before .before .before .pre .1 .word) (c .before .before .before .before .before .before .before .before .before .before .before .before .before .before .before .before .pre .1 .low) (c .before .before .before .before .before .before .before .before .before .before .before .before .before .before .before .before .pre .1 .high) (c .before .before .before .before .before .before .before .before .rows .result .used) (c .before .before .before .before .before .before .before .before .rows .result .read) (c .before .before .before .before .before .before .before .before .rows .last .1 .1 .1 .1 .1 .0) (c .before .before .before .before .before .before .before .before .rows .ensures) _ _ (c .before .before .before .before .before .before .before .before .rows .kept .1 .1 .1 .1 .1 .0) (c .before .before .before .before .before .before .before .before .rows .kept .1 .1 .1 .1 .1 .1 .0) refl))
+    (λ c. omega (arith, add-read (c .before .before .before .before .before .before .before .before .before .before .before .before .before .before .before .before .before .before .before .before .before .before .pre .1 .pat) (c .before .before .before .before .before .before .before .before .before .before .before .before .before .before .before .before .before .before .before .before .before .before .pre .1 .word) (c .before .before .before .before .before .before .before .before .before .before .before .before .before .before .before .before .before .before .before .before .before .before .pre .1 .low) (c .before .before .before .before .before .before .before .before .before .before .before .before .before .before .before .before .before .before .before .before .before .before .pre .1 .high) (c .before .before .before .before .before .before .before .before .before .before .before .before .before .before .rows .result .used) (c .before .before .before .before .before .before .before .before .before .before .before .before .before .before .rows .result .read) (c .before .before .before .before .before .before .before .before .before .before .before .before .before .before .rows .last .1 .1 .1 .1 .1 .0) (c .before .before .before .before .before .before .before .before .before .before .before .before .before .before .rows .ensures) _ _ (c .before .before .before .before .before .rows2 .result .used) (c .before .before .before .before .before .rows2 .result .read) (c .before .before .before .before .before .before .before .before .before .before .before .before .before .before .rows .kept .1 .1 .1 .1 .1 .0) (c .before .before .before .before .before .before .before .before .before .before .before .before .before .before .rows .kept .1 .1 .1 .1 .1 .1 .0) refl (c .before .before .before .before .before .rows2 .last .1 .1 .1 .1 .1 .0) (c .before .before .before .before .before .rows2 .ensures) (c .before .before .before .before .before .rows2 .kept .1 .1 .1 .1 .1 .0) .1, c .before .before .before .before .before .before .before .before .before .before .before .before .before .before .rows .kept .1 .1 .1 .1 .1 .0, c .before .before .before .before .before .before .before .before .before .before .before .before .before .before .before .before .before .before .before .before .before .before .good))
+    (λ c. omega (arith, add-read (c .before .before .before .before .before .before .before .before .before .before .before .before .before .before .before .before .before .before .before .before .before .before .before .pre .1 .pat) (c .before .before .before .before .before .before .before .before .before .before .before .before .before .before .before .before .before .before .before .before .before .before .before .pre .1 .word) (c .before .before .before .before .before .before .before .before .before .before .before .before .before .before .before .before .before .before .before .before .before .before .before .pre .1 .low) (c .before .before .before .before .before .before .before .before .before .before .before .before .before .before .before .before .before .before .before .before .before .before .before .pre .1 .high) (c .before .before .before .before .before .before .before .before .before .before .before .before .before .before .before .rows .result .used) (c .before .before .before .before .before .before .before .before .before .before .before .before .before .before .before .rows .result .read) (c .before .before .before .before .before .before .before .before .before .before .before .before .before .before .before .rows .last .1 .1 .1 .1 .1 .0) (c .before .before .before .before .before .before .before .before .before .before .before .before .before .before .before .rows .ensures) _ _ (c .before .before .before .before .before .before .rows2 .result .used) (c .before .before .before .before .before .before .rows2 .result .read) (c .before .before .before .before .before .before .before .before .before .before .before .before .before .before .before .rows .kept .1 .1 .1 .1 .1 .0) (c .before .before .before .before .before .before .before .before .before .before .before .before .before .before .before .rows .kept .1 .1 .1 .1 .1 .1 .0) refl (c .before .before .before .before .before .before .rows2 .last .1 .1 .1 .1 .1 .0) (c .before .before .before .before .before .before .rows2 .ensures) (c .before .before .before .before .before .before .rows2 .kept .1 .1 .1 .1 .1 .0) .0, c .before .before .before .before .before .before .before .before .before .before .before .before .before .before .before .before .before .before .before .before .before .before .before .good))
+    (λ c. back-length (c .before .before .before .before .before .before .before .before .before .before .before .before .before .before .before .rows .last .1 .1 .1 .1 .1 .0) (c .before .before .before .before .before .before .rows2 .last .1 .1 .1 .1 .1 .0) (c .before .before .before .before .before .before .before .before .before .before .before .before .before .before .before .rows .result .used) (omega (arith, add-bounds (c .before .before .before .before .before .before .before .before .before .before .before .before .before .before .before .before .before .before .before .before .before .before .before .pre .1 .pat) (c .before .before .before .before .before .before .before .before .before .before .before .before .before .before .before .before .before .before .before .before .before .before .before .pre .1 .word) (c .before .before .before .before .before .before .before .before .before .before .before .before .before .before .before .before .before .before .before .before .before .before .before .pre .1 .low) (c .before .before .before .before .before .before .before .before .before .before .before .before .before .before .before .before .before .before .before .before .before .before .before .pre .1 .high) (c .before .before .before .before .before .before .before .before .before .before .before .before .before .before .before .rows .result .used) (c .before .before .before .before .before .before .before .before .before .before .before .before .before .before .before .rows .result .read) (c .before .before .before .before .before .before .before .before .before .before .before .before .before .before .before .rows .last .1 .1 .1 .1 .1 .0) (c .before .before .before .before .before .before .before .before .before .before .before .before .before .before .before .rows .ensures) .1)) (c .before .before .before .before .before .before .rows2 .kept .1 .1 .1 .1 .1 .0) ∙ c .before .before .before .before .before .before .before .before .before .before .before .before .before .before .before .rows .kept .1 .1 .1 .1 .1 .0)
+    (λ c. c .before .before .before .before .before .before .rows2 .kept .1 .1 .1 .1 .1 .1 .0 ∙ c .before .before .before .before .before .before .before .before .before .before .before .before .before .before .before .rows .kept .1 .1 .1 .1 .1 .1 .0)
+    (λ c g. add-made (g .pat) (g .word) (g .low) (g .high) (c .before .before .before .before .before .before .before .before .before .before .before .before .before .before .before .rows .result .used) (c .before .before .before .before .before .before .before .before .before .before .before .before .before .before .before .rows .result .read) (c .before .before .before .before .before .before .before .before .before .before .before .before .before .before .before .rows .last .1 .1 .1 .1 .1 .0) (c .before .before .before .before .before .before .before .before .before .before .before .before .before .before .before .rows .ensures) _ _ (c .before .before .before .before .before .before .rows2 .result .used) (c .before .before .before .before .before .before .rows2 .result .read) (c .before .before .before .before .before .before .before .before .before .before .before .before .before .before .before .rows .kept .1 .1 .1 .1 .1 .0) (c .before .before .before .before .before .before .before .before .before .before .before .before .before .before .before .rows .kept .1 .1 .1 .1 .1 .1 .0) refl (c .before .before .before .before .before .before .rows2 .last .1 .1 .1 .1 .1 .0) (c .before .before .before .before .before .before .rows2 .ensures) (c .before .before .before .before .before .before .rows2 .kept .1 .1 .1 .1 .1 .0)))
+    (λ t. args-lts.spec
+    (arity-of-reads.Asked, arity-of-reads.Learnt, argument-of-reads.Asked, argument-of-reads.Learnt, full-of-reads.Asked, full-of-reads.Learnt, copy-reads.Asked, copy-reads.Learnt, rows-below t, rows.Post, next-rows-reads.Asked, next-rows-reads.Learnt, args-below t, args.Post)
     (args-at t)
     args.Post
     (λ c κs. (long (c .before .before .before .before .pre .1 .known), omega (arith, c .before .before .before .before .pre .1 .head, few-constructors (c .before .before .before .before .pre .1 .known))))
@@ -110,18 +149,8 @@ pub +args+head-rows+rows-spec : {M : Type 1} → statement M
     (λ c. omega arith)
     (λ c. omega arith)
     (λ c g. args-made g (omega (arith, c .before .before .before .before .before .before .before .before .before .before .before .before .before .before .before .before .before .before .before .before .before .before .before .before .before .before .before .before .if1 .left, c .before .before .before .before .before .before .before .before .before .before .before .before .before .before .before .before .before .before .before .before .before .before .before .before .before .before .before .before .before .arity-of .ensures)) (c .before .before .before .before .before .before .before .before .before .before .before .before .before .before .before .before .before .before .before .before .before .before .before .before .before .before .before .argument-of .result) (c .before .before .before .before .before .before .before .before .before .before .before .before .before .before .before .before .before .before .before .before .before .before .before .before .before .before .before .argument-of .ensures) (c .before .before .before .before .before .before .before .before .before .before .before .before .before .before .before .before .before .before .before .before .before .before .before .before .before .before .full-of .result) (c .before .before .before .before .before .before .before .before .before .before .before .before .before .before .before .before .before .before .before .before .before .before .before .before .before .before .full-of .ensures) _ _ (c .before .before .before .before .before .before .before .before .before .before .before .before .before .before .before .before .before .before .rows .result .used) (c .before .before .before .before .before .before .before .before .before .before .before .before .before .before .before .before .before .before .rows .result .read) (simp (length-take, length-drop) (omega (arith, c .before .before .before .before .before .before .before .before .before .before .before .before .before .before .before .before .before .before .before .before .before .before .before .copy .kept .1 .1 .0))) refl (c .before .before .before .before .before .before .before .before .before .before .before .before .before .before .before .before .before .before .rows .last .1 .1 .1 .1 .1 .0) (c .before .before .before .before .before .before .before .before .before .before .before .before .before .before .before .before .before .before .rows .ensures) (c .before .before .before .before .before .before .before .before .before .before .before .before .before .before .before .before .before .before .before .before .before .before .before .copy .last .1 .1 .0) (c .before .before .before .before .before .before .before .before .before .before .before .before .before .before .before .before .before .before .before .before .before .before .before .copy .ensures) (c .before .before .before .before .before .before .before .before .before .before .before .before .before .before .before .before .before .before .before .before .before .before .before .copy .kept .1 .1 .0) _ (c .before .before .before .before .before .before .before .before .before .before .before .next-rows .result) (c .before .before .before .before .before .before .before .before .before .before .before .before .before .before .before .before .before .before .rows .kept .1 .1 .1 .1 .1 .1 .0) (c .before .before .before .before .before .before .before .before .before .before .before .next-rows .last .1 .1 .1 .1 .1 .0) (c .before .before .before .before .before .before .before .before .before .before .before .next-rows .kept .1 .1 .1 .1 .1 .0 ∙ c .before .before .before .before .before .before .before .before .before .before .before .before .before .before .before .before .before .before .rows .kept .1 .1 .1 .1 .1 .1 .0) (c .before .before .before .before .before .before .before .before .before .before .before .next-rows .ensures) _ (c .before .before .before .before .before .args2 .result .used) (c .before .before .before .before .before .args2 .result .read) (back-length (c .before .before .before .before .before .before .before .before .before .before .before .before .before .before .before .before .before .before .before .before .before .before .before .copy .last .1 .1 .0) (c .before .before .before .before .before .before .before .before .before .before .before .before .before .before .before .before .before .before .rows .last .1 .1 .1 .1 .1 .0) (c .before .before .before .before .before .before .before .before .before .before .before .before .before .before .before .before .before .before .before .before .before .before .before .before .before .before .before .before .before .before .before .before .before .before .args .used + 1) (omega (arith, begun-fits g (omega (arith, c .before .before .before .before .before .before .before .before .before .before .before .before .before .before .before .before .before .before .before .before .before .before .before .before .before .before .before .before .if1 .left, c .before .before .before .before .before .before .before .before .before .before .before .before .before .before .before .before .before .before .before .before .before .before .before .before .before .before .before .before .before .arity-of .ensures)) (c .before .before .before .before .before .before .before .before .before .before .before .before .before .before .before .before .before .before .before .before .before .before .before .before .before .before .before .argument-of .result) (c .before .before .before .before .before .before .before .before .before .before .before .before .before .before .before .before .before .before .before .before .before .before .before .before .before .before .before .argument-of .ensures) .1, c .before .before .before .before .before .before .before .before .before .before .before .before .before .before .before .before .before .before .before .before .before .before .before .copy .kept .1 .1 .0)) (c .before .before .before .before .before .before .before .before .before .before .before .before .before .before .before .before .before .before .rows .kept .1 .1 .1 .1 .1 .0) ∙ c .before .before .before .before .before .before .before .before .before .before .before .before .before .before .before .before .before .before .before .before .before .before .before .copy .kept .1 .1 .0) (c .before .before .before .before .before .args2 .last .1 .1 .1 .1 .1 .1 .0) (c .before .before .before .before .before .args2 .ensures)))
-    (λ t. head-rows-lts.spec (
-      place-of-reads.Asked,
-      place-of-reads.Learnt,
-      one-reads.Asked,
-      one-reads.Learnt,
-      args-below t,
-      args.Post,
-      without-reads.Asked,
-      without-reads.Learnt,
-      others-reads.Asked,
-      others-reads.Learnt,
-    )
+    (λ t. head-rows-lts.spec
+    (place-of-reads.Asked, place-of-reads.Learnt, one-reads.Asked, one-reads.Learnt, args-below t, args.Post, without-reads.Asked, without-reads.Learnt, others-reads.Asked, others-reads.Learnt)
     (head-rows-at t)
     head-rows.Post
     (λ c. some-word (c .before .before .before .before .before .pre .1 .pat))
@@ -144,18 +173,32 @@ pub +args+head-rows+rows-spec : {M : Type 1} → statement M
     (λ c. omega arith)
     (λ c. omega arith)
     (λ c g. minus-made g (c .before .before .before .before .before .before .before .before .before .before .before .before .before .before .before .before .before .before .before .before .before .before .place-of .result) _ (c .before .before .before .before .before .before .before .before .before .before .before .before .before .before .before .before .before .before .before .before .one .result) (c .before .before .before .before .before .before .before .before .before .before .before .before .before .before .before .before .before .before .before .before .one .last .1 .1 .1 .0) (c .before .before .before .before .before .before .before .before .before .before .before .before .before .before .before .before .before .before .before .before .before .before .place-of .ensures .0) (shl-exact {a = 1} 1 (c .before .before .before .before .before .before .before .before .before .before .before .before .before .before .before .before .before .before .before .before .before .before .place-of .result) 64 (omega (arith, c .before .before .before .before .before .before .before .before .before .before .before .before .before .before .before .before .before .before .before .before .before .before .place-of .ensures .1)) (omega arith) ∙ one-mul (2 ^ c .before .before .before .before .before .before .before .before .before .before .before .before .before .before .before .before .before .before .before .before .before .before .place-of .result)) (c .before .before .before .before .before .before .before .before .before .before .before .before .before .before .before .before .before .before .before .before .one .ensures) (c .before .before .before .before .before .before .before .before .before .before .before .before .before .before .before .before .before .before .before .before .one .kept .1 .1 .1 .0) _ (c .before .before .before .before .before .before .before .before .before .before .before .before .before .before .args2 .result .used) (c .before .before .before .before .before .before .before .before .before .before .before .before .before .before .args2 .result .read) refl (c .before .before .before .before .before .before .before .before .before .before .before .before .before .before .args2 .last .1 .1 .1 .1 .1 .1 .0) (c .before .before .before .before .before .before .before .before .before .before .before .before .before .before .args2 .ensures) (c .before .before .before .before .before .before .before .before .if1 .left) (c .before .before .before .before .before .before .before .without .result) (c .before .before .before .before .others .result) _ (c .before .before .before .before .others .last .1 .1 .1 .0) (c .before .before .before .before .before .before .before .before .before .before .before .before .before .before .args2 .kept .1 .1 .1 .1 .1 .1 .1 .0) (c .before .before .before .before .before .before .before .without .ensures) (c .before .before .before .before .others .ensures)))
-    λ t. rows-lts.spec (
-      rows-below t,
-      rows.Post,
-      leaf-reads.Asked,
-      leaf-reads.Learnt,
-      is-product-reads.Asked,
-      is-product-reads.Learnt,
-      times-reads.Asked,
-      times-reads.Learnt,
-      head-rows-below t,
-      head-rows.Post,
-    )
+    (λ t. multiplied-lts.spec
+    (rows-below t, rows.Post, times-reads.Asked, times-reads.Learnt)
+    (multiplied-at t)
+    multiplied.Post
+    (λ c. some-word (c .before .before .before .before .pre .1 .pat))
+    (λ c. some-word (c .before .before .before .before .pre .1 .pat))
+    (λ c. omega arith)
+    (λ c κs. (simp (length-take, length-drop) (omega (arith, c .before .before .before .before .before .before .before .pre .0, some-word (c .before .before .before .before .before .before .before .pre .1 .pat))), mult-first (c .before .before .before .before .before .before .before .pre .1 .pat) (c .before .before .before .before .before .before .before .pre .1 .word)))
+    (λ c. omega (arith, mult-bounds (c .before .before .before .before .before .before .before .before .before .before .before .before .before .pre .1 .pat) (c .before .before .before .before .before .before .before .before .before .before .before .before .before .pre .1 .word) (c .before .before .before .before .before .rows .result .used) (c .before .before .before .before .before .rows .result .read) (c .before .before .before .before .before .rows .last .1 .1 .1 .1 .1 .0) (c .before .before .before .before .before .rows .ensures) .0, c .before .before .before .before .before .before .before .before .before .before .before .before .before .good))
+    (λ c. omega (arith, mult-bounds (c .before .before .before .before .before .before .before .before .before .before .before .before .before .before .pre .1 .pat) (c .before .before .before .before .before .before .before .before .before .before .before .before .before .before .pre .1 .word) (c .before .before .before .before .before .before .rows .result .used) (c .before .before .before .before .before .before .rows .result .read) (c .before .before .before .before .before .before .rows .last .1 .1 .1 .1 .1 .0) (c .before .before .before .before .before .before .rows .ensures) .1, c .before .before .before .before .before .before .rows .kept .1 .1 .1 .1 .1 .0, c .before .before .before .before .before .before .before .before .before .before .before .before .before .before .good))
+    (λ c. omega (arith, mult-bounds (c .before .before .before .before .before .before .before .before .before .before .before .before .before .before .pre .1 .pat) (c .before .before .before .before .before .before .before .before .before .before .before .before .before .before .pre .1 .word) (c .before .before .before .before .before .before .rows .result .used) (c .before .before .before .before .before .before .rows .result .read) (c .before .before .before .before .before .before .rows .last .1 .1 .1 .1 .1 .0) (c .before .before .before .before .before .before .rows .ensures) .0, c .before .before .before .before .before .before .before .before .before .before .before .before .before .before .good))
+    (λ c. omega (arith, mult-bounds (c .before .before .before .before .before .before .before .before .before .before .before .before .before .before .pre .1 .pat) (c .before .before .before .before .before .before .before .before .before .before .before .before .before .before .pre .1 .word) (c .before .before .before .before .before .before .rows .result .used) (c .before .before .before .before .before .before .rows .result .read) (c .before .before .before .before .before .before .rows .last .1 .1 .1 .1 .1 .0) (c .before .before .before .before .before .before .rows .ensures) .0))
+    (λ c. omega (arith, mult-bounds (c .before .before .before .before .before .before .before .before .before .before .before .before .before .before .pre .1 .pat) (c .before .before .before .before .before .before .before .before .before .before .before .before .before .before .pre .1 .word) (c .before .before .before .before .before .before .rows .result .used) (c .before .before .before .before .before .before .rows .result .read) (c .before .before .before .before .before .before .rows .last .1 .1 .1 .1 .1 .0) (c .before .before .before .before .before .before .rows .ensures) .0))
+    (λ c. omega arith)
+    (λ c. omega (arith, mult-bounds (c .before .before .before .before .before .before .before .before .before .before .before .before .before .before .before .pre .1 .pat) (c .before .before .before .before .before .before .before .before .before .before .before .before .before .before .before .pre .1 .word) (c .before .before .before .before .before .before .before .rows .result .used) (c .before .before .before .before .before .before .before .rows .result .read) (c .before .before .before .before .before .before .before .rows .last .1 .1 .1 .1 .1 .0) (c .before .before .before .before .before .before .before .rows .ensures) .1, c .before .before .before .before .before .before .before .rows .kept .1 .1 .1 .1 .1 .0, c .before .before .before .before .before .before .before .before .before .before .before .before .before .before .before .good))
+    (λ c. omega (arith, mult-bounds (c .before .before .before .before .before .before .before .before .before .before .before .before .before .before .before .pre .1 .pat) (c .before .before .before .before .before .before .before .before .before .before .before .before .before .before .before .pre .1 .word) (c .before .before .before .before .before .before .before .rows .result .used) (c .before .before .before .before .before .before .before .rows .result .read) (c .before .before .before .before .before .before .before .rows .last .1 .1 .1 .1 .1 .0) (c .before .before .before .before .before .before .before .rows .ensures) .1))
+    (λ c. omega (arith, mult-bounds (c .before .before .before .before .before .before .before .before .before .before .before .before .before .before .before .pre .1 .pat) (c .before .before .before .before .before .before .before .before .before .before .before .before .before .before .before .pre .1 .word) (c .before .before .before .before .before .before .before .rows .result .used) (c .before .before .before .before .before .before .before .rows .result .read) (c .before .before .before .before .before .before .before .rows .last .1 .1 .1 .1 .1 .0) (c .before .before .before .before .before .before .before .rows .ensures) .1))
+    (λ c. omega arith)
+    (λ c κs. (simp (length-take, length-drop) (omega (arith, c .before .before .before .before .before .before .before .before .before .before .before .before .before .before .before .before .before .pre .0, some-word (c .before .before .before .before .before .before .before .before .before .before .before .before .before .before .before .before .before .pre .1 .pat), mult-bounds (c .before .before .before .before .before .before .before .before .before .before .before .before .before .before .before .before .before .pre .1 .pat) (c .before .before .before .before .before .before .before .before .before .before .before .before .before .before .before .before .before .pre .1 .word) (c .before .before .before .before .before .before .before .before .before .rows .result .used) (c .before .before .before .before .before .before .before .before .before .rows .result .read) (c .before .before .before .before .before .before .before .before .before .rows .last .1 .1 .1 .1 .1 .0) (c .before .before .before .before .before .before .before .before .before .rows .ensures) .0)), mult-second (c .before .before .before .before .before .before .before .before .before .before .before .before .before .before .before .before .before .pre .1 .pat) (c .before .before .before .before .before .before .before .before .before .before .before .before .before .before .before .before .before .pre .1 .word) (c .before .before .before .before .before .before .before .before .before .rows .result .used) (c .before .before .before .before .before .before .before .before .before .rows .result .read) (c .before .before .before .before .before .before .before .before .before .rows .last .1 .1 .1 .1 .1 .0) (c .before .before .before .before .before .before .before .before .before .rows .ensures) _ _ (c .before .before .before .before .before .before .before .before .before .rows .kept .1 .1 .1 .1 .1 .0) (c .before .before .before .before .before .before .before .before .before .rows .kept .1 .1 .1 .1 .1 .1 .0) refl))
+    (λ c κs. (mult-at (c .before .before .before .before .before .before .before .before .before .before .before .before .before .before .before .before .before .before .before .before .before .before .before .before .pre .1 .pat) (c .before .before .before .before .before .before .before .before .before .before .before .before .before .before .before .before .before .before .before .before .before .before .before .before .pre .1 .word) (c .before .before .before .before .before .before .before .before .before .before .before .before .before .before .before .before .rows .result .used) (c .before .before .before .before .before .before .before .before .before .before .before .before .before .before .before .before .rows .result .read) (c .before .before .before .before .before .before .before .before .before .before .before .before .before .before .before .before .rows .last .1 .1 .1 .1 .1 .0) (c .before .before .before .before .before .before .before .before .before .before .before .before .before .before .before .before .rows .ensures) _ _ (c .before .before .before .before .before .before .rows2 .result .used) (c .before .before .before .before .before .before .rows2 .result .read) (c .before .before .before .before .before .before .before .before .before .before .before .before .before .before .before .before .rows .kept .1 .1 .1 .1 .1 .0) (c .before .before .before .before .before .before .before .before .before .before .before .before .before .before .before .before .rows .kept .1 .1 .1 .1 .1 .1 .0) refl (c .before .before .before .before .before .before .rows2 .last .1 .1 .1 .1 .1 .0) (c .before .before .before .before .before .before .rows2 .ensures) (c .before .before .before .before .before .before .rows2 .kept .1 .1 .1 .1 .1 .0), mult-lists (c .before .before .before .before .before .before .before .before .before .before .before .before .before .before .before .before .before .before .before .before .before .before .before .before .pre .1 .pat) (c .before .before .before .before .before .before .before .before .before .before .before .before .before .before .before .before .before .before .before .before .before .before .before .before .pre .1 .word) (c .before .before .before .before .before .before .before .before .before .before .before .before .before .before .before .before .rows .result .used) (c .before .before .before .before .before .before .before .before .before .before .before .before .before .before .before .before .rows .result .read) (c .before .before .before .before .before .before .before .before .before .before .before .before .before .before .before .before .rows .last .1 .1 .1 .1 .1 .0) (c .before .before .before .before .before .before .before .before .before .before .before .before .before .before .before .before .rows .ensures) _ _ (c .before .before .before .before .before .before .rows2 .result .used) (c .before .before .before .before .before .before .rows2 .result .read) (c .before .before .before .before .before .before .before .before .before .before .before .before .before .before .before .before .rows .kept .1 .1 .1 .1 .1 .0) (c .before .before .before .before .before .before .before .before .before .before .before .before .before .before .before .before .rows .kept .1 .1 .1 .1 .1 .1 .0) refl (c .before .before .before .before .before .before .rows2 .last .1 .1 .1 .1 .1 .0) (c .before .before .before .before .before .before .rows2 .ensures) (c .before .before .before .before .before .before .rows2 .kept .1 .1 .1 .1 .1 .0) (c .before .before .before .before .before .before .rows2 .last .1 .1 .1 .1 .1 .1 .0) (c .before .before .before .before .before .before .rows2 .kept .1 .1 .1 .1 .1 .1 .0 ∙ c .before .before .before .before .before .before .before .before .before .before .before .before .before .before .before .before .rows .kept .1 .1 .1 .1 .1 .1 .0)))
+    (λ c. omega (arith, mult-read (c .before .before .before .before .before .before .before .before .before .before .before .before .before .before .before .before .before .before .before .before .before .before .before .before .before .before .before .before .pre .1 .pat) (c .before .before .before .before .before .before .before .before .before .before .before .before .before .before .before .before .before .before .before .before .before .before .before .before .before .before .before .before .pre .1 .word) (c .before .before .before .before .before .before .before .before .before .before .before .before .before .before .before .before .before .before .before .before .rows .result .used) (c .before .before .before .before .before .before .before .before .before .before .before .before .before .before .before .before .before .before .before .before .rows .result .read) (c .before .before .before .before .before .before .before .before .before .before .before .before .before .before .before .before .before .before .before .before .rows .last .1 .1 .1 .1 .1 .0) (c .before .before .before .before .before .before .before .before .before .before .before .before .before .before .before .before .before .before .before .before .rows .ensures) _ _ (c .before .before .before .before .before .before .before .before .before .before .rows2 .result .used) (c .before .before .before .before .before .before .before .before .before .before .rows2 .result .read) (c .before .before .before .before .before .before .before .before .before .before .before .before .before .before .before .before .before .before .before .before .rows .kept .1 .1 .1 .1 .1 .0) (c .before .before .before .before .before .before .before .before .before .before .before .before .before .before .before .before .before .before .before .before .rows .kept .1 .1 .1 .1 .1 .1 .0) refl (c .before .before .before .before .before .before .before .before .before .before .rows2 .last .1 .1 .1 .1 .1 .0) (c .before .before .before .before .before .before .before .before .before .before .rows2 .ensures) (c .before .before .before .before .before .before .before .before .before .before .rows2 .kept .1 .1 .1 .1 .1 .0), c .before .before .before .before .before .before .before .before .before .before .before .before .before .before .before .before .before .before .before .before .before .before .before .before .before .before .before .before .good))
+    (λ c. c .before .before .before .times .kept .1 .1 .1 .0 ∙ (c .before .before .before .before .before .before .before .before .before .before .rows2 .kept .1 .1 .1 .1 .1 .1 .0 ∙ c .before .before .before .before .before .before .before .before .before .before .before .before .before .before .before .before .before .before .before .before .rows .kept .1 .1 .1 .1 .1 .1 .0))
+    (λ c. back-length (c .before .before .before .before .before .before .before .before .before .before .before .before .before .before .before .before .before .before .before .before .rows .last .1 .1 .1 .1 .1 .0) (c .before .before .before .before .before .before .before .before .before .before .rows2 .last .1 .1 .1 .1 .1 .0) (c .before .before .before .before .before .before .before .before .before .before .before .before .before .before .before .before .before .before .before .before .rows .result .used + 1) (mult-bounds (c .before .before .before .before .before .before .before .before .before .before .before .before .before .before .before .before .before .before .before .before .before .before .before .before .before .before .before .before .pre .1 .pat) (c .before .before .before .before .before .before .before .before .before .before .before .before .before .before .before .before .before .before .before .before .before .before .before .before .before .before .before .before .pre .1 .word) (c .before .before .before .before .before .before .before .before .before .before .before .before .before .before .before .before .before .before .before .before .rows .result .used) (c .before .before .before .before .before .before .before .before .before .before .before .before .before .before .before .before .before .before .before .before .rows .result .read) (c .before .before .before .before .before .before .before .before .before .before .before .before .before .before .before .before .before .before .before .before .rows .last .1 .1 .1 .1 .1 .0) (c .before .before .before .before .before .before .before .before .before .before .before .before .before .before .before .before .before .before .before .before .rows .ensures) .1) (c .before .before .before .before .before .before .before .before .before .before .rows2 .kept .1 .1 .1 .1 .1 .0) ∙ c .before .before .before .before .before .before .before .before .before .before .before .before .before .before .before .before .before .before .before .before .rows .kept .1 .1 .1 .1 .1 .0)
+    (λ c g. mult-made (g .pat) (g .word) (c .before .before .before .before .before .before .before .before .before .before .before .before .before .before .before .before .before .before .before .before .rows .result .used) (c .before .before .before .before .before .before .before .before .before .before .before .before .before .before .before .before .before .before .before .before .rows .result .read) (c .before .before .before .before .before .before .before .before .before .before .before .before .before .before .before .before .before .before .before .before .rows .last .1 .1 .1 .1 .1 .0) (c .before .before .before .before .before .before .before .before .before .before .before .before .before .before .before .before .before .before .before .before .rows .ensures) _ _ (c .before .before .before .before .before .before .before .before .before .before .rows2 .result .used) (c .before .before .before .before .before .before .before .before .before .before .rows2 .result .read) (c .before .before .before .before .before .before .before .before .before .before .before .before .before .before .before .before .before .before .before .before .rows .kept .1 .1 .1 .1 .1 .0) (c .before .before .before .before .before .before .before .before .before .before .before .before .before .before .before .before .before .before .before .before .rows .kept .1 .1 .1 .1 .1 .1 .0) refl (c .before .before .before .before .before .before .before .before .before .before .rows2 .last .1 .1 .1 .1 .1 .0) (c .before .before .before .before .before .before .before .before .before .before .rows2 .ensures) (c .before .before .before .before .before .before .before .before .before .before .rows2 .kept .1 .1 .1 .1 .1 .0) (c .before .before .before .before .before .before .before .before .before .before .rows2 .last .1 .1 .1 .1 .1 .1 .0) _ (c .before .before .before .times .result) (c .before .before .before .before .before .before .before .before .before .before .rows2 .kept .1 .1 .1 .1 .1 .1 .0 ∙ c .before .before .before .before .before .before .before .before .before .before .before .before .before .before .before .before .before .before .before .before .rows .kept .1 .1 .1 .1 .1 .1 .0) (c .before .before .before .times .ensures)))
+    (λ t. rows-lts.spec
+    (rows-below t, rows.Post, leaf-reads.Asked, leaf-reads.Learnt, head-rows-below t, head-rows.Post, is-product-reads.Asked, is-product-reads.Learnt, multiplied-below t, multiplied.Post, added-below t, added.Post)
     (rows-at t)
     rows.Post
     (λ c. some-word (c .before .before .before .before .before .pre .1))
@@ -170,47 +213,16 @@ pub +args+head-rows+rows-spec : {M : Type 1} → statement M
     (λ c κs. leaf-given (c .before .before .before .before .before .before .before .before .pre .1) (c .before .before .if1 .left) (c .before .if2 .taken))
     (λ c. c .before .before .leaf .kept .1 .1 .1 .1 .0)
     (λ c g. leaf-made g (c .before .before .before .before .before .if1 .left) (c .before .before .before .before .if2 .taken) (c .before .before .leaf .result) (c .before .before .leaf .last .1 .1 .1 .1 .0) (c .before .before .leaf .ensures))
+    (λ c κs. (omega (arith, c .before .before .before .before .before .before .before .before .before .before .pre .0), record { pat = c .before .before .before .before .before .before .before .before .before .before .pre .1; small = c .before .before .if3 .taken }))
+    (λ c. omega arith)
+    (λ c. omega arith)
+    (λ c g. c .before .before .before .before .head-rows .ensures (record { pat = g; small = c .before .before .before .before .before .before .before .if3 .taken }))
     (λ c κs. tt)
-    (λ c. some-word (c .before .before .before .before .before .before .before .before .before .pre .1))
-    (λ c. some-word (c .before .before .before .before .before .before .before .before .before .pre .1))
-    (λ c. omega arith)
-    (λ c κs. (simp (length-take, length-drop) (omega (arith, c .before .before .before .before .before .before .before .before .before .before .before .before .pre .0, some-word (c .before .before .before .before .before .before .before .before .before .before .before .before .pre .1))), mult-first (c .before .before .before .before .before .before .before .before .before .before .before .before .pre .1) (sym (c .before .before .before .before .is-product .ensures) ∙ c .before .before .before .if3 .taken)))
-    (λ c. omega (arith, mult-bounds (c .before .before .before .before .before .before .before .before .before .before .before .before .before .before .before .before .before .before .pre .1) (sym (c .before .before .before .before .before .before .before .before .before .before .is-product .ensures) ∙ c .before .before .before .before .before .before .before .before .before .if3 .taken) (c .before .before .before .before .before .rows2 .result .used) (c .before .before .before .before .before .rows2 .result .read) (c .before .before .before .before .before .rows2 .last .1 .1 .1 .1 .1 .0) (c .before .before .before .before .before .rows2 .ensures) .0, c .before .before .before .before .before .before .before .before .before .before .before .before .before .before .before .before .before .before .good))
-    (λ c. omega (arith, mult-bounds (c .before .before .before .before .before .before .before .before .before .before .before .before .before .before .before .before .before .before .before .pre .1) (sym (c .before .before .before .before .before .before .before .before .before .before .before .is-product .ensures) ∙ c .before .before .before .before .before .before .before .before .before .before .if3 .taken) (c .before .before .before .before .before .before .rows2 .result .used) (c .before .before .before .before .before .before .rows2 .result .read) (c .before .before .before .before .before .before .rows2 .last .1 .1 .1 .1 .1 .0) (c .before .before .before .before .before .before .rows2 .ensures) .1, c .before .before .before .before .before .before .rows2 .kept .1 .1 .1 .1 .1 .0, c .before .before .before .before .before .before .before .before .before .before .before .before .before .before .before .before .before .before .before .good))
-    (λ c. omega (arith, mult-bounds (c .before .before .before .before .before .before .before .before .before .before .before .before .before .before .before .before .before .before .before .pre .1) (sym (c .before .before .before .before .before .before .before .before .before .before .before .is-product .ensures) ∙ c .before .before .before .before .before .before .before .before .before .before .if3 .taken) (c .before .before .before .before .before .before .rows2 .result .used) (c .before .before .before .before .before .before .rows2 .result .read) (c .before .before .before .before .before .before .rows2 .last .1 .1 .1 .1 .1 .0) (c .before .before .before .before .before .before .rows2 .ensures) .0, c .before .before .before .before .before .before .before .before .before .before .before .before .before .before .before .before .before .before .before .good))
-    (λ c. omega (arith, mult-bounds (c .before .before .before .before .before .before .before .before .before .before .before .before .before .before .before .before .before .before .before .pre .1) (sym (c .before .before .before .before .before .before .before .before .before .before .before .is-product .ensures) ∙ c .before .before .before .before .before .before .before .before .before .before .if3 .taken) (c .before .before .before .before .before .before .rows2 .result .used) (c .before .before .before .before .before .before .rows2 .result .read) (c .before .before .before .before .before .before .rows2 .last .1 .1 .1 .1 .1 .0) (c .before .before .before .before .before .before .rows2 .ensures) .0))
-    (λ c. omega (arith, mult-bounds (c .before .before .before .before .before .before .before .before .before .before .before .before .before .before .before .before .before .before .before .pre .1) (sym (c .before .before .before .before .before .before .before .before .before .before .before .is-product .ensures) ∙ c .before .before .before .before .before .before .before .before .before .before .if3 .taken) (c .before .before .before .before .before .before .rows2 .result .used) (c .before .before .before .before .before .before .rows2 .result .read) (c .before .before .before .before .before .before .rows2 .last .1 .1 .1 .1 .1 .0) (c .before .before .before .before .before .before .rows2 .ensures) .0))
-    (λ c. omega arith)
-    (λ c. omega (arith, mult-bounds (c .before .before .before .before .before .before .before .before .before .before .before .before .before .before .before .before .before .before .before .before .pre .1) (sym (c .before .before .before .before .before .before .before .before .before .before .before .before .is-product .ensures) ∙ c .before .before .before .before .before .before .before .before .before .before .before .if3 .taken) (c .before .before .before .before .before .before .before .rows2 .result .used) (c .before .before .before .before .before .before .before .rows2 .result .read) (c .before .before .before .before .before .before .before .rows2 .last .1 .1 .1 .1 .1 .0) (c .before .before .before .before .before .before .before .rows2 .ensures) .1, c .before .before .before .before .before .before .before .rows2 .kept .1 .1 .1 .1 .1 .0, c .before .before .before .before .before .before .before .before .before .before .before .before .before .before .before .before .before .before .before .before .good))
-    (λ c. omega (arith, mult-bounds (c .before .before .before .before .before .before .before .before .before .before .before .before .before .before .before .before .before .before .before .before .pre .1) (sym (c .before .before .before .before .before .before .before .before .before .before .before .before .is-product .ensures) ∙ c .before .before .before .before .before .before .before .before .before .before .before .if3 .taken) (c .before .before .before .before .before .before .before .rows2 .result .used) (c .before .before .before .before .before .before .before .rows2 .result .read) (c .before .before .before .before .before .before .before .rows2 .last .1 .1 .1 .1 .1 .0) (c .before .before .before .before .before .before .before .rows2 .ensures) .1))
-    (λ c. omega (arith, mult-bounds (c .before .before .before .before .before .before .before .before .before .before .before .before .before .before .before .before .before .before .before .before .pre .1) (sym (c .before .before .before .before .before .before .before .before .before .before .before .before .is-product .ensures) ∙ c .before .before .before .before .before .before .before .before .before .before .before .if3 .taken) (c .before .before .before .before .before .before .before .rows2 .result .used) (c .before .before .before .before .before .before .before .rows2 .result .read) (c .before .before .before .before .before .before .before .rows2 .last .1 .1 .1 .1 .1 .0) (c .before .before .before .before .before .before .before .rows2 .ensures) .1))
-    (λ c. omega arith)
-    (λ c κs. (simp (length-take, length-drop) (omega (arith, c .before .before .before .before .before .before .before .before .before .before .before .before .before .before .before .before .before .before .before .before .before .before .pre .0, some-word (c .before .before .before .before .before .before .before .before .before .before .before .before .before .before .before .before .before .before .before .before .before .before .pre .1), mult-bounds (c .before .before .before .before .before .before .before .before .before .before .before .before .before .before .before .before .before .before .before .before .before .before .pre .1) (sym (c .before .before .before .before .before .before .before .before .before .before .before .before .before .before .is-product .ensures) ∙ c .before .before .before .before .before .before .before .before .before .before .before .before .before .if3 .taken) (c .before .before .before .before .before .before .before .before .before .rows2 .result .used) (c .before .before .before .before .before .before .before .before .before .rows2 .result .read) (c .before .before .before .before .before .before .before .before .before .rows2 .last .1 .1 .1 .1 .1 .0) (c .before .before .before .before .before .before .before .before .before .rows2 .ensures) .0)), mult-second (c .before .before .before .before .before .before .before .before .before .before .before .before .before .before .before .before .before .before .before .before .before .before .pre .1) (sym (c .before .before .before .before .before .before .before .before .before .before .before .before .before .before .is-product .ensures) ∙ c .before .before .before .before .before .before .before .before .before .before .before .before .before .if3 .taken) (c .before .before .before .before .before .before .before .before .before .rows2 .result .used) (c .before .before .before .before .before .before .before .before .before .rows2 .result .read) (c .before .before .before .before .before .before .before .before .before .rows2 .last .1 .1 .1 .1 .1 .0) (c .before .before .before .before .before .before .before .before .before .rows2 .ensures) _ _ (c .before .before .before .before .before .before .before .before .before .rows2 .kept .1 .1 .1 .1 .1 .0) (c .before .before .before .before .before .before .before .before .before .rows2 .kept .1 .1 .1 .1 .1 .1 .0) refl))
-    (λ c κs. (mult-at (c .before .before .before .before .before .before .before .before .before .before .before .before .before .before .before .before .before .before .before .before .before .before .before .before .before .before .before .before .before .pre .1) (sym (c .before .before .before .before .before .before .before .before .before .before .before .before .before .before .before .before .before .before .before .before .before .is-product .ensures) ∙ c .before .before .before .before .before .before .before .before .before .before .before .before .before .before .before .before .before .before .before .before .if3 .taken) (c .before .before .before .before .before .before .before .before .before .before .before .before .before .before .before .before .rows2 .result .used) (c .before .before .before .before .before .before .before .before .before .before .before .before .before .before .before .before .rows2 .result .read) (c .before .before .before .before .before .before .before .before .before .before .before .before .before .before .before .before .rows2 .last .1 .1 .1 .1 .1 .0) (c .before .before .before .before .before .before .before .before .before .before .before .before .before .before .before .before .rows2 .ensures) _ _ (c .before .before .before .before .before .before .rows3 .result .used) (c .before .before .before .before .before .before .rows3 .result .read) (c .before .before .before .before .before .before .before .before .before .before .before .before .before .before .before .before .rows2 .kept .1 .1 .1 .1 .1 .0) (c .before .before .before .before .before .before .before .before .before .before .before .before .before .before .before .before .rows2 .kept .1 .1 .1 .1 .1 .1 .0) refl (c .before .before .before .before .before .before .rows3 .last .1 .1 .1 .1 .1 .0) (c .before .before .before .before .before .before .rows3 .ensures) (c .before .before .before .before .before .before .rows3 .kept .1 .1 .1 .1 .1 .0), mult-lists (c .before .before .before .before .before .before .before .before .before .before .before .before .before .before .before .before .before .before .before .before .before .before .before .before .before .before .before .before .before .pre .1) (sym (c .before .before .before .before .before .before .before .before .before .before .before .before .before .before .before .before .before .before .before .before .before .is-product .ensures) ∙ c .before .before .before .before .before .before .before .before .before .before .before .before .before .before .before .before .before .before .before .before .if3 .taken) (c .before .before .before .before .before .before .before .before .before .before .before .before .before .before .before .before .rows2 .result .used) (c .before .before .before .before .before .before .before .before .before .before .before .before .before .before .before .before .rows2 .result .read) (c .before .before .before .before .before .before .before .before .before .before .before .before .before .before .before .before .rows2 .last .1 .1 .1 .1 .1 .0) (c .before .before .before .before .before .before .before .before .before .before .before .before .before .before .before .before .rows2 .ensures) _ _ (c .before .before .before .before .before .before .rows3 .result .used) (c .before .before .before .before .before .before .rows3 .result .read) (c .before .before .before .before .before .before .before .before .before .before .before .before .before .before .before .before .rows2 .kept .1 .1 .1 .1 .1 .0) (c .before .before .before .before .before .before .before .before .before .before .before .before .before .before .before .before .rows2 .kept .1 .1 .1 .1 .1 .1 .0) refl (c .before .before .before .before .before .before .rows3 .last .1 .1 .1 .1 .1 .0) (c .before .before .before .before .before .before .rows3 .ensures) (c .before .before .before .before .before .before .rows3 .kept .1 .1 .1 .1 .1 .0) (c .before .before .before .before .before .before .rows3 .last .1 .1 .1 .1 .1 .1 .0) (c .before .before .before .before .before .before .rows3 .kept .1 .1 .1 .1 .1 .1 .0 ∙ c .before .before .before .before .before .before .before .before .before .before .before .before .before .before .before .before .rows2 .kept .1 .1 .1 .1 .1 .1 .0)))
-    (λ c. omega (arith, mult-read (c .before .before .before .before .before .before .before .before .before .before .before .before .before .before .before .before .before .before .before .before .before .before .before .before .before .before .before .before .before .before .before .before .before .pre .1) (sym (c .before .before .before .before .before .before .before .before .before .before .before .before .before .before .before .before .before .before .before .before .before .before .before .before .before .is-product .ensures) ∙ c .before .before .before .before .before .before .before .before .before .before .before .before .before .before .before .before .before .before .before .before .before .before .before .before .if3 .taken) (c .before .before .before .before .before .before .before .before .before .before .before .before .before .before .before .before .before .before .before .before .rows2 .result .used) (c .before .before .before .before .before .before .before .before .before .before .before .before .before .before .before .before .before .before .before .before .rows2 .result .read) (c .before .before .before .before .before .before .before .before .before .before .before .before .before .before .before .before .before .before .before .before .rows2 .last .1 .1 .1 .1 .1 .0) (c .before .before .before .before .before .before .before .before .before .before .before .before .before .before .before .before .before .before .before .before .rows2 .ensures) _ _ (c .before .before .before .before .before .before .before .before .before .before .rows3 .result .used) (c .before .before .before .before .before .before .before .before .before .before .rows3 .result .read) (c .before .before .before .before .before .before .before .before .before .before .before .before .before .before .before .before .before .before .before .before .rows2 .kept .1 .1 .1 .1 .1 .0) (c .before .before .before .before .before .before .before .before .before .before .before .before .before .before .before .before .before .before .before .before .rows2 .kept .1 .1 .1 .1 .1 .1 .0) refl (c .before .before .before .before .before .before .before .before .before .before .rows3 .last .1 .1 .1 .1 .1 .0) (c .before .before .before .before .before .before .before .before .before .before .rows3 .ensures) (c .before .before .before .before .before .before .before .before .before .before .rows3 .kept .1 .1 .1 .1 .1 .0), c .before .before .before .before .before .before .before .before .before .before .before .before .before .before .before .before .before .before .before .before .before .before .before .before .before .before .before .before .before .before .before .before .before .good))
-    (λ c. c .before .before .before .times .kept .1 .1 .1 .0 ∙ (c .before .before .before .before .before .before .before .before .before .before .rows3 .kept .1 .1 .1 .1 .1 .1 .0 ∙ c .before .before .before .before .before .before .before .before .before .before .before .before .before .before .before .before .before .before .before .before .rows2 .kept .1 .1 .1 .1 .1 .1 .0))
-    (λ c. back-length (c .before .before .before .before .before .before .before .before .before .before .before .before .before .before .before .before .before .before .before .before .rows2 .last .1 .1 .1 .1 .1 .0) (c .before .before .before .before .before .before .before .before .before .before .rows3 .last .1 .1 .1 .1 .1 .0) (c .before .before .before .before .before .before .before .before .before .before .before .before .before .before .before .before .before .before .before .before .rows2 .result .used + 1) (mult-bounds (c .before .before .before .before .before .before .before .before .before .before .before .before .before .before .before .before .before .before .before .before .before .before .before .before .before .before .before .before .before .before .before .before .before .pre .1) (sym (c .before .before .before .before .before .before .before .before .before .before .before .before .before .before .before .before .before .before .before .before .before .before .before .before .before .is-product .ensures) ∙ c .before .before .before .before .before .before .before .before .before .before .before .before .before .before .before .before .before .before .before .before .before .before .before .before .if3 .taken) (c .before .before .before .before .before .before .before .before .before .before .before .before .before .before .before .before .before .before .before .before .rows2 .result .used) (c .before .before .before .before .before .before .before .before .before .before .before .before .before .before .before .before .before .before .before .before .rows2 .result .read) (c .before .before .before .before .before .before .before .before .before .before .before .before .before .before .before .before .before .before .before .before .rows2 .last .1 .1 .1 .1 .1 .0) (c .before .before .before .before .before .before .before .before .before .before .before .before .before .before .before .before .before .before .before .before .rows2 .ensures) .1) (c .before .before .before .before .before .before .before .before .before .before .rows3 .kept .1 .1 .1 .1 .1 .0) ∙ c .before .before .before .before .before .before .before .before .before .before .before .before .before .before .before .before .before .before .before .before .rows2 .kept .1 .1 .1 .1 .1 .0)
-    (λ c g. mult-made g (sym (c .before .before .before .before .before .before .before .before .before .before .before .before .before .before .before .before .before .before .before .before .before .before .before .before .before .is-product .ensures) ∙ c .before .before .before .before .before .before .before .before .before .before .before .before .before .before .before .before .before .before .before .before .before .before .before .before .if3 .taken) (c .before .before .before .before .before .before .before .before .before .before .before .before .before .before .before .before .before .before .before .before .rows2 .result .used) (c .before .before .before .before .before .before .before .before .before .before .before .before .before .before .before .before .before .before .before .before .rows2 .result .read) (c .before .before .before .before .before .before .before .before .before .before .before .before .before .before .before .before .before .before .before .before .rows2 .last .1 .1 .1 .1 .1 .0) (c .before .before .before .before .before .before .before .before .before .before .before .before .before .before .before .before .before .before .before .before .rows2 .ensures) _ _ (c .before .before .before .before .before .before .before .before .before .before .rows3 .result .used) (c .before .before .before .before .before .before .before .before .before .before .rows3 .result .read) (c .before .before .before .before .before .before .before .before .before .before .before .before .before .before .before .before .before .before .before .before .rows2 .kept .1 .1 .1 .1 .1 .0) (c .before .before .before .before .before .before .before .before .before .before .before .before .before .before .before .before .before .before .before .before .rows2 .kept .1 .1 .1 .1 .1 .1 .0) refl (c .before .before .before .before .before .before .before .before .before .before .rows3 .last .1 .1 .1 .1 .1 .0) (c .before .before .before .before .before .before .before .before .before .before .rows3 .ensures) (c .before .before .before .before .before .before .before .before .before .before .rows3 .kept .1 .1 .1 .1 .1 .0) (c .before .before .before .before .before .before .before .before .before .before .rows3 .last .1 .1 .1 .1 .1 .1 .0) _ (c .before .before .before .times .result) (c .before .before .before .before .before .before .before .before .before .before .rows3 .kept .1 .1 .1 .1 .1 .1 .0 ∙ c .before .before .before .before .before .before .before .before .before .before .before .before .before .before .before .before .before .before .before .before .rows2 .kept .1 .1 .1 .1 .1 .1 .0) (c .before .before .before .times .ensures))
-    (λ c κs. (omega (arith, c .before .before .before .before .before .before .before .before .before .before .before .before .pre .0), record { pat = c .before .before .before .before .before .before .before .before .before .before .before .before .pre .1; small = c .before .before .if4 .taken }))
+    (λ c κs. (omega (arith, c .before .before .before .before .before .before .before .before .before .before .before .before .pre .0), (record { pat = c .before .before .before .before .before .before .before .before .before .before .before .before .pre .1; word = sym (c .before .before .before .is-product .ensures) ∙ c .before .before .if4 .taken })))
     (λ c. omega arith)
     (λ c. omega arith)
-    (λ c g. c .before .before .before .before .head-rows .ensures (record { pat = g; small = c .before .before .before .before .before .before .before .if4 .taken }))
-    (λ c. some-word (c .before .before .before .before .before .before .before .before .before .before .pre .1))
-    (λ c. some-word (c .before .before .before .before .before .before .before .before .before .before .pre .1))
+    (λ c g. c .before .before .before .before .multiplied .ensures (record { pat = g; word = sym (c .before .before .before .before .before .before .before .before .is-product .ensures) ∙ c .before .before .before .before .before .before .before .if4 .taken }))
+    (λ c κs. (omega (arith, c .before .before .before .before .before .before .before .before .before .before .before .before .pre .0), (record { pat = c .before .before .before .before .before .before .before .before .before .before .before .before .pre .1; word = sym (c .before .before .before .is-product .ensures) ∙ c .before .before .if4 .left; low = c .before .before .before .before .if3 .left; high = c .before .before .before .before .before .if2 .left })))
     (λ c. omega arith)
-    (λ c κs. (simp (length-take, length-drop) (omega (arith, c .before .before .before .before .before .before .before .before .before .before .before .before .before .pre .0, some-word (c .before .before .before .before .before .before .before .before .before .before .before .before .before .pre .1))), add-first (c .before .before .before .before .before .before .before .before .before .before .before .before .before .pre .1) (sym (c .before .before .before .before .before .is-product .ensures) ∙ c .before .before .before .before .if3 .left) (c .before .before .before .if4 .left) (c .before .before .before .before .before .before .if2 .left)))
-    (λ c. omega (arith, add-bounds (c .before .before .before .before .before .before .before .before .before .before .before .before .before .before .before .before .before .before .before .pre .1) (sym (c .before .before .before .before .before .before .before .before .before .before .before .is-product .ensures) ∙ c .before .before .before .before .before .before .before .before .before .before .if3 .left) (c .before .before .before .before .before .before .before .before .before .if4 .left) (c .before .before .before .before .before .before .before .before .before .before .before .before .if2 .left) (c .before .before .before .before .before .rows4 .result .used) (c .before .before .before .before .before .rows4 .result .read) (c .before .before .before .before .before .rows4 .last .1 .1 .1 .1 .1 .0) (c .before .before .before .before .before .rows4 .ensures) .0, c .before .before .before .before .before .before .before .before .before .before .before .before .before .before .before .before .before .before .before .good))
-    (λ c. omega (arith, add-bounds (c .before .before .before .before .before .before .before .before .before .before .before .before .before .before .before .before .before .before .before .pre .1) (sym (c .before .before .before .before .before .before .before .before .before .before .before .is-product .ensures) ∙ c .before .before .before .before .before .before .before .before .before .before .if3 .left) (c .before .before .before .before .before .before .before .before .before .if4 .left) (c .before .before .before .before .before .before .before .before .before .before .before .before .if2 .left) (c .before .before .before .before .before .rows4 .result .used) (c .before .before .before .before .before .rows4 .result .read) (c .before .before .before .before .before .rows4 .last .1 .1 .1 .1 .1 .0) (c .before .before .before .before .before .rows4 .ensures) .0, c .before .before .before .before .before .before .before .before .before .before .before .before .before .before .before .before .before .before .before .good))
-    (λ c. omega (arith, add-bounds (c .before .before .before .before .before .before .before .before .before .before .before .before .before .before .before .before .before .before .before .pre .1) (sym (c .before .before .before .before .before .before .before .before .before .before .before .is-product .ensures) ∙ c .before .before .before .before .before .before .before .before .before .before .if3 .left) (c .before .before .before .before .before .before .before .before .before .if4 .left) (c .before .before .before .before .before .before .before .before .before .before .before .before .if2 .left) (c .before .before .before .before .before .rows4 .result .used) (c .before .before .before .before .before .rows4 .result .read) (c .before .before .before .before .before .rows4 .last .1 .1 .1 .1 .1 .0) (c .before .before .before .before .before .rows4 .ensures) .0))
-    (λ c. omega (arith, add-bounds (c .before .before .before .before .before .before .before .before .before .before .before .before .before .before .before .before .before .before .before .pre .1) (sym (c .before .before .before .before .before .before .before .before .before .before .before .is-product .ensures) ∙ c .before .before .before .before .before .before .before .before .before .before .if3 .left) (c .before .before .before .before .before .before .before .before .before .if4 .left) (c .before .before .before .before .before .before .before .before .before .before .before .before .if2 .left) (c .before .before .before .before .before .rows4 .result .used) (c .before .before .before .before .before .rows4 .result .read) (c .before .before .before .before .before .rows4 .last .1 .1 .1 .1 .1 .0) (c .before .before .before .before .before .rows4 .ensures) .0))
     (λ c. omega arith)
-    (λ c. omega (arith, add-bounds (c .before .before .before .before .before .before .before .before .before .before .before .before .before .before .before .before .before .before .before .before .pre .1) (sym (c .before .before .before .before .before .before .before .before .before .before .before .before .is-product .ensures) ∙ c .before .before .before .before .before .before .before .before .before .before .before .if3 .left) (c .before .before .before .before .before .before .before .before .before .before .if4 .left) (c .before .before .before .before .before .before .before .before .before .before .before .before .before .if2 .left) (c .before .before .before .before .before .before .rows4 .result .used) (c .before .before .before .before .before .before .rows4 .result .read) (c .before .before .before .before .before .before .rows4 .last .1 .1 .1 .1 .1 .0) (c .before .before .before .before .before .before .rows4 .ensures) .1, c .before .before .before .before .before .before .rows4 .kept .1 .1 .1 .1 .1 .0, c .before .before .before .before .before .before .before .before .before .before .before .before .before .before .before .before .before .before .before .before .good))
-    (λ c. omega (arith, add-bounds (c .before .before .before .before .before .before .before .before .before .before .before .before .before .before .before .before .before .before .before .before .pre .1) (sym (c .before .before .before .before .before .before .before .before .before .before .before .before .is-product .ensures) ∙ c .before .before .before .before .before .before .before .before .before .before .before .if3 .left) (c .before .before .before .before .before .before .before .before .before .before .if4 .left) (c .before .before .before .before .before .before .before .before .before .before .before .before .before .if2 .left) (c .before .before .before .before .before .before .rows4 .result .used) (c .before .before .before .before .before .before .rows4 .result .read) (c .before .before .before .before .before .before .rows4 .last .1 .1 .1 .1 .1 .0) (c .before .before .before .before .before .before .rows4 .ensures) .1))
-    (λ c. omega (arith, add-bounds (c .before .before .before .before .before .before .before .before .before .before .before .before .before .before .before .before .before .before .before .before .pre .1) (sym (c .before .before .before .before .before .before .before .before .before .before .before .before .is-product .ensures) ∙ c .before .before .before .before .before .before .before .before .before .before .before .if3 .left) (c .before .before .before .before .before .before .before .before .before .before .if4 .left) (c .before .before .before .before .before .before .before .before .before .before .before .before .before .if2 .left) (c .before .before .before .before .before .before .rows4 .result .used) (c .before .before .before .before .before .before .rows4 .result .read) (c .before .before .before .before .before .before .rows4 .last .1 .1 .1 .1 .1 .0) (c .before .before .before .before .before .before .rows4 .ensures) .1))
-    (λ c. omega arith)
-    (λ c κs. (simp (length-take, length-drop) (omega (arith, c .before .before .before .before .before .before .before .before .before .before .before .before .before .before .before .before .before .before .before .before .before .before .pre .0, some-word (c .before .before .before .before .before .before .before .before .before .before .before .before .before .before .before .before .before .before .before .before .before .before .pre .1), add-bounds (c .before .before .before .before .before .before .before .before .before .before .before .before .before .before .before .before .before .before .before .before .before .before .pre .1) (sym (c .before .before .before .before .before .before .before .before .before .before .before .before .before .before .is-product .ensures) ∙ c .before .before .before .before .before .before .before .before .before .before .before .before .before .if3 .left) (c .before .before .before .before .before .before .before .before .before .before .before .before .if4 .left) (c .before .before .before .before .before .before .before .before .before .before .before .before .before .before .before .if2 .left) (c .before .before .before .before .before .before .before .before .rows4 .result .used) (c .before .before .before .before .before .before .before .before .rows4 .result .read) (c .before .before .before .before .before .before .before .before .rows4 .last .1 .1 .1 .1 .1 .0) (c .before .before .before .before .before .before .before .before .rows4 .ensures) .0)), add-second (c .before .before .before .before .before .before .before .before .before .before .before .before .before .before .before .before .before .before .before .before .before .before .pre .1) (sym (c .before .before .before .before .before .before .before .before .before .before .before .before .before .before .is-product .ensures) ∙ c .before .before .before .before .before .before .before .before .before .before .before .before .before .if3 .left) (c .before .before .before .before .before .before .before .before .before .before .before .before .if4 .left) (c .before .before .before .before .before .before .before .before .before .before .before .before .before .before .before .if2 .left) (c .before .before .before .before .before .before .before .before .rows4 .result .used) (c .before .before .before .before .before .before .before .before .rows4 .result .read) (c .before .before .before .before .before .before .before .before .rows4 .last .1 .1 .1 .1 .1 .0) (c .before .before .before .before .before .before .before .before .rows4 .ensures) _ _ (c .before .before .before .before .before .before .before .before .rows4 .kept .1 .1 .1 .1 .1 .0) (c .before .before .before .before .before .before .before .before .rows4 .kept .1 .1 .1 .1 .1 .1 .0) refl))
-    (λ c. omega (arith, add-read (c .before .before .before .before .before .before .before .before .before .before .before .before .before .before .before .before .before .before .before .before .before .before .before .before .before .before .before .before .pre .1) (sym (c .before .before .before .before .before .before .before .before .before .before .before .before .before .before .before .before .before .before .before .before .is-product .ensures) ∙ c .before .before .before .before .before .before .before .before .before .before .before .before .before .before .before .before .before .before .before .if3 .left) (c .before .before .before .before .before .before .before .before .before .before .before .before .before .before .before .before .before .before .if4 .left) (c .before .before .before .before .before .before .before .before .before .before .before .before .before .before .before .before .before .before .before .before .before .if2 .left) (c .before .before .before .before .before .before .before .before .before .before .before .before .before .before .rows4 .result .used) (c .before .before .before .before .before .before .before .before .before .before .before .before .before .before .rows4 .result .read) (c .before .before .before .before .before .before .before .before .before .before .before .before .before .before .rows4 .last .1 .1 .1 .1 .1 .0) (c .before .before .before .before .before .before .before .before .before .before .before .before .before .before .rows4 .ensures) _ _ (c .before .before .before .before .before .rows5 .result .used) (c .before .before .before .before .before .rows5 .result .read) (c .before .before .before .before .before .before .before .before .before .before .before .before .before .before .rows4 .kept .1 .1 .1 .1 .1 .0) (c .before .before .before .before .before .before .before .before .before .before .before .before .before .before .rows4 .kept .1 .1 .1 .1 .1 .1 .0) refl (c .before .before .before .before .before .rows5 .last .1 .1 .1 .1 .1 .0) (c .before .before .before .before .before .rows5 .ensures) (c .before .before .before .before .before .rows5 .kept .1 .1 .1 .1 .1 .0) .1, c .before .before .before .before .before .before .before .before .before .before .before .before .before .before .rows4 .kept .1 .1 .1 .1 .1 .0, c .before .before .before .before .before .before .before .before .before .before .before .before .before .before .before .before .before .before .before .before .before .before .before .before .before .before .before .before .good))
-    (λ c. omega (arith, add-read (c .before .before .before .before .before .before .before .before .before .before .before .before .before .before .before .before .before .before .before .before .before .before .before .before .before .before .before .before .before .pre .1) (sym (c .before .before .before .before .before .before .before .before .before .before .before .before .before .before .before .before .before .before .before .before .before .is-product .ensures) ∙ c .before .before .before .before .before .before .before .before .before .before .before .before .before .before .before .before .before .before .before .before .if3 .left) (c .before .before .before .before .before .before .before .before .before .before .before .before .before .before .before .before .before .before .before .if4 .left) (c .before .before .before .before .before .before .before .before .before .before .before .before .before .before .before .before .before .before .before .before .before .before .if2 .left) (c .before .before .before .before .before .before .before .before .before .before .before .before .before .before .before .rows4 .result .used) (c .before .before .before .before .before .before .before .before .before .before .before .before .before .before .before .rows4 .result .read) (c .before .before .before .before .before .before .before .before .before .before .before .before .before .before .before .rows4 .last .1 .1 .1 .1 .1 .0) (c .before .before .before .before .before .before .before .before .before .before .before .before .before .before .before .rows4 .ensures) _ _ (c .before .before .before .before .before .before .rows5 .result .used) (c .before .before .before .before .before .before .rows5 .result .read) (c .before .before .before .before .before .before .before .before .before .before .before .before .before .before .before .rows4 .kept .1 .1 .1 .1 .1 .0) (c .before .before .before .before .before .before .before .before .before .before .before .before .before .before .before .rows4 .kept .1 .1 .1 .1 .1 .1 .0) refl (c .before .before .before .before .before .before .rows5 .last .1 .1 .1 .1 .1 .0) (c .before .before .before .before .before .before .rows5 .ensures) (c .before .before .before .before .before .before .rows5 .kept .1 .1 .1 .1 .1 .0) .0, c .before .before .before .before .before .before .before .before .before .before .before .before .before .before .before .before .before .before .before .before .before .before .before .before .before .before .before .before .before .good))
-    (λ c. back-length (c .before .before .before .before .before .before .before .before .before .before .before .before .before .before .before .rows4 .last .1 .1 .1 .1 .1 .0) (c .before .before .before .before .before .before .rows5 .last .1 .1 .1 .1 .1 .0) (c .before .before .before .before .before .before .before .before .before .before .before .before .before .before .before .rows4 .result .used) (omega (arith, add-bounds (c .before .before .before .before .before .before .before .before .before .before .before .before .before .before .before .before .before .before .before .before .before .before .before .before .before .before .before .before .before .pre .1) (sym (c .before .before .before .before .before .before .before .before .before .before .before .before .before .before .before .before .before .before .before .before .before .is-product .ensures) ∙ c .before .before .before .before .before .before .before .before .before .before .before .before .before .before .before .before .before .before .before .before .if3 .left) (c .before .before .before .before .before .before .before .before .before .before .before .before .before .before .before .before .before .before .before .if4 .left) (c .before .before .before .before .before .before .before .before .before .before .before .before .before .before .before .before .before .before .before .before .before .before .if2 .left) (c .before .before .before .before .before .before .before .before .before .before .before .before .before .before .before .rows4 .result .used) (c .before .before .before .before .before .before .before .before .before .before .before .before .before .before .before .rows4 .result .read) (c .before .before .before .before .before .before .before .before .before .before .before .before .before .before .before .rows4 .last .1 .1 .1 .1 .1 .0) (c .before .before .before .before .before .before .before .before .before .before .before .before .before .before .before .rows4 .ensures) .1)) (c .before .before .before .before .before .before .rows5 .kept .1 .1 .1 .1 .1 .0) ∙ c .before .before .before .before .before .before .before .before .before .before .before .before .before .before .before .rows4 .kept .1 .1 .1 .1 .1 .0)
-    (λ c. c .before .before .before .before .before .before .rows5 .kept .1 .1 .1 .1 .1 .1 .0 ∙ c .before .before .before .before .before .before .before .before .before .before .before .before .before .before .before .rows4 .kept .1 .1 .1 .1 .1 .1 .0)
-    (λ c g. add-made g (sym (c .before .before .before .before .before .before .before .before .before .before .before .before .before .before .before .before .before .before .before .before .before .is-product .ensures) ∙ c .before .before .before .before .before .before .before .before .before .before .before .before .before .before .before .before .before .before .before .before .if3 .left) (c .before .before .before .before .before .before .before .before .before .before .before .before .before .before .before .before .before .before .before .if4 .left) (c .before .before .before .before .before .before .before .before .before .before .before .before .before .before .before .before .before .before .before .before .before .before .if2 .left) (c .before .before .before .before .before .before .before .before .before .before .before .before .before .before .before .rows4 .result .used) (c .before .before .before .before .before .before .before .before .before .before .before .before .before .before .before .rows4 .result .read) (c .before .before .before .before .before .before .before .before .before .before .before .before .before .before .before .rows4 .last .1 .1 .1 .1 .1 .0) (c .before .before .before .before .before .before .before .before .before .before .before .before .before .before .before .rows4 .ensures) _ _ (c .before .before .before .before .before .before .rows5 .result .used) (c .before .before .before .before .before .before .rows5 .result .read) (c .before .before .before .before .before .before .before .before .before .before .before .before .before .before .before .rows4 .kept .1 .1 .1 .1 .1 .0) (c .before .before .before .before .before .before .before .before .before .before .before .before .before .before .before .rows4 .kept .1 .1 .1 .1 .1 .1 .0) refl (c .before .before .before .before .before .before .rows5 .last .1 .1 .1 .1 .1 .0) (c .before .before .before .before .before .before .rows5 .ensures) (c .before .before .before .before .before .before .rows5 .kept .1 .1 .1 .1 .1 .0))
+    (λ c g. c .before .before .before .before .added .ensures (record { pat = g; word = sym (c .before .before .before .before .before .before .before .before .is-product .ensures) ∙ c .before .before .before .before .before .before .before .if4 .left; low = c .before .before .before .before .before .before .before .before .before .if3 .left; high = c .before .before .before .before .before .before .before .before .before .before .if2 .left })))
