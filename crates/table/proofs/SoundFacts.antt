@@ -33,10 +33,10 @@ use Rattle.table.proofs.Demand2Facts.{answered}
 use Rattle.table.proofs.RunDirect.{run-direct}
 use Rattle.table.proofs.TableFacts.{Valid, sound-stored}
 
-abbrev Were : ℕ → ℕ → List ℕ → List Rule → Type 0
+abbrev pub Were : ℕ → ℕ → List ℕ → List Rule → Type 0
 Were n m ws rs = Rises m rs × (length rs ≡ n) × ((z : ℕ) × (ws ≡ rules-words rs ++ replicate z 0))
 
-rules-were : (n m : ℕ) (ws : List ℕ) (rs : List Rule) → read-rules n m ws ≡ some rs → Were n m ws rs
+pub rules-were : (n m : ℕ) (ws : List ℕ) (rs : List Rule) → read-rules n m ws ≡ some rs → Were n m ws rs
 rules-were zero m ws rs e =
     let (u, e₁, e₂) = bind-some (require (all (λ w. eqb w 0) ws)) _ rs e in
     subst (Were zero m ws) (some-inj [] rs e₂) (rises-nil, refl, (length ws, zeros-were ws (require-some (all (λ w. eqb w 0) ws) u e₁)))

@@ -24,7 +24,7 @@ use Rattle.table.specs.Refusals.{entry-refusal}
 use Rattle.table.specs.Rule.{Rule, Rises, rules-words, rises-nil, rises-cons, total-weight, stored, add-rule, held, take-out, table-words}
 use Rattle.table.specs.Sound.{read-rules, no-shared, sound}
 
-read-back : {m : ℕ} {rs : List Rule} (z : ℕ) → Rises m rs → read-rules (length rs) m (rules-words rs ++ replicate z 0) ≡ some rs
+pub read-back : {m : ℕ} {rs : List Rule} (z : ℕ) → Rises m rs → read-rules (length rs) m (rules-words rs ++ replicate z 0) ≡ some rs
 read-back z rises-nil = rw (zeros z)
 read-back {m} z (rises-cons {r = r} {rs = rs} a b h) =
     rw (append-assoc (r .pattern) (rules-words rs) (replicate z 0), ltb-yes m (r .number) a, leb-yes (r .number) last-number b, split-append (r .pattern) (rules-words rs ++ replicate z 0), read-back z h)

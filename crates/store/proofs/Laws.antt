@@ -1,0 +1,16 @@
+-- The laws of the words of a table hold.
+use Rattle.store.specs.Laws.{Laws}
+use Rattle.store.proofs.LaidFacts.{laid-holds, holds-laid, one-list, sound-laid, stored-holds}
+use Rattle.store.proofs.Walk.{words-at, rule-at, walk-start, walk-step}
+
+pub laws : Laws
+laws = record {
+  laid-holds = λ table rs. (laid-holds table rs, λ h. holds-laid h);
+  one-list = one-list;
+  sound-laid = sound-laid;
+  stored-holds = stored-holds;
+  words-at = λ table before r after h. words-at before r after h;
+  rule-at = λ table before r after h. rule-at before r after h;
+  walk-start = walk-start;
+  walk-step = λ table rs before after i at h w l. walk-step rs before after i at h w l;
+}

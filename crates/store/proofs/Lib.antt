@@ -1,0 +1,5 @@
+pub mod FindFacts
+pub mod LaidFacts
+pub mod Laws
+pub mod Reading
+pub mod Walk

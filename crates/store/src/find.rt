@@ -1,0 +1,51 @@
+// Where rules stand in a table.
+use crate::layout::RULE_HEAD;
+ghost use mathlib.Core.Path.{_≡_};
+ghost use mathlib.Core.List.{List};
+ghost use Prim.Native.Nat.{suc};
+ghost use lib.ListN.{length};
+ghost use Rattle.table.specs.Rule.{Rule, rules-words};
+ghost use Rattle.store.specs.Laid.{Holds};
+ghost use Rattle.store.specs.Place.{FoundAt};
+
+// The index of a rule, or the index at which it would go in.
+pub enum Found {
+    Held(usize),
+    Free(usize),
+}
+
+// The index behind the last rule.
+pub fn end(table: &[u16]) -> usize
+    requires { ⌜ ((rs : List Rule) × Holds (now table) rs) ⌝ }
+    ensures { λ r. ⌜ ((rs : List Rule) → Holds (now (table .entry)) rs → r ≡ suc (length (rules-words rs))) ⌝ }
+{
+    let n = table[0];
+    let mut at = 1;
+    let mut i = 0;
+    while i < n {
+        at = at + RULE_HEAD + table[at + 2] as usize;
+        i += 1;
+    }
+    at
+}
+
+pub fn find(table: &[u16], number: u16) -> Found
+    requires { ⌜ ((rs : List Rule) × Holds (now table) rs) ⌝ }
+    ensures { λ r. ⌜ ((rs : List Rule) → Holds (now (table .entry)) rs → FoundAt number rs r) ⌝ }
+{
+    let n = table[0];
+    let mut at = 1;
+    let mut i = 0;
+    while i < n {
+        let m = table[at];
+        if m == number {
+            return Found::Held(at);
+        }
+        if number < m {
+            return Found::Free(at);
+        }
+        at = at + RULE_HEAD + table[at + 2] as usize;
+        i += 1;
+    }
+    Found::Free(at)
+}

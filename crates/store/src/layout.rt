@@ -1,0 +1,85 @@
+// The layout of a table (part of refusal 3).
+ghost use mathlib.Core.Path.{_≡_};
+ghost use Prim.Native.Nat.{_≤_};
+ghost use lib.ListN.{length};
+ghost use lib.Dec.{eqb};
+ghost use Rattle.signature.specs.Lists.{all, is-some};
+ghost use Rattle.table.specs.Limits.{table-length};
+ghost use Rattle.store.specs.Head.{HeadAt, from};
+ghost use Rattle.store.specs.Laid.{laid};
+
+// The words of a table, and the rules that it may hold.
+pub const TABLE: usize = 4289;
+
+pub const RULES: u16 = 64;
+
+pub const LAST_NUMBER: u16 = 999;
+
+// The words before a rule's pattern: number, plan, pattern length.
+pub const RULE_HEAD: usize = 3;
+
+// A rule's number, and the index behind it.
+pub enum Head {
+    At(u16, usize),
+    Broken,
+}
+
+// The rule that begins at an index, whose number must rise above the last one.
+fn rule_from(table: &[u16], at: usize, last: u16) -> Head
+    requires { ⌜ (table-length ≤ length (now table)) × (at ≤ table-length) ⌝ }
+    ensures { λ r. ⌜ HeadAt (now (table .entry)) at last r ⌝ }
+{
+    if TABLE - at < RULE_HEAD {
+        return Head::Broken;
+    }
+    let number = table[at];
+    if number <= last {
+        return Head::Broken;
+    }
+    if LAST_NUMBER < number {
+        return Head::Broken;
+    }
+    let from = at + RULE_HEAD;
+    let len = table[at + 2] as usize;
+    if TABLE - from < len {
+        return Head::Broken;
+    }
+    Head::At(number, from + len)
+}
+
+// Whether zeros stand from an index up to the table's end.
+fn zeros(table: &[u16], at: usize) -> bool
+    requires { ⌜ (table-length ≤ length (now table)) × (at ≤ table-length) ⌝ }
+    ensures { λ r. ⌜ r ≡ all (λ w. eqb w 0) (from (now (table .entry)) at) ⌝ }
+{
+    let mut i = at;
+    while i < TABLE {
+        if table[i] > 0 {
+            return false;
+        }
+        i += 1;
+    }
+    true
+}
+
+pub fn layout(table: &[u16]) -> bool
+    requires { ⌜ table-length ≤ length (now table) ⌝ }
+    ensures { λ r. ⌜ r ≡ is-some (laid (now (table .entry))) ⌝ }
+{
+    let n = table[0];
+    if RULES < n {
+        return false;
+    }
+    let mut at = 1;
+    let mut last = 0;
+    let mut i = 0;
+    while i < n {
+        let Head::At(number, end) = rule_from(table, at, last) else {
+            return false;
+        };
+        last = number;
+        at = end;
+        i += 1;
+    }
+    zeros(table, at)
+}
