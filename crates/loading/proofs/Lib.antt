@@ -1,3 +1,5 @@
 pub mod Shared
 pub mod Placing
 pub mod Adding
+pub mod Tested
+pub mod Loads

@@ -1,0 +1,134 @@
+-- The rules of a table, one after the other.
+use mathlib.Core.Path.{_≡_, refl, sym, ap, ap₂, subst, _∙_}
+use mathlib.Core.List.{List, [], _∷_, _++_, map-append}
+use mathlib.Core.Option.{Option, none, some}
+use mathlib.Core.Bool.{Bool, true, false}
+use Prim.Native.Nat.{ℕ, _+_, _*_, _-_, _<_, _≤_}
+use native.Mathlib.Omega.{arith}
+use lib.ListN.{length, getD, take, drop, length-append, length-map}
+use Rattle.signature.specs.Lists.{is-some, require, _>>=_}
+use Rattle.signature.specs.Signature.{Signature}
+use Rattle.signature.proofs.Tests.{true≢false}
+use Rattle.table.specs.Limits.{table-length, weight-limit, rule-limit}
+use Rattle.table.specs.Rule.{Rule}
+use Rattle.table.specs.Sound.{sound}
+use Rattle.store.specs.Laid.{laid, Holds}
+use Rattle.store.specs.Place.{Walked, Step as Walks}
+use Rattle.store.proofs.LaidFacts.{laid-holds, holds-laid, sound-laid, is-stored}
+use Rattle.store.proofs.Walk.{walk-start, walk-step, walk-end}
+use Rattle.loading.specs.Add.{GivenAdd, goes-with, weights, Stepped, lists-room}
+use Rattle.loading.specs.Lists.{lists-for}
+use Rattle.loading.specs.Load.{GivenLoad, Ready, LoadedAs, patterns, tests}
+use Rattle.loading.specs.declared.add.Step.{Step}
+use Rattle.loading.specs.declared.add.Step.the-variants.{Added, Unsound}
+use Rattle.loading.specs.declared.load.Loaded.the-variants.{Sound}
+use Rattle.loading.proofs.Tested.{same-weight, weight-last, tests-light, tests-more, tests-none}
+
+not-laid : (sig : Signature) (o : Option (List Rule)) → is-some o ≡ false → (o >>= λ rs. require (tests sig rs) >>= λ u. some rs) ≡ none
+not-laid sig none e = refl
+not-laid sig (some rs) e = true≢false e
+
+was-laid : (o : Option (List Rule)) → is-some o ≡ true → (rs : List Rule) × (o ≡ some rs)
+was-laid none e = true≢false (sym e)
+was-laid (some rs) e = (rs, refl)
+
+module _ {t table : List ℕ} {n m : ℕ} (g : GivenLoad t table n m) where
+  pub unlaid : (b : Bool) → b ≡ is-some (laid table) → b ≡ false → sound (g .known .sig) table ≡ none
+  unlaid b e h = sound-laid (g .known .sig) table ∙ not-laid (g .known .sig) (laid table) (sym e ∙ h)
+
+  pub the-rules : (b : Bool) → b ≡ is-some (laid table) → b ≡ true → (rs : List Rule) × Holds table rs
+  the-rules b e h = let q = was-laid (laid table) (sym e ∙ h) in (q .0, laid-holds table (q .0) (q .1))
+
+module _ {t table : List ℕ} {n m : ℕ} (g : GivenLoad t table n m) (rs : List Rule) (h : Holds table rs) where
+  pub count-is : getD table 0 0 ≡ length rs
+  count-is = ap (λ z. getD z 0 0) (is-stored h)
+
+  tested : sound (g .known .sig) table ≡ (require (tests (g .known .sig) rs) >>= λ u. some rs)
+  tested = sound-laid (g .known .sig) table ∙ ap (λ o. o >>= λ qs. require (tests (g .known .sig) qs) >>= λ u. some qs) (holds-laid h)
+
+  -- i rules are passed
+  pub record Mid (at used total i : ℕ) (rows : List ℕ) : Type 0 where
+    pub before : List Rule
+    pub after : List Rule
+    pub walked : Walked rs before after i at
+    pub ready : Ready (g .known .sig) before used total rows
+    pub good : tests (g .known .sig) before ≡ true
+
+  pub start : (rows : List ℕ) → Mid 1 0 0 0 rows
+  start rows = record { before = []; after = rs; walked = walk-start rs; ready = record { rest = rows; code-is = refl; used-is = refl; total-is = refl; small = omega arith }; good = refl }
+
+  module _ {at used total i : ℕ} {rows : List ℕ} (l : Mid at used total i rows) where
+    pub done : getD table 0 0 ≤ i → LoadedAs (g .known .sig) table (Sound used total) rows
+    done e =
+        let q = walk-end (l .walked) (omega (arith, e, count-is)) in
+        let z : tests (g .known .sig) rs ≡ true = ap (tests (g .known .sig)) (q .1) ∙ l .good in
+        (rs, tested ∙ (rw z), subst (λ qs. Ready (g .known .sig) qs used total rows) (sym (q .1)) (l .ready))
+
+    module _ (e : i < getD table 0 0) where
+      abbrev step : Walks table rs (l .before) (l .after) i at
+      step = walk-step rs (l .before) (l .after) i at h (l .walked) (omega (arith, e, count-is))
+
+      pub end-le : at + 3 + getD table (at + 2) 0 ≤ table-length
+      end-le = omega (arith, step .reads .length-is, step .reads .within)
+
+      pub few : i < rule-limit
+      few = omega (arith, e, count-is, h .few)
+
+      words-are : take (at + 3 + getD table (at + 2) 0 - (at + 3)) (drop (at + 3) table) ≡ step .rule .pattern
+      words-are =
+          let z : at + 3 + getD table (at + 2) 0 - (at + 3) ≡ length (step .rule .pattern) = omega (arith, step .reads .length-is) in
+          ap (λ z. take z (drop (at + 3) table)) z ∙ step .reads .pattern-is
+
+      light : total ≤ weight-limit
+      light = omega (arith, l .ready .total-is, tests-light (g .known .sig) (l .before) (l .good))
+
+      many : length (patterns (l .before)) ≡ i
+      many = length-map (l .before) (λ r. r .pattern) ∙ l .walked .passed
+
+      pub given : length rows ≡ n → (m' : ℕ) → m' ≡ m → GivenAdd t i used total rows m'
+      given r m' m-is = record {
+        known = g .known;
+        wss = patterns (l .before);
+        rest = l .ready .rest;
+        code-is = l .ready .code-is;
+        used-is = l .ready .used-is;
+        many = many;
+        few = omega (arith, few);
+        total-is = l .ready .total-is ∙ sym (same-weight (g .known .sig) (l .before));
+        light = light;
+        small = omega (arith, l .ready .small, l .walked .passed);
+        room = omega (arith, r, g .room);
+        work-room = omega (arith, m-is, g .work-room);
+      }
+
+      module _ (r : length rows ≡ n) (m' : ℕ) (m-is : m' ≡ m) (s : Step) (rows' : List ℕ) (gave : (q : GivenAdd t i used total rows m') → Stepped (q .known .sig) (q .wss) (take (at + 3 + getD table (at + 2) 0 - (at + 3)) (drop (at + 3) table)) s rows') where
+        said : Stepped (g .known .sig) (patterns (l .before)) (step .rule .pattern) s rows'
+        unfolding given
+        said = subst (λ z. Stepped (g .known .sig) (patterns (l .before)) z s rows') words-are (gave (given r m' m-is))
+
+        rules-are : rs ≡ l .before ++ (step .rule ∷ step .later)
+        rules-are = l .walked .are ∙ ap (λ z. l .before ++ z) (step .here)
+
+        pub unsound : s ≡ Unsound → sound (g .known .sig) table ≡ none
+        unsound x =
+            let y : goes-with (g .known .sig) (patterns (l .before)) (step .rule .pattern) ≡ false = subst (λ z. Stepped (g .known .sig) (patterns (l .before)) (step .rule .pattern) z rows') x said in
+            let z : tests (g .known .sig) rs ≡ false = ap (tests (g .known .sig)) rules-are ∙ tests-none (g .known .sig) (l .before) (step .rule) (step .later) y in
+            tested ∙ (rw z)
+
+        pub again : (u w : ℕ) → s ≡ Added u w → Mid (at + 3 + getD table (at + 2) 0) u w (i + 1) rows'
+        again u w x =
+            let y : Stepped (g .known .sig) (patterns (l .before)) (step .rule .pattern) (Added u w) rows' = subst (λ z. Stepped (g .known .sig) (patterns (l .before)) (step .rule .pattern) z rows') x said in
+            let p : patterns (l .before ++ (step .rule ∷ [])) ≡ patterns (l .before) ++ (step .rule .pattern ∷ []) = map-append (λ r. r .pattern) (l .before) (step .rule ∷ []) in
+            record {
+              before = l .before ++ (step .rule ∷ []);
+              after = step .later;
+              walked = step .next;
+              ready = record {
+                rest = y .3 .0;
+                code-is = y .3 .1 ∙ ap (λ z. lists-for (g .known .sig) z ++ y .3 .0) (sym p);
+                used-is = y .2 ∙ ap (λ z. length (lists-for (g .known .sig) z)) (sym p);
+                total-is = y .1 ∙ weight-last (g .known .sig) (l .before) (step .rule);
+                small = omega (arith, y .4, length-append (l .before) (step .rule ∷ []), length-append (patterns (l .before)) (step .rule .pattern ∷ []), many, l .walked .passed);
+              };
+              good = tests-more (g .known .sig) (l .before) (step .rule) (l .good) (y .0);
+            }

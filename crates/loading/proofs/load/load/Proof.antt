@@ -1,0 +1,53 @@
+-- `load::load` meets its contract. Assumes nothing.
+use mathlib.Core.Path.{_≡_, refl, _∙_}
+use mathlib.Core.List.{List}
+use Prim.Native.Nat.{_-_}
+use native.Mathlib.Omega.{arith}
+use lib.ListN.{length}
+use borrow.Author.Needs.{needs}
+use Rattle.signature.proofs.Booleans.{not-true, not-false}
+use Rattle.table.specs.Rule.{Rule}
+use Rattle.store.specs.Laid.{Holds}
+use Rattle.loading.specs.Load.{GivenLoad}
+use Rattle.loading.proofs.Loads.{unlaid, the-rules, Mid, start, end-le, few, given, unsound, again, done}
+use Rattle.loading.proofs.load.load.Statement.{statement}
+use Rattle.loading.proofs.load.load.Tie as tie
+
+abbrev Inv-loop : tie.InvT-loop
+Inv-loop t table rows₀ work₀ n at₀ used₀ total₀ i₀ rows work at used total i = (length rows ≡ length rows₀) × (length work ≡ length work₀) × ((g : GivenLoad t table (length rows₀) (length work₀)) (rs : List Rule) (h : Holds table rs) → Mid g rs h at used total i rows)
+
+abbrev μ-loop : tie.MeasureT-loop
+μ-loop t table rows₀ work₀ n at₀ used₀ total₀ i₀ rows work at used total i = n - i
+
+pub load-spec : {M : Type 1} → statement M
+load-spec =
+    tie.close
+    (tie.spec
+    Inv-loop
+    μ-loop
+    (λ c κs. c .before .before .before .before .pre .long)
+    (λ c g. unlaid g _ (c .before .layout .ensures) (not-true _ (c .if1 .taken)))
+    (λ c. omega (arith, c .before .before .before .before .before .before .before .pre .long))
+    (λ c. (refl, refl, λ g rs h. start g rs h _))
+    (λ c. omega (arith, end-le (c .before .before .before .before .before .before .before .before .before .pre) ((the-rules (c .before .before .before .before .before .before .before .before .before .pre) _ (c .before .before .before .before .layout .ensures) (not-false _ (c .before .before .before .if1 .left))) .0) ((the-rules (c .before .before .before .before .before .before .before .before .before .pre) _ (c .before .before .before .before .layout .ensures) (not-false _ (c .before .before .before .if1 .left))) .1) (c .before .loop .inv .2 (c .before .before .before .before .before .before .before .before .before .pre) ((the-rules (c .before .before .before .before .before .before .before .before .before .pre) _ (c .before .before .before .before .layout .ensures) (not-false _ (c .before .before .before .if1 .left))) .0) ((the-rules (c .before .before .before .before .before .before .before .before .before .pre) _ (c .before .before .before .before .layout .ensures) (not-false _ (c .before .before .before .if1 .left))) .1)) (c .loop-test .taken)))
+    (λ c. omega (arith, end-le (c .before .before .before .before .before .before .before .before .before .pre) ((the-rules (c .before .before .before .before .before .before .before .before .before .pre) _ (c .before .before .before .before .layout .ensures) (not-false _ (c .before .before .before .if1 .left))) .0) ((the-rules (c .before .before .before .before .before .before .before .before .before .pre) _ (c .before .before .before .before .layout .ensures) (not-false _ (c .before .before .before .if1 .left))) .1) (c .before .loop .inv .2 (c .before .before .before .before .before .before .before .before .before .pre) ((the-rules (c .before .before .before .before .before .before .before .before .before .pre) _ (c .before .before .before .before .layout .ensures) (not-false _ (c .before .before .before .if1 .left))) .0) ((the-rules (c .before .before .before .before .before .before .before .before .before .pre) _ (c .before .before .before .before .layout .ensures) (not-false _ (c .before .before .before .if1 .left))) .1)) (c .loop-test .taken)))
+    (λ c. omega (arith, end-le (c .before .before .before .before .before .before .before .before .before .pre) ((the-rules (c .before .before .before .before .before .before .before .before .before .pre) _ (c .before .before .before .before .layout .ensures) (not-false _ (c .before .before .before .if1 .left))) .0) ((the-rules (c .before .before .before .before .before .before .before .before .before .pre) _ (c .before .before .before .before .layout .ensures) (not-false _ (c .before .before .before .if1 .left))) .1) (c .before .loop .inv .2 (c .before .before .before .before .before .before .before .before .before .pre) ((the-rules (c .before .before .before .before .before .before .before .before .before .pre) _ (c .before .before .before .before .layout .ensures) (not-false _ (c .before .before .before .if1 .left))) .0) ((the-rules (c .before .before .before .before .before .before .before .before .before .pre) _ (c .before .before .before .before .layout .ensures) (not-false _ (c .before .before .before .if1 .left))) .1)) (c .loop-test .taken)))
+    (λ c. omega (arith, end-le (c .before .before .before .before .before .before .before .before .before .before .pre) ((the-rules (c .before .before .before .before .before .before .before .before .before .before .pre) _ (c .before .before .before .before .before .layout .ensures) (not-false _ (c .before .before .before .before .if1 .left))) .0) ((the-rules (c .before .before .before .before .before .before .before .before .before .before .pre) _ (c .before .before .before .before .before .layout .ensures) (not-false _ (c .before .before .before .before .if1 .left))) .1) (c .before .before .loop .inv .2 (c .before .before .before .before .before .before .before .before .before .before .pre) ((the-rules (c .before .before .before .before .before .before .before .before .before .before .pre) _ (c .before .before .before .before .before .layout .ensures) (not-false _ (c .before .before .before .before .if1 .left))) .0) ((the-rules (c .before .before .before .before .before .before .before .before .before .before .pre) _ (c .before .before .before .before .before .layout .ensures) (not-false _ (c .before .before .before .before .if1 .left))) .1)) (c .before .loop-test .taken), c .before .before .before .before .before .before .before .before .before .before .pre .long))
+    (λ c. omega (arith, end-le (c .before .before .before .before .before .before .before .before .before .before .pre) ((the-rules (c .before .before .before .before .before .before .before .before .before .before .pre) _ (c .before .before .before .before .before .layout .ensures) (not-false _ (c .before .before .before .before .if1 .left))) .0) ((the-rules (c .before .before .before .before .before .before .before .before .before .before .pre) _ (c .before .before .before .before .before .layout .ensures) (not-false _ (c .before .before .before .before .if1 .left))) .1) (c .before .before .loop .inv .2 (c .before .before .before .before .before .before .before .before .before .before .pre) ((the-rules (c .before .before .before .before .before .before .before .before .before .before .pre) _ (c .before .before .before .before .before .layout .ensures) (not-false _ (c .before .before .before .before .if1 .left))) .0) ((the-rules (c .before .before .before .before .before .before .before .before .before .before .pre) _ (c .before .before .before .before .before .layout .ensures) (not-false _ (c .before .before .before .before .if1 .left))) .1)) (c .before .loop-test .taken)))
+    (λ c. omega (arith, end-le (c .before .before .before .before .before .before .before .before .before .before .pre) ((the-rules (c .before .before .before .before .before .before .before .before .before .before .pre) _ (c .before .before .before .before .before .layout .ensures) (not-false _ (c .before .before .before .before .if1 .left))) .0) ((the-rules (c .before .before .before .before .before .before .before .before .before .before .pre) _ (c .before .before .before .before .before .layout .ensures) (not-false _ (c .before .before .before .before .if1 .left))) .1) (c .before .before .loop .inv .2 (c .before .before .before .before .before .before .before .before .before .before .pre) ((the-rules (c .before .before .before .before .before .before .before .before .before .before .pre) _ (c .before .before .before .before .before .layout .ensures) (not-false _ (c .before .before .before .before .if1 .left))) .0) ((the-rules (c .before .before .before .before .before .before .before .before .before .before .pre) _ (c .before .before .before .before .before .layout .ensures) (not-false _ (c .before .before .before .before .if1 .left))) .1)) (c .before .loop-test .taken)))
+    (λ c. omega (arith, end-le (c .before .before .before .before .before .before .before .before .before .before .pre) ((the-rules (c .before .before .before .before .before .before .before .before .before .before .pre) _ (c .before .before .before .before .before .layout .ensures) (not-false _ (c .before .before .before .before .if1 .left))) .0) ((the-rules (c .before .before .before .before .before .before .before .before .before .before .pre) _ (c .before .before .before .before .before .layout .ensures) (not-false _ (c .before .before .before .before .if1 .left))) .1) (c .before .before .loop .inv .2 (c .before .before .before .before .before .before .before .before .before .before .pre) ((the-rules (c .before .before .before .before .before .before .before .before .before .before .pre) _ (c .before .before .before .before .before .layout .ensures) (not-false _ (c .before .before .before .before .if1 .left))) .0) ((the-rules (c .before .before .before .before .before .before .before .before .before .before .pre) _ (c .before .before .before .before .before .layout .ensures) (not-false _ (c .before .before .before .before .if1 .left))) .1)) (c .before .loop-test .taken)))
+    (λ c. omega arith)
+    (λ c. omega arith)
+    (λ c. omega (arith, end-le (c .before .before .before .before .before .before .before .before .before .before .pre) ((the-rules (c .before .before .before .before .before .before .before .before .before .before .pre) _ (c .before .before .before .before .before .layout .ensures) (not-false _ (c .before .before .before .before .if1 .left))) .0) ((the-rules (c .before .before .before .before .before .before .before .before .before .before .pre) _ (c .before .before .before .before .before .layout .ensures) (not-false _ (c .before .before .before .before .if1 .left))) .1) (c .before .before .loop .inv .2 (c .before .before .before .before .before .before .before .before .before .before .pre) ((the-rules (c .before .before .before .before .before .before .before .before .before .before .pre) _ (c .before .before .before .before .before .layout .ensures) (not-false _ (c .before .before .before .before .if1 .left))) .0) ((the-rules (c .before .before .before .before .before .before .before .before .before .before .pre) _ (c .before .before .before .before .before .layout .ensures) (not-false _ (c .before .before .before .before .if1 .left))) .1)) (c .before .loop-test .taken), c .before .before .before .before .before .before .before .before .before .before .pre .long))
+    (λ c κs. given (c .before .before .before .before .before .before .before .before .before .before .before .before .before .pre) ((the-rules (c .before .before .before .before .before .before .before .before .before .before .before .before .before .pre) _ (c .before .before .before .before .before .before .before .before .layout .ensures) (not-false _ (c .before .before .before .before .before .before .before .if1 .left))) .0) ((the-rules (c .before .before .before .before .before .before .before .before .before .before .before .before .before .pre) _ (c .before .before .before .before .before .before .before .before .layout .ensures) (not-false _ (c .before .before .before .before .before .before .before .if1 .left))) .1) (c .before .before .before .before .before .loop .inv .2 (c .before .before .before .before .before .before .before .before .before .before .before .before .before .pre) ((the-rules (c .before .before .before .before .before .before .before .before .before .before .before .before .before .pre) _ (c .before .before .before .before .before .before .before .before .layout .ensures) (not-false _ (c .before .before .before .before .before .before .before .if1 .left))) .0) ((the-rules (c .before .before .before .before .before .before .before .before .before .before .before .before .before .pre) _ (c .before .before .before .before .before .before .before .before .layout .ensures) (not-false _ (c .before .before .before .before .before .before .before .if1 .left))) .1)) (c .before .before .before .before .loop-test .taken) (c .before .before .before .before .before .loop .inv .0) _ (c .before .before .before .before .before .loop .inv .1))
+    (λ c. search needs)
+    (λ c. search needs)
+    (λ c. c .before .before .before .before .before .before .add .kept .1 .1 .1 .1 .1 .0 ∙ c .before .before .before .before .before .before .before .before .before .before .before .before .loop .inv .0)
+    (λ c. c .before .before .before .before .before .before .add .kept .1 .1 .1 .1 .1 .1 .0 ∙ c .before .before .before .before .before .before .before .before .before .before .before .before .loop .inv .1)
+    (λ c g. unsound g ((the-rules (c .before .before .before .before .before .before .before .before .before .before .before .before .before .before .before .before .before .before .before .before .pre) _ (c .before .before .before .before .before .before .before .before .before .before .before .before .before .before .before .layout .ensures) (not-false _ (c .before .before .before .before .before .before .before .before .before .before .before .before .before .before .if1 .left))) .0) ((the-rules (c .before .before .before .before .before .before .before .before .before .before .before .before .before .before .before .before .before .before .before .before .pre) _ (c .before .before .before .before .before .before .before .before .before .before .before .before .before .before .before .layout .ensures) (not-false _ (c .before .before .before .before .before .before .before .before .before .before .before .before .before .before .if1 .left))) .1) (c .before .before .before .before .before .before .before .before .before .before .before .before .loop .inv .2 g ((the-rules (c .before .before .before .before .before .before .before .before .before .before .before .before .before .before .before .before .before .before .before .before .pre) _ (c .before .before .before .before .before .before .before .before .before .before .before .before .before .before .before .layout .ensures) (not-false _ (c .before .before .before .before .before .before .before .before .before .before .before .before .before .before .if1 .left))) .0) ((the-rules (c .before .before .before .before .before .before .before .before .before .before .before .before .before .before .before .before .before .before .before .before .pre) _ (c .before .before .before .before .before .before .before .before .before .before .before .before .before .before .before .layout .ensures) (not-false _ (c .before .before .before .before .before .before .before .before .before .before .before .before .before .before .if1 .left))) .1)) (c .before .before .before .before .before .before .before .before .before .before .before .loop-test .taken) (c .before .before .before .before .before .before .before .before .before .before .before .before .loop .inv .0) _ (c .before .before .before .before .before .before .before .before .before .before .before .before .loop .inv .1) _ (c .before .before .before .before .before .before .add .last .1 .1 .1 .1 .1 .0) (c .before .before .before .before .before .before .add .ensures) (c .enum-told .given .1))
+    (λ c. omega (arith, few (c .before .before .before .before .before .before .before .before .before .before .before .before .before .before .before .before .before .before .before .before .before .pre) ((the-rules (c .before .before .before .before .before .before .before .before .before .before .before .before .before .before .before .before .before .before .before .before .before .pre) _ (c .before .before .before .before .before .before .before .before .before .before .before .before .before .before .before .before .layout .ensures) (not-false _ (c .before .before .before .before .before .before .before .before .before .before .before .before .before .before .before .if1 .left))) .0) ((the-rules (c .before .before .before .before .before .before .before .before .before .before .before .before .before .before .before .before .before .before .before .before .before .pre) _ (c .before .before .before .before .before .before .before .before .before .before .before .before .before .before .before .before .layout .ensures) (not-false _ (c .before .before .before .before .before .before .before .before .before .before .before .before .before .before .before .if1 .left))) .1) (c .before .before .before .before .before .before .before .before .before .before .before .before .before .loop .inv .2 (c .before .before .before .before .before .before .before .before .before .before .before .before .before .before .before .before .before .before .before .before .before .pre) ((the-rules (c .before .before .before .before .before .before .before .before .before .before .before .before .before .before .before .before .before .before .before .before .before .pre) _ (c .before .before .before .before .before .before .before .before .before .before .before .before .before .before .before .before .layout .ensures) (not-false _ (c .before .before .before .before .before .before .before .before .before .before .before .before .before .before .before .if1 .left))) .0) ((the-rules (c .before .before .before .before .before .before .before .before .before .before .before .before .before .before .before .before .before .before .before .before .before .pre) _ (c .before .before .before .before .before .before .before .before .before .before .before .before .before .before .before .before .layout .ensures) (not-false _ (c .before .before .before .before .before .before .before .before .before .before .before .before .before .before .before .if1 .left))) .1)) (c .before .before .before .before .before .before .before .before .before .before .before .before .loop-test .taken)))
+    (λ c. omega arith)
+    (λ c. (c .before .before .before .before .before .before .before .add .kept .1 .1 .1 .1 .1 .0 ∙ c .before .before .before .before .before .before .before .before .before .before .before .before .before .loop .inv .0, c .before .before .before .before .before .before .before .add .kept .1 .1 .1 .1 .1 .1 .0 ∙ c .before .before .before .before .before .before .before .before .before .before .before .before .before .loop .inv .1, λ g rs h. again g rs h (c .before .before .before .before .before .before .before .before .before .before .before .before .before .loop .inv .2 g rs h) (c .before .before .before .before .before .before .before .before .before .before .before .before .loop-test .taken) (c .before .before .before .before .before .before .before .before .before .before .before .before .before .loop .inv .0) _ (c .before .before .before .before .before .before .before .before .before .before .before .before .before .loop .inv .1) _ (c .before .before .before .before .before .before .before .add .last .1 .1 .1 .1 .1 .0) (c .before .before .before .before .before .before .before .add .ensures) (c .before .u .given .0 .0) (c .before .u .given .0 .1 .0) (c .before .u .given .1)))
+    (λ c. c .before .loop .inv .0)
+    (λ c. c .before .loop .inv .1)
+    (λ c g. done g ((the-rules (c .before .before .before .before .before .before .before .before .before .pre) _ (c .before .before .before .before .layout .ensures) (not-false _ (c .before .before .before .if1 .left))) .0) ((the-rules (c .before .before .before .before .before .before .before .before .before .pre) _ (c .before .before .before .before .layout .ensures) (not-false _ (c .before .before .before .if1 .left))) .1) (c .before .loop .inv .2 g ((the-rules (c .before .before .before .before .before .before .before .before .before .pre) _ (c .before .before .before .before .layout .ensures) (not-false _ (c .before .before .before .if1 .left))) .0) ((the-rules (c .before .before .before .before .before .before .before .before .before .pre) _ (c .before .before .before .before .layout .ensures) (not-false _ (c .before .before .before .if1 .left))) .1)) (c .loop-test .left)))

@@ -1,0 +1,46 @@
+-- 3: a sound table, and the rows of its rules.
+use mathlib.Core.Path.{_≡_}
+use mathlib.Core.List.{List, _++_, map}
+use mathlib.Core.Option.{none, some}
+use mathlib.Core.Bool.{Bool, _&&_}
+use Prim.Native.Nat.{ℕ, _≤_}
+use lib.Dec.{eqb, leb}
+use lib.ListN.{length}
+use Rattle.signature.specs.Decoded.{Known}
+use Rattle.signature.specs.Lists.{all}
+use Rattle.signature.specs.Signature.{Signature}
+use Rattle.row.specs.Admitted.{refusal-of-pattern}
+use Rattle.table.specs.Limits.{table-length, weight-limit}
+use Rattle.table.specs.Rule.{Rule, total-weight}
+use Rattle.table.specs.Sound.{sound, no-shared}
+use Rattle.builder.specs.Build.{row-room}
+use Rattle.loading.specs.Add.{rows-room, lists-room}
+use Rattle.loading.specs.Lists.{lists-for}
+use Rattle.loading.specs.declared.load.Loaded.{Loaded}
+use Rattle.loading.specs.declared.load.Loaded.the-variants.{Sound, Unsound}
+
+pub record GivenLoad (t table : List ℕ) (n m : ℕ) : Type 0 where
+  pub known : Known t
+  pub long : table-length ≤ length table
+  pub room : rows-room ≤ n
+  pub work-room : row-room ≤ m
+
+-- the patterns of rules
+abbrev pub patterns : List Rule → List (List ℕ)
+patterns rs = map (λ r. r .pattern) rs
+
+-- the lists of the rules' rows stand first
+pub record Ready (sig : Signature) (rs : List Rule) (used total : ℕ) (rows : List ℕ) : Type 0 where
+  pub rest : List ℕ
+  pub code-is : rows ≡ lists-for sig (patterns rs) ++ rest
+  pub used-is : used ≡ length (lists-for sig (patterns rs))
+  pub total-is : total ≡ total-weight sig rs
+  pub small : used ≤ lists-room total (length rs)
+
+abbrev pub LoadedAs : Signature → List ℕ → Loaded → List ℕ → Type 0
+LoadedAs sig table Unsound rows = sound sig table ≡ none
+LoadedAs sig table (Sound used total) rows = (rs : List Rule) × (sound sig table ≡ some rs) × Ready sig rs used total rows
+
+-- what a sound table's rules are besides the layout
+abbrev pub tests : Signature → List Rule → Bool
+tests sig rs = all (λ r. eqb (refusal-of-pattern sig (r .pattern)) 0) rs && leb (total-weight sig rs) weight-limit && no-shared sig rs

@@ -1,0 +1,39 @@
+// Whether a table is sound (refusal 3), and the rows of all its rules.
+use crate::add::Step;
+use crate::add::add;
+use store::layout::RULE_HEAD;
+use store::layout::layout;
+ghost use lib.ListN.{length};
+ghost use Rattle.loading.specs.Load.{GivenLoad, LoadedAs};
+
+// The words used and the weight of all rules; or that the table is not sound.
+pub enum Loaded {
+    Sound(usize, u16),
+    Unsound,
+}
+
+pub fn load(t: &[u16], table: &[u16], rows: &mut [u64], work: &mut [u64]) -> Loaded
+    requires { ⌜ GivenLoad (now t) (now table) (length (now rows)) (length (now work)) ⌝ }
+    ensures { λ r. ⌜ ((g : GivenLoad (now (t .entry)) (now (table .entry)) (length (now (rows .entry))) (length (now (work .entry)))) → LoadedAs (g .known .sig) (now (table .entry)) r (now (rows .exit))) ⌝ }
+{
+    if !layout(table) {
+        return Loaded::Unsound;
+    }
+    let n = table[0];
+    let mut at = 1;
+    let mut used = 0;
+    let mut total = 0;
+    let mut i = 0;
+    while i < n {
+        let from = at + RULE_HEAD;
+        let end = from + table[at + 2] as usize;
+        let Step::Added(u, w) = add(t, &table[from..end], i, used, total, rows, work) else {
+            return Loaded::Unsound;
+        };
+        used = u;
+        total = w;
+        at = end;
+        i += 1;
+    }
+    Loaded::Sound(used, total)
+}
