@@ -4,7 +4,7 @@ use mathlib.Core.Path.{_≡_, refl, ap, ap₂, _∙_, sym, subst}
 use mathlib.Core.List.{List, map, [], _∷_, _++_, append-nil}
 use mathlib.Core.Option.{some}
 use mathlib.Core.Bool.{Bool, true, false, not, cond, _&&_}
-use Prim.Native.Nat.{ℕ, suc, _+_, _*_, _-_, _^_, _≤_, _<_}
+use Prim.Native.Nat.{ℕ, suc, _+_, _-_, _^_, _≤_, _<_}
 use native.Mathlib.Omega.{arith}
 use lib.Dec.{eqb, leb}
 use lib.ListN.{length, length-append, getD}
@@ -17,17 +17,16 @@ use Rattle.signature.proofs.Booleans.{and-left, and-right}
 use Rattle.signature.proofs.Heads.{args-same}
 use Rattle.signature.proofs.KnownFacts.{words-of, is-constructor, long}
 use Rattle.signature.proofs.Members.{memb-keep}
-use Rattle.signature.proofs.Tests.{eqb-eq, eqb-ne, eqb-no, eqb-self, le-of, true≢false}
+use Rattle.signature.proofs.Tests.{eqb-eq, eqb-ne, eqb-self, le-of, true≢false}
 use Rattle.pattern.specs.Pattern.{Pattern, head, and, or, wild, absurd-pat, neg, var, pattern-code, Patterns, patterns-code}
 use Rattle.pattern.specs.Weight.{product-plus, sum-minus, light-all-plus, light-all-minus}
 use Rattle.pattern.specs.WellFormed.{WellFormed, AllWellFormed, well-head}
-use Rattle.cell.specs.Cell.{wordss}
-use Rattle.cell.specs.Coded.{kinds-of, code, cellss}
+use Rattle.cell.specs.Coded.{kinds-of, code}
 use Rattle.cell.specs.Mask.{mask, Within}
 use Rattle.cell.specs.RowList.{from, entries}
 use Rattle.cell.proofs.Masks.{bit-ext, bit-mask, mask-nil, mask-one, mask-some, one-if, within-keep}
 use Rattle.cell.proofs.Walk.{each-append}
-use Rattle.row.specs.Row.{Row, Rows, named, free, other-than, rows-plus, rows-minus, args-plus, args-minus}
+use Rattle.row.specs.Row.{Rows, named, free, other-than, args-plus, args-minus}
 use Rattle.rowlist.specs.Grow.{words-list, appends}
 use Rattle.rowlist.specs.Next.{GivenOthers, others-code}
 use Rattle.rowlist.specs.Product.{Product}
@@ -35,9 +34,9 @@ use Rattle.rowlist.specs.Sides.{rows-of}
 use Rattle.rowlist.proofs.Kinded.{known-head, kinds-same}
 use Rattle.rowlist.proofs.Typing.{args-there}
 use Rattle.builder.specs.Arguments.{GivenArgs, MadeArgs, HasFirst, few-begun, lights-of, row-words, arg-words, open-words, behind}
-use Rattle.builder.specs.Build.{light-of, GivenPat, GivenHead, Made}
+use Rattle.builder.specs.Build.{light-of, GivenHead, Made}
 use Rattle.builder.proofs.Behind.{list-words}
-use Rattle.builder.proofs.Parts.{first-part, word-is, some-word}
+use Rattle.builder.proofs.Parts.{first-part, word-is}
 
 -- ---- a pattern whose first word is a constructor
 pub record HeadOf (sig : Signature) (k : ℕ) (p : Pattern) (b : Bool) (c : ℕ) : Type 0 where

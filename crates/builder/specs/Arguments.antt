@@ -17,7 +17,6 @@ use Rattle.cell.specs.Coded.{kinds-of, code, cellss}
 use Rattle.rowlist.specs.Grow.{appends, grown, Filled, words-list}
 use Rattle.rowlist.specs.Product.{Product}
 use Rattle.rowlist.specs.Next.{Short}
-use Rattle.cell.specs.RowList.{from}
 use Rattle.row.specs.Row.{Row, Rows, open-rows, args-plus, args-minus}
 
 -- the words of rows of one kind; of the arguments of a constructor

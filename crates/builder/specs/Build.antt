@@ -7,7 +7,7 @@ use lib.Dec.{eqb, ltb}
 use lib.ListN.{length, getD}
 use Rattle.signature.specs.Decoded.{Known}
 use Rattle.signature.specs.Signature.{Signature}
-use Rattle.pattern.specs.Pattern.{Pattern, and, pattern-code}
+use Rattle.pattern.specs.Pattern.{Pattern, pattern-code}
 use Rattle.pattern.specs.Limits.{pattern-limit}
 use Rattle.pattern.specs.Weight.{light-plus, light-minus, weight-plus}
 use Rattle.pattern.specs.WellFormed.{WellFormed, PatternWords}

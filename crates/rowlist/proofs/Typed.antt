@@ -3,7 +3,7 @@ use mathlib.Core.Path.{refl, _≡_, subst, sym}
 use mathlib.Core.List.{List, _∷_, [], _++_, map}
 use mathlib.Core.Option.{Option, none, some}
 use mathlib.Core.Bool.{Bool, true, false, not}
-use Prim.Native.Nat.{ℕ, _<_, _-_, _+_}
+use Prim.Native.Nat.{ℕ, _<_}
 use lib.Dec.{eqb}
 use Rattle.signature.specs.Lists.{require, _>>=_, is-empty, memb, keep, somes}
 use Rattle.signature.proofs.Tests.{eqb-eq}

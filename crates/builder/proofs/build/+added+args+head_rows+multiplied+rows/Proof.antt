@@ -1,5 +1,5 @@
 -- The proof of the cycle of calls {added, args, head_rows, multiplied, rows}. The measure is three times the number of unread words, and which of them is called. Assumes nothing.
-use mathlib.Core.Path.{_≡_, refl, sym, _∙_}
+use mathlib.Core.Path.{refl, sym, _∙_}
 use Prim.Native.Nat.{ℕ, _+_, _*_, _^_, _<_}
 use native.Mathlib.Nat.{one-mul}
 use native.Mathlib.Omega.{arith}

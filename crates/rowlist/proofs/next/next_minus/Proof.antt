@@ -1,8 +1,7 @@
 -- `rowlist::next::next_minus` meets its contract. Assumes nothing.
-use mathlib.Core.Path.{_≡_, refl, _∙_}
+use mathlib.Core.Path.{refl, _∙_}
 use native.Mathlib.Omega.{arith}
-use borrow.Author.Needs.{needs}
-use lib.ListN.{length, length-set}
+use lib.ListN.{length-set}
 use Rattle.rowlist.proofs.OneMore.{first-word, wild-given, first-given, minus-end, minus-made}
 use Rattle.cell.proofs.Walk.{back-length}
 use Rattle.rowlist.proofs.next.next_minus.Statement.{statement}

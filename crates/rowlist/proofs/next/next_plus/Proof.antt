@@ -1,10 +1,8 @@
 -- `rowlist::next::next_plus` meets its contract. Assumes nothing.
-use mathlib.Core.Path.{_≡_, refl, _∙_}
 use native.Mathlib.Omega.{arith}
 use borrow.Author.Needs.{needs}
-use lib.ListN.{length, length-set}
+use lib.ListN.{length-set}
 use Rattle.rowlist.proofs.OneMore.{product-fits, next-grow, next-none, next-each}
-use Rattle.cell.proofs.Walk.{back-length}
 use Rattle.rowlist.proofs.next.next_plus.Statement.{statement}
 use Rattle.rowlist.proofs.next.next_plus.Tie as tie
 

@@ -1,7 +1,7 @@
 -- `rowlist::next::others` meets its contract. Assumes nothing.
 use mathlib.Core.Path.{refl, _∙_}
 use native.Mathlib.Omega.{arith}
-use lib.ListN.{length, length-set}
+use lib.ListN.{length-set}
 use Rattle.rowlist.proofs.Others.{others-fit, skip-fits, left-fits, others-none, others-some}
 use Rattle.rowlist.proofs.next.others.Statement.{statement}
 use Rattle.rowlist.proofs.next.others.Tie as tie
