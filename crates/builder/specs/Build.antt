@@ -80,6 +80,18 @@ pub record Made (K : Kinds) (sig : Signature) (k : ℕ) (b : Bool) (p : Pattern)
   pub read-is : read ≡ length (pattern-code p)
   pub list : Product (entries K k (rows-of sig k b p)) used o
 
+-- ---- a part, of kind k on the side b, in front of the words
+pub record GivenPart (t : List ℕ) (k : ℕ) (w : List ℕ) (b : Bool) (n m : ℕ) : Type 0 where
+  pub known : Known t
+  pub there : k < known .decoded .n
+  pub p : Pattern
+  pub rest : List ℕ
+  pub code-is : w ≡ pattern-code p ++ rest
+  pub well : WellFormed (known .sig) k p
+  pub light : light-of b p ≡ true
+  pub room : room-unit * length (pattern-code p) ≤ n
+  pub work-room : room-unit * length (pattern-code p) ≤ m
+
 -- ---- a whole pattern, of kind 0, that passed 7 and 9
 -- words of each slice: for a pattern of 64 words
 abbrev pub row-room : ℕ

@@ -24,7 +24,7 @@ ghost use Rattle.cell.specs.Coded.{kinds-of};
 ghost use Rattle.cell.specs.RowList.{entries, from};
 ghost use Rattle.rowlist.specs.Product.{GivenProduct, Product, products};
 ghost use Rattle.builder.specs.Arguments.{GivenArgs, MadeArgs};
-ghost use Rattle.builder.specs.Build.{multiplies, vars-of, leaf-entries, GivenPat, GivenHead, GivenMultiplied, GivenAdded, Made, GivenWhole, RowsFirst};
+ghost use Rattle.builder.specs.Build.{multiplies, vars-of, leaf-entries, GivenPat, GivenHead, GivenMultiplied, GivenAdded, Made, GivenPart, GivenWhole, RowsFirst};
 
 // The words of the connectives, of the wildcard and of absurd.
 const AND: u16 = 256;
@@ -265,12 +265,28 @@ fn args(
     Built { used: b.used, read }
 }
 
+// The rows of the part in front of p, of kind k, on one side.
+pub fn part_rows(
+    t: &[u16],
+    k: usize,
+    p: &[u16],
+    plus: bool,
+    out: &mut [u64],
+    work: &mut [u64],
+) -> Built
+    requires { ⌜ GivenPart (now t) k (now p) plus (length (now out)) (length (now work)) ⌝ }
+    ensures { λ r. ⌜ ((g : GivenPart (now (t .entry)) k (now (p .entry)) plus (length (now (out .entry))) (length (now (work .entry)))) → Made (kinds-of (g .known .sig)) (g .known .sig) k plus (g .p) (r .used) (r .read) (now (out .exit))) ⌝ }
+{
+    let full = full_of(t, k);
+    let tag = KIND_TAG + k as u64;
+    rows(t, tag, full, p, plus, out, work)
+}
+
 // The rows of a whole pattern: their list first in out, of so many words without its end.
 pub fn build(t: &[u16], p: &[u16], out: &mut [u64], work: &mut [u64]) -> usize
     requires { ⌜ GivenWhole (now t) (now p) (length (now out)) (length (now work)) ⌝ }
     ensures { λ r. ⌜ ((g : GivenWhole (now (t .entry)) (now (p .entry)) (length (now (out .entry))) (length (now (work .entry)))) → RowsFirst (g .known .sig) (g .p) r (now (out .exit))) ⌝ }
 {
-    let full = full_of(t, 0);
-    let a = rows(t, KIND_TAG, full, p, true, out, work);
+    let a = part_rows(t, 0, p, true, out, work);
     a.used
 }
