@@ -1,5 +1,7 @@
 // A table emptied; a rule put in, and taken out.
 use crate::find::end;
+use crate::layout::LENGTH;
+use crate::layout::PLAN;
 use crate::layout::RULE_HEAD;
 use crate::layout::TABLE;
 use shift::copy;
@@ -14,6 +16,7 @@ ghost use Rattle.pattern.specs.Limits.{pattern-limit};
 ghost use Rattle.table.specs.Limits.{table-length};
 ghost use Rattle.table.specs.Rule.{rule-words, stored, add-rule, take-out};
 ghost use Rattle.store.specs.Change.{GivenPut, GivenTake};
+ghost use Rattle.store.specs.Place.{rule-head};
 
 // The empty table.
 pub fn clear(table: &mut [u16])
@@ -25,12 +28,12 @@ pub fn clear(table: &mut [u16])
 
 // The words of a rule.
 fn write(words: &mut [u16], number: u16, plan: u16, pattern: &[u16])
-    requires { ⌜ (length (now words) ≡ 3 + length (now pattern)) × (length (now pattern) ≤ pattern-limit) ⌝ }
+    requires { ⌜ (length (now words) ≡ rule-head + length (now pattern)) × (length (now pattern) ≤ pattern-limit) ⌝ }
     ensures { λ _. ⌜ now (words .exit) ≡ rule-words (record { number = number; plan = plan; pattern = now (pattern .entry) }) ⌝ }
 {
     words[0] = number;
-    words[1] = plan;
-    words[2] = pattern.len() as u16;
+    words[PLAN] = plan;
+    words[LENGTH] = pattern.len() as u16;
     copy(&mut words[RULE_HEAD..], pattern);
 }
 
@@ -52,7 +55,7 @@ pub fn take_out(table: &mut [u16], at: usize)
     ensures { λ _. ⌜ ((g : GivenTake (now (table .entry)) at) → now (table .exit) ≡ stored (take-out (g .number) (g .rs)) (now (table .entry))) ⌝ }
 {
     let behind = end(table);
-    let d = RULE_HEAD + table[at + 2] as usize;
+    let d = RULE_HEAD + table[at + LENGTH] as usize;
     remove(table, at, behind, d);
     table[0] = table[0] - 1;
 }
