@@ -12,7 +12,7 @@ use Rattle.signature.specs.Lists.{All, all, require, _>>=_}
 use Rattle.signature.specs.Signature.{Signature}
 use Rattle.signature.proofs.Booleans.{and-left, and-right}
 use Rattle.signature.proofs.ListFacts.{take-exact, drop-exact}
-use Rattle.signature.proofs.Tests.{bind-some, require-some, none≢some, le-of, leb-yes, same-some}
+use Rattle.signature.proofs.Tests.{bind-some, require-some, none≢some, le-of, leb-yes, same-some, some-inj}
 use Rattle.pattern.specs.Limits.{pattern-limit}
 use Rattle.row.specs.Admitted.{refusal-of-pattern}
 use Rattle.table.specs.Limits.{table-length, rules-length, rule-limit, rule-length, weight-limit}
@@ -82,6 +82,12 @@ bind-bind (some a) f g = refl
 pub sound-laid : (sig : Signature) (table : List ℕ) → sound sig table ≡ (laid table >>= λ rs. require (all (λ r. eqb (refusal-of-pattern sig (r .pattern)) 0) rs && leb (total-weight sig rs) weight-limit && no-shared sig rs) >>= λ u. some rs)
 sound-laid sig [] = refl
 sound-laid sig (n ∷ ws) = bind-bind (require (leb rules-length (length ws) && leb n rule-limit)) (λ u. read-rules n 0 (take rules-length ws)) _
+
+pub sound-holds : (sig : Signature) (table : List ℕ) (rs : List Rule) → sound sig table ≡ some rs → Holds table rs
+sound-holds sig table rs e =
+    let (qs, e₁, f₁) = bind-some (laid table) _ rs (sym (sound-laid sig table) ∙ e) in
+    let (u, e₂, f₂) = bind-some (require (all (λ r. eqb (refusal-of-pattern sig (r .pattern)) 0) qs && leb (total-weight sig qs) weight-limit && no-shared sig qs)) _ rs f₁ in
+    subst (Holds table) (some-inj qs rs f₂) (laid-holds table qs e₁)
 
 -- ---- stored
 

@@ -1,3 +1,4 @@
+pub mod ChangeFacts
 pub mod FindFacts
 pub mod LaidFacts
 pub mod Laws

@@ -8,7 +8,7 @@ use lib.Seq.{take-at, drop-at, drop-drop, getD-drop}
 use Rattle.table.specs.Limits.{table-length}
 use Rattle.table.specs.Rule.{Rule, rule-words, rules-words}
 use Rattle.store.specs.Laid.{Holds}
-use Rattle.store.specs.Place.{RuleAt, Walked, Step}
+use Rattle.store.specs.Place.{rule-head, RuleAt, Walked, Step}
 use Rattle.store.proofs.LaidFacts.{behind, room, is-stored}
 
 pub words-append : (before after : List Rule) → rules-words (before ++ after) ≡ rules-words before ++ rules-words after
@@ -51,6 +51,11 @@ module _ {table : List ℕ} (before : List Rule) (r : Rule) (after : List Rule) 
         pattern-is = ap (take (length (r .pattern))) past ∙ take-at (r .pattern) rest (length (r .pattern)) refl;
         within = omega arith;
       }
+
+pub pattern-part : (table : List ℕ) (at : ℕ) (r : Rule) → RuleAt table at r → take (at + rule-head + getD table (at + 2) 0 - (at + rule-head)) (drop (at + rule-head) table) ≡ r .pattern
+pattern-part table at r q =
+    let n : at + 3 + getD table (at + 2) 0 - (at + 3) ≡ length (r .pattern) = omega (arith, q .length-is) in
+    ap (λ (m : ℕ). take m (drop (at + 3) table)) n ∙ q .pattern-is
 
 pub walk-start : (rs : List Rule) → Walked rs [] rs 0 1
 walk-start rs = record { are = refl; passed = refl; at-is = refl }

@@ -3,9 +3,9 @@ use mathlib.Core.Path.{_≡_}
 use mathlib.Core.List.{List, [], _∷_, _++_}
 use mathlib.Core.Option.{some}
 use mathlib.Core.Bool.{_&&_}
-use Prim.Native.Nat.{ℕ, suc, _-_, _<_, _≤_}
+use Prim.Native.Nat.{ℕ, suc, _+_, _-_, _<_, _≤_}
 use lib.Dec.{eqb, leb}
-use lib.ListN.{length, drop, replicate}
+use lib.ListN.{length, getD, take, drop, replicate}
 use Rattle.signature.specs.Lists.{Iff, All, all, require, _>>=_}
 use Rattle.signature.specs.Signature.{Signature}
 use Rattle.pattern.specs.Limits.{pattern-limit}
@@ -14,7 +14,7 @@ use Rattle.table.specs.Limits.{table-length, rule-limit, weight-limit}
 use Rattle.table.specs.Rule.{Rule, Rises, rule-words, rules-words, stored, total-weight}
 use Rattle.table.specs.Sound.{sound, no-shared}
 use Rattle.store.specs.Laid.{laid, Holds}
-use Rattle.store.specs.Place.{RuleAt, Walked, Step}
+use Rattle.store.specs.Place.{rule-head, RuleAt, Walked, Step}
 
 pub record Laws : Type 0 where
   -- exactly the tables with that layout are read, and what was read is there
@@ -22,11 +22,17 @@ pub record Laws : Type 0 where
   pub one-list : (table : List ℕ) (rs qs : List Rule) → Holds table rs → Holds table qs → rs ≡ qs
   -- "Sound: that layout, .. past refusals 7 to 10, .. weighing at most 256 in all, no two taking one lawful booking"
   pub sound-laid : (sig : Signature) (table : List ℕ) → sound sig table ≡ (laid table >>= λ rs. require (all (λ r. eqb (refusal-of-pattern sig (r .pattern)) 0) rs && leb (total-weight sig rs) weight-limit && no-shared sig rs) >>= λ u. some rs)
+  pub sound-holds : (sig : Signature) (table : List ℕ) (rs : List Rule) → sound sig table ≡ some rs → Holds table rs
   -- rules that are stored are held
   pub stored-holds : (lent : List ℕ) (rs : List Rule) → table-length ≤ length lent → Rises 0 rs → length rs ≤ rule-limit → All (λ r. length (r .pattern) ≤ pattern-limit) rs → Holds (stored rs lent) rs
+  -- "the rule count"
+  pub count-is : (table : List ℕ) (rs : List Rule) → Holds table rs → getD table 0 0 ≡ length rs
   -- the words from a rule on
   pub words-at : (table : List ℕ) (before : List Rule) (r : Rule) (after : List Rule) → Holds table (before ++ (r ∷ after)) → drop (suc (length (rules-words before))) table ≡ rule-words r ++ (rules-words after ++ (replicate (table-length - suc (length (rules-words (before ++ (r ∷ after))))) 0 ++ drop table-length table))
   pub rule-at : (table : List ℕ) (before : List Rule) (r : Rule) (after : List Rule) → Holds table (before ++ (r ∷ after)) → RuleAt table (suc (length (rules-words before))) r
-  -- a walk over the rules, from index 1 on
+  -- a rule's pattern as a part of the table
+  pub pattern-part : (table : List ℕ) (at : ℕ) (r : Rule) → RuleAt table at r → take (at + rule-head + getD table (at + 2) 0 - (at + rule-head)) (drop (at + rule-head) table) ≡ r .pattern
+  -- a walk over the rules, from index 1 to the index behind the last
   pub walk-start : (rs : List Rule) → Walked rs [] rs 0 1
   pub walk-step : (table : List ℕ) (rs before after : List Rule) (i at : ℕ) → Holds table rs → Walked rs before after i at → i < length rs → Step table rs before after i at
+  pub walk-end : (rs before after : List Rule) (i at : ℕ) → Walked rs before after i at → length rs ≤ i → (after ≡ []) × (rs ≡ before)

@@ -10,13 +10,17 @@ use Rattle.table.specs.Rule.{Rule, rules-words, held}
 use Rattle.store.specs.declared.find.Found.{Found}
 use Rattle.store.specs.declared.find.Found.the-variants.{Held, Free}
 
+-- "number, plan, pattern length": the words before a pattern
+abbrev pub rule-head : ℕ
+rule-head = 3
+
 -- "per rule number, plan, pattern length and pattern": the words of a rule at an index
 pub record RuleAt (table : List ℕ) (at : ℕ) (r : Rule) : Type 0 where
   pub number-is : getD table at 0 ≡ r .number
   pub plan-is : getD table (at + 1) 0 ≡ r .plan
   pub length-is : getD table (at + 2) 0 ≡ length (r .pattern)
-  pub pattern-is : take (length (r .pattern)) (drop (at + 3) table) ≡ r .pattern
-  pub within : at + 3 + length (r .pattern) ≤ table-length
+  pub pattern-is : take (length (r .pattern)) (drop (at + rule-head) table) ≡ r .pattern
+  pub within : at + rule-head + length (r .pattern) ≤ table-length
 
 -- a walk over the rules: i of them are passed, and the others stand from this index on
 pub record Walked (rs before after : List Rule) (i at : ℕ) : Type 0 where
@@ -30,7 +34,7 @@ pub record Step (table : List ℕ) (rs before after : List Rule) (i at : ℕ) : 
   pub later : List Rule
   pub here : after ≡ rule ∷ later
   pub reads : RuleAt table at rule
-  pub next : Walked rs (before ++ (rule ∷ [])) later (i + 1) (at + 3 + getD table (at + 2) 0)
+  pub next : Walked rs (before ++ (rule ∷ [])) later (i + 1) (at + rule-head + getD table (at + 2) 0)
 
 -- the rule n stands there
 pub record HeldAt (n : ℕ) (rs : List Rule) (at : ℕ) : Type 0 where

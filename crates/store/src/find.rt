@@ -1,4 +1,5 @@
 // Where rules stand in a table.
+use crate::layout::LENGTH;
 use crate::layout::RULE_HEAD;
 ghost use mathlib.Core.Path.{_≡_};
 ghost use mathlib.Core.List.{List};
@@ -23,12 +24,14 @@ pub fn end(table: &[u16]) -> usize
     let mut at = 1;
     let mut i = 0;
     while i < n {
-        at = at + RULE_HEAD + table[at + 2] as usize;
+        let len = table[at + LENGTH] as usize;
+        at = at + RULE_HEAD + len;
         i += 1;
     }
     at
 }
 
+// Where the rule with this number stands, or would.
 pub fn find(table: &[u16], number: u16) -> Found
     requires { ⌜ ((rs : List Rule) × Holds (now table) rs) ⌝ }
     ensures { λ r. ⌜ ((rs : List Rule) → Holds (now (table .entry)) rs → FoundAt number rs r) ⌝ }
@@ -44,7 +47,7 @@ pub fn find(table: &[u16], number: u16) -> Found
         if number < m {
             return Found::Free(at);
         }
-        at = at + RULE_HEAD + table[at + 2] as usize;
+        at = at + RULE_HEAD + table[at + LENGTH] as usize;
         i += 1;
     }
     Found::Free(at)

@@ -8,7 +8,7 @@ ghost use Rattle.table.specs.Limits.{table-length};
 ghost use Rattle.store.specs.Head.{HeadAt, from};
 ghost use Rattle.store.specs.Laid.{laid};
 
-// The words of a table, and the rules that it may hold.
+// The words of a table, the rules that it may hold, and their highest number.
 pub const TABLE: usize = 4289;
 
 pub const RULES: u16 = 64;
@@ -17,6 +17,10 @@ pub const LAST_NUMBER: u16 = 999;
 
 // The words before a rule's pattern: number, plan, pattern length.
 pub const RULE_HEAD: usize = 3;
+
+pub const PLAN: usize = 1;
+
+pub const LENGTH: usize = 2;
 
 // A rule's number, and the index behind it.
 pub enum Head {
@@ -40,7 +44,7 @@ fn rule_from(table: &[u16], at: usize, last: u16) -> Head
         return Head::Broken;
     }
     let from = at + RULE_HEAD;
-    let len = table[at + 2] as usize;
+    let len = table[at + LENGTH] as usize;
     if TABLE - from < len {
         return Head::Broken;
     }
@@ -62,6 +66,7 @@ fn zeros(table: &[u16], at: usize) -> bool
     true
 }
 
+// Whether the table has that layout.
 pub fn layout(table: &[u16]) -> bool
     requires { ⌜ table-length ≤ length (now table) ⌝ }
     ensures { λ r. ⌜ r ≡ is-some (laid (now (table .entry))) ⌝ }

@@ -34,7 +34,7 @@ end-spec =
     (λ c. (omega arith, c .before .pre .1 .long, λ rs h. begin rs))
     (λ c. omega arith)
     (λ c. omega arith)
-    (λ c. omega arith)
+    (λ c. omega (arith, within (c .before)))
     (λ c. omega (arith, within (c .before)))
     (λ c. omega (arith, within (c .before)))
     (λ c. omega (arith, within (c .before)))
