@@ -1,18 +1,41 @@
 -- The list without its first row, behind the row of the other heads, as it is written.
-use mathlib.Core.Path.{_≡_, refl, ap, _∙_, sym}
+use mathlib.Core.Path.{_≡_, refl, ap, ap₂, _∙_, sym}
 use mathlib.Core.List.{List, [], _∷_, _++_, append-assoc}
+use mathlib.Core.Bool.{Bool, true, false, cond}
 use Prim.Native.Nat.{ℕ, _+_, _-_, _≤_}
 use native.Mathlib.Nat.{zero-add}
 use native.Mathlib.Numerals.{add-one}
 use native.Mathlib.Omega.{arith}
 use borrow.Author.Tests.{ne-eqb}
+use lib.Dec.{eqb}
 use lib.ListN.{length, set, take, drop, getD, length-append, length-take, take-append-drop}
 use lib.Seq.{drop-at, take-at}
 use Rattle.rowlist.specs.Grow.{words-list}
 use Rattle.rowlist.specs.Next.{GivenOthers, others-code}
 use Rattle.rowlist.specs.Product.{Product}
-use Rattle.cell.specs.RowList.{from}
+use Rattle.cell.specs.RowList.{from, Begins}
 use Rattle.cell.proofs.Walk.{from-is}
+
+code-short : (tag rest : ℕ) → length (others-code tag rest) ≤ 4
+code-short tag rest = go (eqb rest 0)
+  where
+    go : (b : Bool) → length (cond b [] (3 ∷ (tag ∷ (0 ∷ (rest ∷ []))))) ≤ 4
+    go true = omega arith
+    go false = omega arith
+
+-- the row of the other heads
+pub no-other : (tag rest : ℕ) (o : List ℕ) → rest ≡ 0 → Begins (others-code tag rest) 0 o
+no-other tag rest o z = rw z (refl, refl)
+
+pub some-other : (tag rest : ℕ) (o : List ℕ) → ¬ (rest ≡ 0) → 4 ≤ length o → Begins (others-code tag rest) 4 (set (set (set (set o 0 3) 1 tag) 2 0) 3 rest)
+some-other tag rest o z h = rw (ne-eqb rest 0 z) (refl, four o h)
+  where
+    four : (o : List ℕ) → 4 ≤ length o → take 4 (set (set (set (set o 0 3) 1 tag) 2 0) 3 rest) ≡ 3 ∷ (tag ∷ (0 ∷ (rest ∷ [])))
+    four [] h = absurd (omega arith)
+    four (a ∷ []) h = absurd (omega arith)
+    four (a ∷ (b ∷ [])) h = absurd (omega arith)
+    four (a ∷ (b ∷ (c ∷ []))) h = absurd (omega arith)
+    four (a ∷ (b ∷ (c ∷ (d ∷ o)))) h = refl
 
 module _ {used : ℕ} {o : List ℕ} {m : ℕ} (g : GivenOthers used o m) where
   abbrev others-list : List ℕ
@@ -52,32 +75,18 @@ module _ {used : ℕ} {o : List ℕ} {m : ℕ} (g : GivenOthers used o m) where
       omega (arith, first-is, g .cell),
     )
 
-    pub left-fits : (used + 1 - (getD w 0 0 + 1) ≤ length (from w (getD w 0 0 + 1))) × (4 + (used + 1 - (getD w 0 0 + 1)) ≤ length o) × (1 ≤ used + 1 - (getD w 0 0 + 1))
-    left-fits = (
+    pub left-fits : (tag rest n : ℕ) → n ≡ length (others-code tag rest) → (used + 1 - (getD w 0 0 + 1) ≤ length (from w (getD w 0 0 + 1))) × (n + (used + 1 - (getD w 0 0 + 1)) ≤ length o) × (1 ≤ used + 1 - (getD w 0 0 + 1))
+    left-fits tag rest n e = (
       omega (arith, left-is, simp length-append at (ap length behind-is)),
-      omega (arith, left-is, others-fit .0, whole-size, g .cell),
+      omega (arith, left-is, others-fit .0, whole-size, g .cell, e, code-short tag rest),
       omega (arith, left-is),
     )
 
-    module _ (tag rest : ℕ) (o' : List ℕ) where
-      -- no other head
-      pub others-none : rest ≡ 0 → take (0 + (used + 1 - (getD w 0 0 + 1))) o' ≡ take (used + 1 - (getD w 0 0 + 1)) (from w (getD w 0 0 + 1)) → Product (others-code tag rest ++ words-list (g .vs)) (used + 1 - (getD w 0 0 + 1) - 1) o'
-      others-none z e =
-          let i : used + 1 - (getD w 0 0 + 1) - 1 + 1 ≡ used + 1 - (getD w 0 0 + 1) = omega (arith, left-is) in
-          rw z (record { size = omega (arith, left-is); list = rw i (ap (λ (i : ℕ). take i o') (sym (zero-add (used + 1 - (getD w 0 0 + 1)))) ∙ e ∙ left-take) })
-
-      pub others-some : ¬ (rest ≡ 0) → take (4 + (used + 1 - (getD w 0 0 + 1))) o' ≡ take 4 (set (set (set (set o 0 3) 1 tag) 2 0) 3 rest) ++ take (used + 1 - (getD w 0 0 + 1)) (from w (getD w 0 0 + 1))
-          → Product (others-code tag rest ++ words-list (g .vs)) (used + 1 - (getD w 0 0 + 1) + 3) o'
-      others-some z e =
-          let i : used + 1 - (getD w 0 0 + 1) + 3 + 1 ≡ 4 + (used + 1 - (getD w 0 0 + 1)) = omega arith in
-          rw (ne-eqb rest 0 z) (record {
-            size = omega (arith, left-is);
-            list = rw i (e ∙ ap (λ (z : List ℕ). take 4 (set (set (set (set o 0 3) 1 tag) 2 0) 3 rest) ++ z) left-take ∙ ap (λ (z : List ℕ). z ++ others-list) (four o (omega (arith, others-fit .0, whole-size, g .cell))));
-          })
-        where
-          four : (o : List ℕ) → 4 ≤ length o → take 4 (set (set (set (set o 0 3) 1 tag) 2 0) 3 rest) ≡ 3 ∷ (tag ∷ (0 ∷ (rest ∷ [])))
-          four [] h = absurd (omega arith)
-          four (a ∷ []) h = absurd (omega arith)
-          four (a ∷ (b ∷ [])) h = absurd (omega arith)
-          four (a ∷ (b ∷ (c ∷ []))) h = absurd (omega arith)
-          four (a ∷ (b ∷ (c ∷ (d ∷ o)))) h = refl
+    pub others-made : (tag rest n : ℕ) (o₁ o' : List ℕ) → Begins (others-code tag rest) n o₁ → take (n + (used + 1 - (getD w 0 0 + 1))) o' ≡ take n o₁ ++ take (used + 1 - (getD w 0 0 + 1)) (from w (getD w 0 0 + 1))
+        → Product (others-code tag rest ++ words-list (g .vs)) (n + (used + 1 - (getD w 0 0 + 1)) - 1) o'
+    others-made tag rest n o₁ o' b e =
+        let i : n + (used + 1 - (getD w 0 0 + 1)) - 1 + 1 ≡ n + (used + 1 - (getD w 0 0 + 1)) = omega (arith, left-is) in
+        record {
+          size = simp length-append (omega (arith, left-is, b .0));
+          list = rw i (e ∙ ap₂ (λ (x y : List ℕ). x ++ y) (b .1) left-take ∙ sym (append-assoc (others-code tag rest) (words-list (g .vs)) (0 ∷ [])));
+        }

@@ -5,7 +5,9 @@ use crate::grow::copy;
 use crate::grow::count;
 ghost use mathlib.Core.List.{[], _∷_, _++_};
 ghost use mathlib.Core.Bool.{true, false};
+ghost use Prim.Native.Nat.{_≤_};
 ghost use lib.ListN.{length};
+ghost use Rattle.cell.specs.RowList.{Begins};
 ghost use Rattle.rowlist.specs.Next.{GivenNext, GivenNextMinus, GivenNextAt, next-made, next-rows, GivenOthers, others-code};
 ghost use Rattle.rowlist.specs.Grow.{words-list};
 ghost use Rattle.rowlist.specs.Product.{Product};
@@ -58,6 +60,21 @@ pub fn next_rows(
     next_minus(tag, full, lists, at, out)
 }
 
+// The row of the other heads first in out, if there are any; how many words.
+fn other_row(tag: u64, rest: u64, out: &mut [u64]) -> usize
+    requires { ⌜ 4 ≤ length (now out) ⌝ }
+    ensures { λ r. ⌜ Begins (others-code tag rest) r (now (out .exit)) ⌝ }
+{
+    if rest == 0 {
+        return 0;
+    }
+    out[0] = 3;
+    out[1] = tag;
+    out[2] = 0;
+    out[3] = rest;
+    4
+}
+
 // The list without its first row, behind the row of the other heads, if there are any.
 pub fn others(tag: u64, rest: u64, used: usize, out: &mut [u64], work: &mut [u64]) -> usize
     requires { ⌜ GivenOthers used (now out) (length (now work)) ⌝ }
@@ -67,14 +84,7 @@ pub fn others(tag: u64, rest: u64, used: usize, out: &mut [u64], work: &mut [u64
     copy(out, at, work, 0);
     let skip = work[0] as usize + 1;
     let left = at - skip;
-    if rest == 0 {
-        copy(&work[skip..], left, out, 0);
-        return left - 1;
-    }
-    out[0] = 3;
-    out[1] = tag;
-    out[2] = 0;
-    out[3] = rest;
-    copy(&work[skip..], left, out, 4);
-    left + 3
+    let n = other_row(tag, rest, out);
+    copy(&work[skip..], left, out, n);
+    n + left - 1
 }
