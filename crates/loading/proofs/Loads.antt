@@ -8,7 +8,7 @@ use native.Mathlib.Omega.{arith}
 use lib.ListN.{length, getD, take, drop, length-append, length-map}
 use Rattle.signature.specs.Lists.{is-some, require, _>>=_}
 use Rattle.signature.specs.Signature.{Signature}
-use Rattle.signature.proofs.Tests.{true≢false}
+use Rattle.signature.proofs.Tests.{true≢false, bind-some, require-some, some-inj}
 use Rattle.table.specs.Limits.{table-length, weight-limit, rule-limit}
 use Rattle.table.specs.Rule.{Rule}
 use Rattle.table.specs.Sound.{sound}
@@ -132,3 +132,11 @@ module _ {t table : List ℕ} {n m : ℕ} (g : GivenLoad t table n m) (rs : List
               };
               good = tests-more (g .known .sig) (l .before) (step .rule) (l .good) (y .0);
             }
+
+-- the rules of a sound table are held, and pass the tests
+pub sound-holds : (sig : Signature) (table : List ℕ) (rs : List Rule) → sound sig table ≡ some rs → Holds table rs × (tests sig rs ≡ true)
+sound-holds sig table rs e =
+    let (qs, l, f) = bind-some (laid table) (λ qs. require (tests sig qs) >>= λ u. some qs) rs (sym (sound-laid sig table) ∙ e) in
+    let (u, q, i) = bind-some (require (tests sig qs)) (λ u. some qs) rs f in
+    let same : qs ≡ rs = some-inj qs rs i in
+    (subst (Holds table) same (laid-holds table qs l), subst (λ z. tests sig z ≡ true) same (require-some (tests sig qs) u q))

@@ -8,7 +8,7 @@ use lib.Dec.{eqb, leb}
 use Rattle.signature.specs.Lists.{all, any, _or-else_}
 use Rattle.signature.specs.Signature.{Signature}
 use Rattle.signature.proofs.Booleans.{and-left, and-right}
-use Rattle.signature.proofs.Tests.{leb-yes, leb-no, true≢false, le-of, lt-of-not}
+use Rattle.signature.proofs.Tests.{eqb-eq, leb-yes, leb-no, true≢false, le-of, lt-of-not}
 use Rattle.pattern.specs.Weight.{weight}
 use Rattle.row.specs.Admitted.{refusal-of-pattern}
 use Rattle.row.specs.Overlap.{shares}
@@ -125,3 +125,9 @@ module _ (sig : Signature) where
 
   pub tests-light : (rs : List Rule) → tests sig rs ≡ true → total-weight sig rs ≤ weight-limit
   tests-light rs h = le-of (total-weight sig rs) weight-limit (all-three (all passes rs) (leb (total-weight sig rs) weight-limit) (no-shared sig rs) h .1)
+
+  -- each rule of a sound table passes 7 to 10
+  pub passed-at : (before : List Rule) (r : Rule) (later : List Rule) → tests sig (before ++ (r ∷ later)) ≡ true → refusal-of-pattern sig (r .pattern) ≡ 0
+  passed-at before r later h =
+      let t = all-three (all passes (before ++ (r ∷ later))) (leb (total-weight sig (before ++ (r ∷ later))) weight-limit) (no-shared sig (before ++ (r ∷ later))) h in
+      eqb-eq (refusal-of-pattern sig (r .pattern)) 0 (and-left (passes r) (all passes later) (and-right (all passes before) (all passes (r ∷ later)) (sym (all-more before (r ∷ later)) ∙ t .0)))

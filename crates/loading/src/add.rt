@@ -6,6 +6,9 @@ use builder::build::build;
 ghost use lib.ListN.{length};
 ghost use Rattle.loading.specs.Add.{GivenPlace, Placed, GivenAdd, Stepped};
 
+// Room for the rows of all rules of a table, and of one pattern more: 193 words for each of the weight of 256, two for each of 64 rules, and what `build` asks.
+pub const ROWS_ROOM: usize = 65985;
+
 // What the rules of a table may weigh in all.
 pub const WEIGHT: u16 = 256;
 
