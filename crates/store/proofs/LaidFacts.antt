@@ -2,17 +2,17 @@
 use mathlib.Core.Path.{_≡_, refl, ap, ap₂, sym, _∙_, subst}
 use mathlib.Core.List.{List, [], _∷_, _++_, append-assoc}
 use mathlib.Core.Option.{Option, none, some}
-use mathlib.Core.Bool.{_&&_, true}
+use mathlib.Core.Bool.{_&&_, true, false}
 use Prim.Native.Nat.{ℕ, zero, suc, _+_, _-_, _*_, _≤_, _<_}
 use native.Mathlib.Omega.{arith}
 use lib.Dec.{eqb, leb}
 use lib.ListN.{length, take, drop, replicate, length-append, length-replicate, take-append-drop}
 use lib.Seq.{length-take-le}
-use Rattle.signature.specs.Lists.{All, all, require, _>>=_}
+use Rattle.signature.specs.Lists.{All, all, require, is-some, _>>=_}
 use Rattle.signature.specs.Signature.{Signature}
 use Rattle.signature.proofs.Booleans.{and-left, and-right}
 use Rattle.signature.proofs.ListFacts.{take-exact, drop-exact}
-use Rattle.signature.proofs.Tests.{bind-some, require-some, none≢some, le-of, leb-yes, same-some, some-inj}
+use Rattle.signature.proofs.Tests.{bind-some, require-some, none≢some, le-of, leb-yes, same-some, some-inj, true≢false}
 use Rattle.pattern.specs.Limits.{pattern-limit}
 use Rattle.row.specs.Admitted.{refusal-of-pattern}
 use Rattle.table.specs.Limits.{table-length, rules-length, rule-limit, rule-length, weight-limit}
@@ -88,6 +88,22 @@ sound-holds sig table rs e =
     let (qs, e₁, f₁) = bind-some (laid table) _ rs (sym (sound-laid sig table) ∙ e) in
     let (u, e₂, f₂) = bind-some (require (all (λ r. eqb (refusal-of-pattern sig (r .pattern)) 0) qs && leb (total-weight sig qs) weight-limit && no-shared sig qs)) _ rs f₁ in
     subst (Holds table) (some-inj qs rs f₂) (laid-holds table qs e₁)
+
+-- ---- whether a table has that layout
+
+pub is-laid : (table : List ℕ) → is-some (laid table) ≡ true → (rs : List Rule) × Holds table rs
+is-laid table e = go (laid table) refl e
+  where
+    go : (o : Option (List Rule)) → laid table ≡ o → is-some o ≡ true → (rs : List Rule) × Holds table rs
+    go none q f = true≢false (sym f)
+    go (some rs) q f = (rs, laid-holds table rs q)
+
+pub not-laid : (sig : Signature) (table : List ℕ) → is-some (laid table) ≡ false → sound sig table ≡ none
+not-laid sig table e = sound-laid sig table ∙ go (laid table) _ e
+  where
+    go : (o : Option (List Rule)) (f : List Rule → Option (List Rule)) → is-some o ≡ false → (o >>= f) ≡ none
+    go none f q = refl
+    go (some rs) f q = true≢false q
 
 -- ---- stored
 

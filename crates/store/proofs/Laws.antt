@@ -1,13 +1,15 @@
 -- The laws of the words of a table hold.
 use Rattle.store.specs.Laws.{Laws}
 use Rattle.store.proofs.FindFacts.{count-is}
-use Rattle.store.proofs.LaidFacts.{laid-holds, holds-laid, one-list, sound-laid, sound-holds, stored-holds}
+use Rattle.store.proofs.LaidFacts.{laid-holds, holds-laid, one-list, is-laid, not-laid, sound-laid, sound-holds, stored-holds}
 use Rattle.store.proofs.Walk.{words-at, rule-at, pattern-part, walk-start, walk-step, walk-end}
 
 pub laws : Laws
 laws = record {
   laid-holds = λ table rs. (laid-holds table rs, λ h. holds-laid h);
   one-list = one-list;
+  is-laid = is-laid;
+  not-laid = not-laid;
   sound-laid = sound-laid;
   sound-holds = sound-holds;
   stored-holds = stored-holds;

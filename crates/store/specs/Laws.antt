@@ -1,12 +1,12 @@
 -- The laws of the words of a table. The function `laws` promises them.
 use mathlib.Core.Path.{_≡_}
 use mathlib.Core.List.{List, [], _∷_, _++_}
-use mathlib.Core.Option.{some}
-use mathlib.Core.Bool.{_&&_}
+use mathlib.Core.Option.{none, some}
+use mathlib.Core.Bool.{_&&_, true, false}
 use Prim.Native.Nat.{ℕ, suc, _+_, _-_, _<_, _≤_}
 use lib.Dec.{eqb, leb}
 use lib.ListN.{length, getD, take, drop, replicate}
-use Rattle.signature.specs.Lists.{Iff, All, all, require, _>>=_}
+use Rattle.signature.specs.Lists.{Iff, All, all, is-some, require, _>>=_}
 use Rattle.signature.specs.Signature.{Signature}
 use Rattle.pattern.specs.Limits.{pattern-limit}
 use Rattle.row.specs.Admitted.{refusal-of-pattern}
@@ -20,6 +20,8 @@ pub record Laws : Type 0 where
   -- exactly the tables with that layout are read, and what was read is there
   pub laid-holds : (table : List ℕ) (rs : List Rule) → Iff (laid table ≡ some rs) (Holds table rs)
   pub one-list : (table : List ℕ) (rs qs : List Rule) → Holds table rs → Holds table qs → rs ≡ qs
+  pub is-laid : (table : List ℕ) → is-some (laid table) ≡ true → (rs : List Rule) × Holds table rs
+  pub not-laid : (sig : Signature) (table : List ℕ) → is-some (laid table) ≡ false → sound sig table ≡ none
   -- "Sound: that layout, .. past refusals 7 to 10, .. weighing at most 256 in all, no two taking one lawful booking"
   pub sound-laid : (sig : Signature) (table : List ℕ) → sound sig table ≡ (laid table >>= λ rs. require (all (λ r. eqb (refusal-of-pattern sig (r .pattern)) 0) rs && leb (total-weight sig rs) weight-limit && no-shared sig rs) >>= λ u. some rs)
   pub sound-holds : (sig : Signature) (table : List ℕ) (rs : List Rule) → sound sig table ≡ some rs → Holds table rs

@@ -23,7 +23,7 @@ pub const PLAN: usize = 1;
 pub const LENGTH: usize = 2;
 
 // A rule's number, and the index behind it.
-pub enum Head {
+enum Head {
     At(u16, usize),
     Broken,
 }
