@@ -1,0 +1,76 @@
+-- The withdrawal, refusal by refusal.
+use mathlib.Core.Path.{_≡_, refl, sym, ap, subst, _∙_}
+use mathlib.Core.List.{List}
+use mathlib.Core.Option.{some}
+use mathlib.Core.Bool.{Bool, true, false, cond, not, _&&_}
+use Prim.Native.Nat.{ℕ, _<_, _≤_}
+use native.Mathlib.Omega.{arith}
+use lib.Dec.{eqb, leb}
+use Rattle.signature.proofs.Tests.{leb-yes, leb-no}
+use Rattle.tree.specs.Limits.{last-number}
+use Rattle.table.specs.Calls.{Withdraw, start, refused, begin, long-table, withdraw-number, withdraw-table}
+use Rattle.table.specs.Refusals.{withdrawal-refusal}
+use Rattle.table.specs.Rule.{Rule, held, stored, take-out}
+use Rattle.store.specs.Change.{GivenTake}
+use Rattle.store.specs.Laid.{Holds}
+use Rattle.store.specs.Place.{FoundAt, HeldAt, FreeAt}
+use Rattle.store.specs.declared.find.Found.{Found}
+use Rattle.store.specs.declared.find.Found.the-variants.{Held, Free}
+use Rattle.store.proofs.LaidFacts.{sound-holds}
+use Rattle.opening.specs.Open.{OpenedAs, InForce}
+use Rattle.opening.specs.declared.open.Opened.{Opened}
+use Rattle.opening.specs.declared.open.Opened.the-variants.{Begun, Refused}
+use Rattle.withdrawing.specs.Withdraw.{InTable, withdrawn}
+
+-- a refusal leaves the table
+stays : (n k : ℕ) (rs : List Rule) (table : List ℕ) → withdrawal-refusal n rs ≡ k → eqb k 0 ≡ false → (k ≡ withdrawal-refusal n rs) × (table ≡ withdrawn n rs table)
+stays n k rs table e h = (sym e, sym (ap (λ z. cond (eqb z 0) (stored (take-out n rs) table) table) e ∙ ap (λ b. cond b (stored (take-out n rs) table) table) h))
+
+module _ {table : List ℕ} (g : InTable table) (n : ℕ) where
+  pub zero-4 : n ≡ 0 → (4 ≡ withdrawal-refusal n (g .rs)) × (table ≡ withdrawn n (g .rs) table)
+  zero-4 e = stays n 4 (g .rs) table (ap (λ z. withdrawal-refusal z (g .rs)) e) refl
+
+  pub over-4 : last-number < n → (4 ≡ withdrawal-refusal n (g .rs)) × (table ≡ withdrawn n (g .rs) table)
+  over-4 l = stays n 4 (g .rs) table (rw (leb-yes 1 n (omega arith), leb-no n last-number l)) refl
+
+  module _ (low : (n ≡ 0 → ⊥)) (high : n ≤ last-number) where
+    refusal-is : withdrawal-refusal n (g .rs) ≡ cond (not (held n (g .rs))) 6 0
+    refusal-is = rw (leb-yes 1 n (omega (arith, low)), leb-yes n last-number high)
+
+    module _ (f : Found) (gave : (rs : List Rule) → Holds table rs → FoundAt n rs f) where
+      pub not-held-6 : (at : ℕ) → f ≡ Free at → (6 ≡ withdrawal-refusal n (g .rs)) × (table ≡ withdrawn n (g .rs) table)
+      not-held-6 at e =
+          let q : FreeAt n (g .rs) at = subst (FoundAt n (g .rs)) e (gave (g .rs) (g .holds)) in
+          stays n 6 (g .rs) table (refusal-is ∙ ap (λ b. cond (not b) 6 0) (q .not-held)) refl
+
+      module _ (at : ℕ) (e : f ≡ Held at) where
+        found : HeldAt n (g .rs) at
+        found = subst (FoundAt n (g .rs)) e (gave (g .rs) (g .holds))
+
+        pub take-given : GivenTake table at
+        take-given = record { rs = g .rs; holds = g .holds; number = n; held = found }
+
+        pub taken-0 : (after : List ℕ) → ((q : GivenTake table at) → after ≡ stored (take-out (q .number) (q .rs)) table) → (0 ≡ withdrawal-refusal n (g .rs)) × (after ≡ withdrawn n (g .rs) table)
+        unfolding take-given
+        taken-0 after t =
+            let z : withdrawal-refusal n (g .rs) ≡ 0 = refusal-is ∙ ap (λ b. cond (not b) 6 0) (found .is-held) in
+            (sym z, t take-given ∙ sym (ap (λ k. cond (eqb k 0) (stored (take-out n (g .rs)) table) table) z))
+
+module _ (ss table t rows : List ℕ) (n : ℕ) (o : Opened) (open-so : OpenedAs ss (long-table table) table o t rows) where
+  pub turned-down : (k : ℕ) → o ≡ Refused k → Withdraw ss n table k table
+  turned-down k e =
+      let z : start ss (long-table table) table ≡ refused k = subst (λ x. OpenedAs ss (long-table table) table x t rows) e open-so in
+      record { number-is = sym (ap (λ x. withdraw-number x n) z); table-is = sym (ap (λ x. withdraw-table x n table) z) }
+
+  module _ (used total : ℕ) (e : o ≡ Begun used total) where
+    force : InForce ss (long-table table) table used total t rows
+    force = subst (λ x. OpenedAs ss (long-table table) table x t rows) e open-so
+
+    pub in-table : InTable table
+    in-table = record { rs = force .rs; holds = sound-holds (force .known .sig) table (force .rs) (force .is-sound) }
+
+    pub withdrawn-so : (r : ℕ) (after : List ℕ) → ((g : InTable table) → (r ≡ withdrawal-refusal n (g .rs)) × (after ≡ withdrawn n (g .rs) table)) → Withdraw ss n table r after
+    unfolding in-table
+    withdrawn-so r after f =
+        let q = f in-table in
+        record { number-is = q .0 ∙ sym (ap (λ x. withdraw-number x n) (force .started)); table-is = q .1 ∙ sym (ap (λ x. withdraw-table x n table) (force .started)) }

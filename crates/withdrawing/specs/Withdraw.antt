@@ -1,0 +1,16 @@
+-- A rule taken out of the rules of a table.
+use mathlib.Core.List.{List}
+use mathlib.Core.Bool.{cond}
+use Prim.Native.Nat.{ℕ}
+use lib.Dec.{eqb}
+use Rattle.table.specs.Refusals.{withdrawal-refusal}
+use Rattle.table.specs.Rule.{Rule, stored, take-out}
+use Rattle.store.specs.Laid.{Holds}
+
+pub record InTable (table : List ℕ) : Type 0 where
+  pub rs : List Rule
+  pub holds : Holds table rs
+
+-- the table afterwards: on a refusal it stays
+abbrev pub withdrawn : ℕ → List Rule → List ℕ → List ℕ
+withdrawn n rs before = cond (eqb (withdrawal-refusal n rs) 0) (stored (take-out n rs) before) before
