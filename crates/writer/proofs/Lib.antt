@@ -1,0 +1,2 @@
+pub mod AliveLaws
+pub mod CursorLaws

@@ -1,0 +1,5 @@
+pub mod Alive
+pub mod Variables
+pub mod Standing
+pub mod State
+pub mod Writer

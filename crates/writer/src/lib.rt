@@ -1,0 +1,4 @@
+// The tree of rows: from the rows of rules to the words of their tree.
+pub mod alive;
+pub mod cursor;
+pub mod rows;
