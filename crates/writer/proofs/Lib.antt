@@ -1,2 +1,3 @@
 pub mod AliveLaws
+pub mod ColumnLaws
 pub mod CursorLaws

@@ -79,6 +79,23 @@ tag-at a rows cur r = getD a (cell-of rows r (getD cur r 0)) 0
 abbrev pub allowed-at : List ℕ → List ℕ → List ℕ → ℕ → ℕ
 allowed-at a rows cur r = getD a (cell-of rows r (getD cur r 0) + 2) 0
 
+-- a cell's tag is of kind k
+pub record Seen (t : List ℕ) (tag : ℕ) : Type 0 where
+  pub known : Known t
+  pub k : ℕ
+  pub there : k < known .decoded .n
+  pub is : (tag ≡ 256 + k) ⊎ (memb tag (heads (known .sig) k) ≡ true)
+
+-- what the look at a cell says: its kind k where it is refined, else kind-limit
+pub record RowKind (sig : Signature) (k tag allowed res : ℕ) : Type 0 where
+  pub plain : kind-limit ≤ res → refined-cell sig k tag allowed ≡ false
+  pub refines : res < kind-limit → (res ≡ k) × (refined-cell sig k tag allowed ≡ true)
+
+-- and at a row, where it is in the set
+abbrev pub RowSaw : Bool → Signature → ℕ → ℕ → ℕ → ℕ → Type 0
+RowSaw true sig k tag allowed res = RowKind sig k tag allowed res
+RowSaw false sig k tag allowed res = res ≡ kind-limit
+
 -- what the look at the column says: its kind, or kind-limit where no real row refines it
 pub record Column (sig : Signature) (a rows : List ℕ) (n : ℕ) (re cur : List ℕ) (k res : ℕ) : Type 0 where
   pub plain : res ≡ kind-limit → (r : ℕ) → r < n → member re r ≡ true → refined-cell sig k (tag-at a rows cur r) (allowed-at a rows cur r) ≡ false

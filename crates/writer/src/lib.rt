@@ -1,4 +1,5 @@
 // The tree of rows: from the rows of rules to the words of their tree.
 pub mod alive;
+pub mod column;
 pub mod cursor;
 pub mod rows;
