@@ -1,3 +1,9 @@
 pub mod AliveLaws
 pub mod ColumnLaws
 pub mod CursorLaws
+pub mod HeadSets
+pub mod Options
+pub mod StandingLaws
+pub mod StateLaws
+pub mod StepLaws
+pub mod VariableLaws
