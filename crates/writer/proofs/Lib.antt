@@ -1,7 +1,13 @@
 pub mod AliveLaws
+pub mod CallLaws
+pub mod ChildLaws
+pub mod ChildrenLaws
 pub mod ColumnLaws
 pub mod CursorLaws
 pub mod HeadSets
+pub mod KindLaws
+pub mod LoopLaws
+pub mod NodeLaws
 pub mod Options
 pub mod StandingLaws
 pub mod StateLaws
