@@ -6,9 +6,11 @@ pub mod ColumnLaws
 pub mod CursorLaws
 pub mod HeadSets
 pub mod KindLaws
+pub mod LeafLaws
 pub mod LoopLaws
 pub mod NodeLaws
 pub mod Options
+pub mod PairLaws
 pub mod StandingLaws
 pub mod StateLaws
 pub mod StepLaws

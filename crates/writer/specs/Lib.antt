@@ -1,4 +1,5 @@
 pub mod Alive
+pub mod Leaf
 pub mod Variables
 pub mod Standing
 pub mod State

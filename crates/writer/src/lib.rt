@@ -2,4 +2,5 @@
 pub mod alive;
 pub mod column;
 pub mod cursor;
+pub mod leaf;
 pub mod rows;
