@@ -100,6 +100,9 @@ module _ {t a rows : List ℕ} {n : ℕ} {s re cur vis : List ℕ} {ncols vn bas
   pub head-fits : (j : ℕ) → j < count-of t k → (first-of t k + j < constructor-limit) × (arity-of t (first-of t k + j) ≤ argument-limit)
   head-fits j h = (head-below (b .given .known) k kind-there j h, head-arguments (b .given .known) k kind-there j h)
 
+  pub head-width : (j f w : ℕ) → j < count-of t k → f ≡ first-of t k → w ≡ arity-of t (f + j) → w ≤ argument-limit
+  head-width j f w h e i = omega (arith, i ∙ ap (λ (z : ℕ). arity-of t (z + j)) e, head-fits j h .1)
+
   pub keeping : (curj : List ℕ) (j : ℕ) → curj ≡ cur → j < count-of t k → Keeping a rows n re curj j
   keeping curj j e h = record {
     few = b .given .few;

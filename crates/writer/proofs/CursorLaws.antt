@@ -185,7 +185,7 @@ pub top-all : (rows s cur : List ℕ) (n ncols m r f : ℕ) → Top rows s cur n
 top-all rows s cur n ncols m r f w l h x = record {
   most = omega arith;
   virt = λ q i e. omega (arith, w .above q (omega arith) e, w .most);
-  some = λ i. (f, h, x .there h);
+  some = λ i. (f, h, x);
 }
 
 pub blank-none : (rows s cur : List ℕ) (n ncols r : ℕ) → r ≡ n → FirstAlive s n r → Blank rows n s cur ncols 0

@@ -1,4 +1,5 @@
 pub mod AliveLaws
+pub mod BlankLaws
 pub mod CallLaws
 pub mod ChildLaws
 pub mod ChildrenLaws

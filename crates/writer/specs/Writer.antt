@@ -14,7 +14,7 @@ use Rattle.signature.specs.Signature.{Signature, heads, arguments}
 use Rattle.pattern.specs.Limits.{pattern-limit}
 use Rattle.tree.specs.Tree.{Tree, Line, taken, after, compile, test, children}
 use Rattle.tree.specs.Words.{words, layout}
-use Rattle.writer.specs.Alive.{member, row-limit}
+use Rattle.writer.specs.Alive.{member, row-limit, FirstAlive}
 use Rattle.writer.specs.Standing.{refined-cell}
 use Rattle.writer.specs.State.{options, State, Raised, real-of, Indexed, cell-of, own-of, start-of, row-stride}
 
@@ -133,4 +133,4 @@ pub record Leaving (a rows : List ℕ) (r : ℕ) (cur vis : List ℕ) : Type 0 w
 pub record Blank (rows : List ℕ) (n : ℕ) (s cur : List ℕ) (ncols b : ℕ) : Type 0 where
   pub most : b ≤ ncols
   pub virt : (r : ℕ) → r < n → member s r ≡ true → own-of rows r (getD cur r 0) + b ≤ ncols
-  pub some : 0 < b → (r : ℕ) × (r < n) × (member s r ≡ true)
+  pub some : 0 < b → (r : ℕ) × (r < n) × FirstAlive s n r

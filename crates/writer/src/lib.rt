@@ -3,4 +3,5 @@ pub mod alive;
 pub mod column;
 pub mod cursor;
 pub mod leaf;
+pub mod node;
 pub mod rows;
