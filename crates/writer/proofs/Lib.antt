@@ -6,13 +6,17 @@ pub mod ChildrenLaws
 pub mod ColumnLaws
 pub mod CursorLaws
 pub mod HeadSets
+pub mod IndexLaws
 pub mod KindLaws
 pub mod LeafLaws
 pub mod LoopLaws
 pub mod NodeLaws
 pub mod Options
 pub mod PairLaws
+pub mod PlacedLaws
 pub mod StandingLaws
+pub mod StartLaws
 pub mod StateLaws
 pub mod StepLaws
 pub mod VariableLaws
+pub mod WriteLaws

@@ -82,7 +82,7 @@ module _ (sig : Signature) (t : List ℕ) where
     its-cell = cell-of a stop at k (w .r) _ (length (wordss (cellss (kinds-of sig) (w .qs) ks))) (w .code-is) (w .ends)
 
   -- the columns behind a cell that names c, and behind one that names none
-  after-named : (a : List ℕ) (stop at own k : ℕ) (ks : List ℕ) (qs : Rows) (rest vs : List ℕ) (c : ℕ) (ps : Rows) → Good sig t (named vs c ps) k → Goods sig t qs ks
+  pub after-named : (a : List ℕ) (stop at own k : ℕ) (ks : List ℕ) (qs : Rows) (rest vs : List ℕ) (c : ℕ) (ps : Rows) → Good sig t (named vs c ps) k → Goods sig t qs ks
       → drop at a ≡ words (cells (kinds-of sig) (named vs c ps) k) ++ (wordss (cellss (kinds-of sig) qs ks) ++ rest)
       → at + (length (words (cells (kinds-of sig) (named vs c ps) k)) + length (wordss (cellss (kinds-of sig) qs ks))) ≡ stop → own ≡ suc (length ks)
       → At sig t a stop (at + 3) (own - 1 + opensOf t (getD a at 0)) (arguments sig c ++ ks) (rappend ps qs)
@@ -91,7 +91,7 @@ module _ (sig : Signature) (t : List ℕ) where
       let n : own - 1 + opensOf t (getD a at 0) ≡ length (arguments sig c) + length ks = rw (b .one, lt-ltb c 256 (g .0 .tag)) (omega (arith, g .0 .arity)) in
       rw n (entered sig t a stop (at + 3) ps (arguments sig c) qs ks rest (g .3) h (b .after) (b .room) (omega arith))
 
-  after-free : (a : List ℕ) (stop at own k : ℕ) (js ks : List ℕ) (qs : Rows) (rest vs cs : List ℕ) → Goods sig t qs ks
+  pub after-free : (a : List ℕ) (stop at own k : ℕ) (js ks : List ℕ) (qs : Rows) (rest vs cs : List ℕ) → Goods sig t qs ks
       → drop at a ≡ words (cells (kinds-of sig) (free vs cs) k) ++ (wordss (cellss (kinds-of sig) qs ks) ++ rest)
       → at + (3 + length (wordss (cellss (kinds-of sig) qs ks))) ≡ stop → own ≡ suc (length ks)
       → At sig t a stop (at + 3) (own - 1 + opensOf t (getD a at 0)) (js ++ ks) (rappend (open-rows sig js) qs)

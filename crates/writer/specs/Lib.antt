@@ -4,3 +4,4 @@ pub mod Variables
 pub mod Standing
 pub mod State
 pub mod Writer
+pub mod Write

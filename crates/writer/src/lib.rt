@@ -2,6 +2,8 @@
 pub mod alive;
 pub mod column;
 pub mod cursor;
+pub mod index;
 pub mod leaf;
 pub mod node;
 pub mod rows;
+pub mod write;
