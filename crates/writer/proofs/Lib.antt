@@ -14,6 +14,7 @@ pub mod NodeLaws
 pub mod Options
 pub mod PairLaws
 pub mod PlacedLaws
+pub mod RowsFit
 pub mod StandingLaws
 pub mod StartLaws
 pub mod StateLaws
