@@ -13,10 +13,12 @@ use Rattle.signature.proofs.SetLaws.{bit-zero}
 use Rattle.signature.proofs.Tests.{eqb-no, true≢false}
 use Rattle.tree.specs.Tree.{Tree, skip}
 use Rattle.tree.specs.Words.{words, layout}
-use Rattle.writer.specs.Alive.{member, FirstAlive}
-use Rattle.writer.specs.State.{Raised, real-of, own-of, one-if}
-use Rattle.writer.specs.Writer.{Given, Wrote, tree-of, Column, Blank}
-use Rattle.writer.proofs.AliveLaws.{member-is}
+use Rattle.path.specs.Alive.{member, FirstAlive}
+use Rattle.path.specs.State.{Raised, real-of, own-of, one-if}
+use Rattle.path.specs.Column.{Column, Blank}
+use Rattle.path.specs.Wrote.{Wrote}
+use Rattle.writer.specs.Writer.{Given, tree-of}
+use Rattle.path.proofs.AliveLaws.{member-is}
 use Rattle.writer.proofs.CallLaws.{cols}
 use Rattle.writer.proofs.NodeLaws.{skip-given, tree-skip, words-some}
 

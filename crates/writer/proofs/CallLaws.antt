@@ -13,9 +13,11 @@ use Rattle.signature.specs.Lists.{All, also}
 use Rattle.signature.proofs.ListFacts.{same-lists}
 use Rattle.pattern.specs.Limits.{pattern-limit}
 use Rattle.tree.specs.Tree.{Tree, hit, skip}
-use Rattle.writer.specs.Alive.{member, FirstAlive}
-use Rattle.writer.specs.State.{Raised, Lowered, Kept, real-of, cell-of, own-of, rule-of, plan-of, bound, one-if}
-use Rattle.writer.specs.Writer.{Given, Branching, Wrote, tree-of, branch-of, Column, Looking, Leaving}
+use Rattle.path.specs.Alive.{member, FirstAlive}
+use Rattle.path.specs.State.{Raised, Lowered, Kept, real-of, cell-of, own-of, rule-of, plan-of, bound, one-if}
+use Rattle.path.specs.Column.{Column, Looking, Leaving}
+use Rattle.path.specs.Wrote.{Wrote}
+use Rattle.writer.specs.Writer.{Given, Branching, tree-of, branch-of}
 use Rattle.writer.proofs.NodeLaws.{row-alive, real-cell, skip-given, branch-given, tree-none, tree-hit, tree-skip, tree-branch, wrote-default, wrote-skip}
 
 -- raised and lowered again

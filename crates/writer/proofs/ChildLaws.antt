@@ -15,9 +15,11 @@ use Rattle.signature.specs.Signature.{heads, arguments}
 use Rattle.signature.proofs.ListFacts.{all-append, all-first}
 use Rattle.pattern.specs.Limits.{pattern-limit}
 use Rattle.tree.specs.Tree.{Line, taken, after, compile}
-use Rattle.writer.specs.Alive.{member}
-use Rattle.writer.specs.State.{State, real-of, keep-of, kept-of, cell-of, one-if, Kept}
-use Rattle.writer.specs.Writer.{Given, Branching, Keeping, tree-of, child-of, word-limit}
+use Rattle.path.specs.Alive.{member}
+use Rattle.path.specs.State.{State, real-of, keep-of, kept-of, cell-of, one-if, Kept}
+use Rattle.path.specs.Column.{Keeping}
+use Rattle.path.specs.Wrote.{word-limit}
+use Rattle.writer.specs.Writer.{Given, Branching, tree-of, child-of}
 use Rattle.writer.proofs.KindLaws.{kind-below, heads-few, head-there, head-low, head-number, head-below, head-arity, head-arguments, head-kinds}
 use Rattle.writer.proofs.NodeLaws.{state-same, real-same, raised-same, raised-low, real-cell}
 use Rattle.writer.proofs.Options.{somes-step}

@@ -9,7 +9,7 @@ use Rattle.signature.specs.Lists.{count-up}
 use Rattle.tree.specs.Tree.{Tree, Trees, default, hit, test, skip, tnil, tcons, children}
 use Rattle.tree.specs.Words.{words, words-all, count, links, layout, layout-all, pairs}
 use Rattle.tree.proofs.RunFacts.{length-layout}
-use Rattle.writer.specs.Writer.{Wrote}
+use Rattle.path.specs.Wrote.{Wrote}
 
 -- the children from number j on
 abbrev pub rest : (ℕ → Tree) → ℕ → ℕ → ℕ → Trees

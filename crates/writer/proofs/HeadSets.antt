@@ -15,7 +15,7 @@ use Rattle.signature.proofs.Tests.{eqb-eq, eqb-self}
 use Rattle.cell.specs.Mask.{mask, Within}
 use Rattle.cell.proofs.Masks.{one-if, bit-mask, bit-ext}
 use Rattle.pattern.specs.Limits.{pattern-limit}
-use Rattle.writer.specs.Standing.{Among}
+use Rattle.path.specs.Standing.{Among}
 
 pub one-yes : (b : Bool) → one-if b ≡ 1 → b ≡ true
 one-yes true e = refl

@@ -13,8 +13,8 @@ use Rattle.cell.specs.Cell.{words, wordss}
 use Rattle.cell.specs.Coded.{kinds-of, cells, cellss, code}
 use Rattle.cell.specs.Cursor.{opensOf}
 use Rattle.tree.specs.Tree.{rappend}
-use Rattle.writer.specs.Standing.{Good, Goods, At}
-use Rattle.writer.specs.State.{row-stride, own-of, start-of, stop-of, rule-of, plan-of}
+use Rattle.path.specs.Standing.{Good, Goods, At}
+use Rattle.path.specs.State.{row-stride, own-of, start-of, stop-of, rule-of, plan-of}
 use Rattle.writer.specs.Write.{GivenRow, RowCounted, RowIndexed, Before}
 use Rattle.writer.proofs.StandingLaws.{RealAt, is-real}
 use Rattle.writer.proofs.StepLaws.{after-named, after-free, its-cell, row-tag}

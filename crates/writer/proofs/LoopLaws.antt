@@ -9,9 +9,10 @@ use Rattle.signature.specs.Decoded.{first-of, count-of, arity-of}
 use Rattle.signature.specs.Lists.{count-up}
 use Rattle.tree.specs.Tree.{Tree, test, children}
 use Rattle.tree.specs.Words.{words, words-all}
-use Rattle.writer.specs.Alive.{member}
-use Rattle.writer.specs.State.{Kept, kept-of}
-use Rattle.writer.specs.Writer.{Given, Branching, Wrote, tree-of, child-of, branch-of}
+use Rattle.path.specs.Alive.{member}
+use Rattle.path.specs.State.{Kept, kept-of}
+use Rattle.path.specs.Wrote.{Wrote}
+use Rattle.writer.specs.Writer.{Given, Branching, tree-of, child-of, branch-of}
 use Rattle.writer.proofs.ChildLaws.{child-given, child-tree}
 use Rattle.writer.proofs.ChildrenLaws.{Part, part-none, part-more, part-all, rest, rest-next, count-all}
 use Rattle.writer.proofs.NodeLaws.{words-some}

@@ -18,10 +18,12 @@ use Rattle.pattern.specs.Limits.{pattern-limit}
 use Rattle.rowlist.proofs.Kinded.{within-kind}
 use Rattle.tree.specs.Tree.{Tree, Line, default, hit, test, skip, refined, taken, passed, after, compile, children}
 use Rattle.tree.specs.Words.{words, layout}
-use Rattle.writer.specs.Alive.{member, FirstAlive}
-use Rattle.writer.specs.Standing.{At, refined-cell}
-use Rattle.writer.specs.State.{options, State, RowIs, LineAt, Raised, real-of, cell-of, own-of, stop-of, rule-of, plan-of, bound, one-if}
-use Rattle.writer.specs.Writer.{Given, Branching, Wrote, lines, tree-of, branch-of, Column, tag-at}
+use Rattle.path.specs.Alive.{member, FirstAlive}
+use Rattle.path.specs.Standing.{At, refined-cell}
+use Rattle.path.specs.State.{options, State, RowIs, LineAt, Raised, real-of, cell-of, own-of, stop-of, rule-of, plan-of, bound, one-if}
+use Rattle.path.specs.Column.{Column, tag-at}
+use Rattle.path.specs.Wrote.{Wrote}
+use Rattle.writer.specs.Writer.{Given, Branching, lines, tree-of, branch-of}
 use Rattle.writer.proofs.KindLaws.{heads-are}
 use Rattle.writer.proofs.Options.{somes-none, somes-first, FirstIs, somes-step, any-no, any-yes}
 use Rattle.writer.proofs.StateLaws.{state-pass, row-refined}

@@ -9,7 +9,7 @@ use lib.Dec.{eqb}
 use Rattle.signature.specs.Lists.{_>>=_, somes, any, _or-else_}
 use Rattle.signature.proofs.Booleans.{or-true}
 use Rattle.signature.proofs.Tests.{eqb-eq, eqb-ne, none≢some, some-inj}
-use Rattle.writer.specs.State.{options}
+use Rattle.path.specs.State.{options}
 
 module _ {A : Type 0} where
   -- a step of each of those that are there

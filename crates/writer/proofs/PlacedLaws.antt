@@ -15,9 +15,9 @@ use Rattle.pattern.specs.Limits.{pattern-limit}
 use Rattle.cell.specs.Coded.{kinds-of, code}
 use Rattle.cell.specs.Cursor.{opensOf}
 use Rattle.cell.proofs.Walk.{word-at}
-use Rattle.writer.specs.State.{row-stride, own-of}
+use Rattle.path.specs.State.{row-stride, own-of}
 use Rattle.writer.specs.Write.{RuleRow, GivenRows, GivenRow, RowIndexed, Before, Placed, AllPlaced, Fit, rows-code, rules-of}
-use Rattle.writer.specs.Writer.{word-limit}
+use Rattle.path.specs.Wrote.{word-limit}
 
 -- an element of a list with one more
 last-or : {A : Type 0} (xs : List A) (x : A) (q : ℕ) (y : A) → at (xs ++ (x ∷ [])) q ≡ some y → ((at xs q ≡ some y) × (q < length xs)) ⊎ ((q ≡ length xs) × (x ≡ y))

@@ -29,8 +29,8 @@ use Rattle.cell.specs.Coded.{kinds-of, code, Typed, Typeds}
 use Rattle.cell.specs.RowList.{Every}
 use Rattle.rowlist.proofs.Rooms.{code-places}
 use Rattle.rowlist.proofs.Typing.{typed-rows}
-use Rattle.writer.specs.Standing.{Good, Goods, Among}
-use Rattle.writer.specs.Variables.{Once}
+use Rattle.path.specs.Standing.{Good, Goods, Among}
+use Rattle.path.specs.Variables.{Once}
 
 abbrev Small : List ℕ → Type 0
 Small vs = All (λ x. x < variable-count) vs

@@ -10,7 +10,7 @@ use Rattle.row.specs.Row.{Row, Rows, rnil, rcons, open-row, open-rows}
 use Rattle.cell.specs.Cell.{wordss, words}
 use Rattle.cell.specs.Coded.{kinds-of, cells, cellss}
 use Rattle.tree.specs.Tree.{rappend}
-use Rattle.writer.specs.Standing.{Good, Goods, At}
+use Rattle.path.specs.Standing.{Good, Goods, At}
 
 abbrev tail-of : List ℕ → List ℕ
 tail-of [] = []

@@ -18,11 +18,12 @@ use Rattle.cell.specs.Coded.{kinds-of, code}
 use Rattle.cell.specs.Cursor.{opensOf}
 use Rattle.tree.specs.Limits.{tree-limit}
 use Rattle.tree.specs.Tree.{Line, Tree, compile}
-use Rattle.writer.specs.Alive.{member}
-use Rattle.writer.specs.Standing.{At}
-use Rattle.writer.specs.State.{row-stride, options, Indexed, LineAt, RowIs, State, cell-of, own-of, stop-of, start-of}
+use Rattle.path.specs.Alive.{member}
+use Rattle.path.specs.Standing.{At}
+use Rattle.path.specs.State.{row-stride, options, Indexed, LineAt, RowIs, State, cell-of, own-of, stop-of, start-of}
 use Rattle.writer.specs.Write.{RuleRow, line-of, GivenRows, Placed, AllPlaced, Fit, tree-of-rows}
-use Rattle.writer.specs.Writer.{Given, tree-of, Wrote}
+use Rattle.path.specs.Wrote.{Wrote}
+use Rattle.writer.specs.Writer.{Given, tree-of}
 use Rattle.writer.proofs.IndexLaws.{one-column}
 
 module _ {B : Type 0} where

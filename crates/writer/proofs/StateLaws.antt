@@ -17,11 +17,11 @@ use Rattle.row.specs.Row.{Rows}
 use Rattle.cell.specs.Cursor.{opensOf}
 use Rattle.cell.specs.Mask.{Within, mask}
 use Rattle.tree.specs.Tree.{Line, inserts, after, taken, passed, refined}
-use Rattle.writer.specs.Standing.{At, refined-cell}
-use Rattle.writer.specs.State.{Indexed, LineAt, RowIs, State, Raised, real-of, keep-of, cell-of, own-of, stop-of, visit-of, bound, one-if}
-use Rattle.writer.specs.Variables.{variables}
+use Rattle.path.specs.Standing.{At, refined-cell}
+use Rattle.path.specs.State.{Indexed, LineAt, RowIs, State, Raised, real-of, keep-of, cell-of, own-of, stop-of, visit-of, bound, one-if}
+use Rattle.path.specs.Variables.{variables}
 use Rattle.writer.proofs.StepLaws.{Next, virt-taken, virt-passed, virt-refined, real-taken, real-not, real-passed, real-refined, real-room}
-use Rattle.writer.proofs.VariableLaws.{once-rising, no-variables}
+use Rattle.path.proofs.VariableLaws.{once-rising, no-variables}
 
 module _ (sig : Signature) (t a rows : List ℕ) (n : ℕ) where
   -- visits before the cursor are all that counts

@@ -22,8 +22,8 @@ use Rattle.cell.specs.Mask.{mask, Within}
 use Rattle.cell.proofs.Columns.{three-at, Three}
 use Rattle.cell.proofs.Masks.{mask-nil}
 use Rattle.tree.specs.Tree.{rappend, taken, passed, refined}
-use Rattle.writer.specs.Standing.{Good, Goods, At, refined-cell}
-use Rattle.writer.specs.Variables.{Once}
+use Rattle.path.specs.Standing.{Good, Goods, At, refined-cell}
+use Rattle.path.specs.Variables.{Once}
 use Rattle.writer.proofs.HeadSets.{one-yes, one-no, bit-memb, bit-only, full-is}
 use Rattle.writer.proofs.StandingLaws.{VirtAt, RealAt, is-virt, is-real, opened, entered}
 

@@ -13,7 +13,7 @@ use Rattle.tree.specs.Tree.{Tree}
 use Rattle.tree.specs.Words.{words, layout}
 use Rattle.tree.proofs.RunFacts.{length-layout}
 use Rattle.writer.specs.Write.{answer, space-after, fits}
-use Rattle.writer.specs.Writer.{Wrote}
+use Rattle.path.specs.Wrote.{Wrote}
 use Rattle.writer.specs.declared.write.Written.{Written}
 use Rattle.writer.specs.declared.write.Written.the-variants.{Done, TooLarge}
 

@@ -1,7 +1,2 @@
-pub mod Alive
-pub mod Leaf
-pub mod Variables
-pub mod Standing
-pub mod State
-pub mod Writer
 pub mod Write
+pub mod Writer

@@ -17,9 +17,9 @@ use Rattle.cell.specs.RowList.{each-with}
 use Rattle.tree.specs.Limits.{tree-limit}
 use Rattle.tree.specs.Tree.{Line, Tree, compile}
 use Rattle.tree.specs.Words.{words, layout}
-use Rattle.writer.specs.Alive.{row-limit}
-use Rattle.writer.specs.Standing.{Good}
-use Rattle.writer.specs.State.{row-stride, start-of, stop-of, rule-of, plan-of, own-of, cell-of}
+use Rattle.path.specs.Alive.{row-limit}
+use Rattle.path.specs.Standing.{Good}
+use Rattle.path.specs.State.{row-stride, start-of, stop-of, rule-of, plan-of, own-of, cell-of}
 use Rattle.writer.specs.declared.write.Written.{Written}
 use Rattle.writer.specs.declared.write.Written.the-variants.{Done, TooLarge}
 

@@ -1,13 +1,13 @@
 // The table of rows is filled.
-use crate::rows::OWN;
-use crate::rows::ROW;
 use cell::cell::opens;
+use path::rows::OWN;
+use path::rows::ROW;
 ghost use mathlib.Core.Path.{_≡_};
 ghost use Prim.Native.Nat.{ℕ, _+_, _*_, _≤_, _<_};
 ghost use lib.ListN.{length};
-ghost use Rattle.writer.specs.State.{row-stride};
+ghost use Rattle.path.specs.State.{row-stride};
 ghost use Rattle.writer.specs.Write.{GivenRow, RowCounted, RowIndexed, Before, GivenRows, AllPlaced};
-ghost use Rattle.writer.specs.Writer.{word-limit};
+ghost use Rattle.path.specs.Wrote.{word-limit};
 
 const CELL: usize = 3;
 

@@ -1,14 +1,14 @@
 // The tree of the rows that stand at their cursors. The tail behind a node is lent to the child's writer.
-use crate::alive::SET_WORDS;
-use crate::alive::first_alive;
-use crate::column::NO_KIND;
-use crate::column::column;
-use crate::column::keep;
-use crate::cursor::blank;
-use crate::cursor::lower;
-use crate::cursor::raise;
-use crate::cursor::real;
-use crate::leaf::leaf;
+use path::alive::SET_WORDS;
+use path::alive::first_alive;
+use path::column::NO_KIND;
+use path::column::column;
+use path::column::keep;
+use path::cursor::blank;
+use path::cursor::lower;
+use path::cursor::raise;
+use path::cursor::real;
+use path::leaf::leaf;
 use signature::decoded::arity_of;
 use signature::decoded::count_of;
 use signature::decoded::first_of;
@@ -16,8 +16,9 @@ ghost use mathlib.Core.Path.{_≡_};
 ghost use mathlib.Core.List.{_++_};
 ghost use Prim.Native.Nat.{ℕ, _≤_, _<_};
 ghost use lib.ListN.{length, replicate, drop};
-ghost use Rattle.writer.specs.State.{Kept};
-ghost use Rattle.writer.specs.Writer.{Given, Branching, Wrote, tree-of, branch-of};
+ghost use Rattle.path.specs.State.{Kept};
+ghost use Rattle.path.specs.Wrote.{Wrote};
+ghost use Rattle.writer.specs.Writer.{Given, Branching, tree-of, branch-of};
 
 const DEFAULT: u16 = 0;
 

@@ -1,8 +1,8 @@
 // The tree of the rows of a set of rules.
-use crate::alive::SET_WORDS;
-use crate::alive::put;
 use crate::index::index;
 use crate::node::node;
+use path::alive::SET_WORDS;
+use path::alive::put;
 ghost use mathlib.Core.Path.{_≡_};
 ghost use mathlib.Core.Bool.{true};
 ghost use mathlib.Core.List.{_++_};
@@ -10,8 +10,8 @@ ghost use Prim.Native.Nat.{ℕ, _*_, _≤_, _<_, min};
 ghost use lib.ListN.{length, getD, take, drop};
 ghost use Rattle.pattern.specs.Limits.{pattern-limit};
 ghost use Rattle.tree.specs.Limits.{tree-limit};
-ghost use Rattle.writer.specs.Alive.{member, row-limit};
-ghost use Rattle.writer.specs.State.{row-stride};
+ghost use Rattle.path.specs.Alive.{member, row-limit};
+ghost use Rattle.path.specs.State.{row-stride};
 ghost use Rattle.writer.specs.Write.{GivenRows, tree-of-rows, answer, space-after};
 
 // The most words of a tree.

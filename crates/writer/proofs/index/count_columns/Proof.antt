@@ -5,7 +5,7 @@ use native.Mathlib.Omega.{arith}
 use borrow.Author.Needs.{needs}
 use lib.ListN.{length, length-set}
 use Rattle.signature.proofs.KnownFacts.{long}
-use Rattle.writer.specs.State.{row-stride}
+use Rattle.path.specs.State.{row-stride}
 use Rattle.writer.specs.Write.{GivenRow, Before}
 use Rattle.writer.proofs.IndexLaws.{OwnAt, own-start, own-cells, own-next, own-end, own-on, row-within, Counting, counting-start, counted-on, counting-end, before-set}
 use Rattle.writer.proofs.index.count_columns.Statement.{statement}

@@ -8,8 +8,8 @@ use borrow.Rule.Slice.PartMut.{same-len-mid}
 use lib.ListN.{length, set, take, drop, length-set, length-take, length-drop}
 use Rattle.signature.specs.Decoded.{first-of, count-of}
 use Rattle.signature.proofs.KnownFacts.{long}
-use Rattle.writer.specs.Alive.{member}
-use Rattle.writer.specs.State.{Kept}
+use Rattle.path.specs.Alive.{member}
+use Rattle.path.specs.State.{Kept}
 use Rattle.writer.specs.Writer.{Branching, child-of}
 use Rattle.writer.proofs.BlankLaws.{blank-short, blank-given, blank-most, blank-wrote}
 use Rattle.writer.proofs.CallLaws.{restored, kept-through, cols, cursor-within, leaving, looking, skip-child, skip-result, skip-fits, branch-child, branch-result, none-result, leaf-result, lower-ok}
@@ -31,14 +31,14 @@ use Rattle.writer.proofs.node.+branch+node+visit.Lts-visit as visit-lts
 use Rattle.signature.proofs.decoded.arity_of.Reads as arity-of-reads
 use Rattle.signature.proofs.decoded.count_of.Reads as count-of-reads
 use Rattle.signature.proofs.decoded.first_of.Reads as first-of-reads
-use Rattle.writer.proofs.alive.first_alive.Reads as first-alive-reads
-use Rattle.writer.proofs.column.column.Reads as column-reads
-use Rattle.writer.proofs.column.keep.Reads as keep-reads
-use Rattle.writer.proofs.cursor.blank.Reads as blank-reads
-use Rattle.writer.proofs.cursor.lower.Reads as lower-reads
-use Rattle.writer.proofs.cursor.raise.Reads as raise-reads
-use Rattle.writer.proofs.cursor.real.Reads as real-reads
-use Rattle.writer.proofs.leaf.leaf.Reads as leaf-reads
+use Rattle.path.proofs.alive.first_alive.Reads as first-alive-reads
+use Rattle.path.proofs.column.column.Reads as column-reads
+use Rattle.path.proofs.column.keep.Reads as keep-reads
+use Rattle.path.proofs.cursor.blank.Reads as blank-reads
+use Rattle.path.proofs.cursor.lower.Reads as lower-reads
+use Rattle.path.proofs.cursor.raise.Reads as raise-reads
+use Rattle.path.proofs.cursor.real.Reads as real-reads
+use Rattle.path.proofs.leaf.leaf.Reads as leaf-reads
 use Rattle.writer.proofs.node.skips.Reads as skips-reads
 use Rattle.writer.proofs.node.+branch+node+visit.{statement}
 use Rattle.writer.proofs.node.+branch+node+visit.Tie.{close}

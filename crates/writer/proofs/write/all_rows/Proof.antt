@@ -3,7 +3,7 @@ use mathlib.Core.Path.{_≡_, refl}
 use mathlib.Core.Bool.{true}
 use Prim.Native.Nat.{ℕ, _-_, _≤_}
 use native.Mathlib.Omega.{arith}
-use Rattle.writer.proofs.AliveLaws.{Filled, filled-next}
+use Rattle.path.proofs.AliveLaws.{Filled, filled-next}
 use Rattle.writer.proofs.write.all_rows.Statement.{statement}
 use Rattle.writer.proofs.write.all_rows.Tie as tie
 
