@@ -1,0 +1,4 @@
+// The lines of a text: bytes, numbers, lines, and the format over the whole text (17).
+pub mod bytes;
+pub mod list;
+pub mod number;
