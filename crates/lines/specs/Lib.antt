@@ -1,2 +1,4 @@
 pub mod Bytes
 pub mod Lists
+pub mod Lines
+pub mod Answers
