@@ -8,3 +8,4 @@ pub mod Reading
 pub mod TextSteps
 pub mod TextLaws
 pub mod FormatSteps
+pub mod Laws

@@ -4,3 +4,4 @@ pub mod format;
 pub mod line;
 pub mod list;
 pub mod number;
+pub mod promises;
