@@ -5,7 +5,7 @@ use mathlib.Core.Option.{Option, some, none}
 use mathlib.Core.Bool.{Bool, true, false}
 use Prim.Native.Nat.{ℕ, _+_, _-_, _≤_, _<_}
 use native.Mathlib.Omega.{arith}
-use lib.Dec.{eqb, leb}
+use lib.Dec.{eqb}
 use lib.ListN.{length, drop, take, length-drop}
 use Rattle.signature.specs.Lists.{_>>=_, require, is-some}
 use Rattle.signature.proofs.Tests.{bind-some, some-inj, leb-yes, leb-no}

@@ -1,13 +1,13 @@
 -- The lines of a text that keeps the format stand one behind the other.
 use mathlib.Core.Path.{_≡_, refl, ap, ap₂, _∙_, sym, subst}
 use mathlib.Core.List.{List, [], _∷_}
-use mathlib.Core.Option.{Option, some, none}
+use mathlib.Core.Option.{some}
 use mathlib.Core.Bool.{Bool, true, false}
 use Prim.Native.Nat.{ℕ, _+_, _≤_}
 use native.Mathlib.Omega.{arith}
 use lib.Dec.{eqb, leb}
 use lib.ListN.{length, drop}
-use Rattle.signature.specs.Lists.{_>>=_, require, is-some}
+use Rattle.signature.specs.Lists.{require, is-some}
 use Rattle.signature.proofs.Tests.{bind-some, some-inj, require-some, eqb-eq}
 use Rattle.table.specs.Rule.{Rule}
 use Rattle.text.specs.Format.{Text, read-text, after-key, number-after, list-after, key-sig, key-rule, key-plan, key-pat, key-book}

@@ -1,17 +1,16 @@
 -- A line, by the steps that read it.
-use mathlib.Core.Path.{_≡_, refl, ap, ap₂, _∙_, sym, subst}
-use mathlib.Core.List.{List, [], _∷_, _++_}
+use mathlib.Core.Path.{_≡_, refl, ap, _∙_, sym}
+use mathlib.Core.List.{List}
 use mathlib.Core.Option.{Option, some, none}
-use mathlib.Core.Bool.{Bool, true, false}
-use Prim.Native.Nat.{ℕ, suc, _+_, _-_, _≤_, _<_}
+use mathlib.Core.Bool.{true, false}
+use Prim.Native.Nat.{ℕ, suc, _+_, _-_, _<_}
 use native.Mathlib.Omega.{arith}
-use lib.Dec.{eqb, ltb}
+use lib.Dec.{ltb}
 use lib.ListN.{length, drop, take}
 use lib.Seq.{length-take-le}
 use Rattle.signature.specs.Lists.{_>>=_, require, is-some}
-use Rattle.signature.proofs.Tests.{ltb-yes, ltb-no, bind-some, some-inj, none≢some, true≢false, le-of, require-some}
-use Rattle.text.specs.Format.{after-key, number, list, number-after, list-after}
-use Rattle.text.specs.Limits.{list-limit}
+use Rattle.signature.proofs.Tests.{ltb-yes, ltb-no, bind-some, some-inj, true≢false, le-of, require-some}
+use Rattle.text.specs.Format.{after-key, number, list}
 use Rattle.lines.specs.Bytes.{bytes-before}
 use Rattle.lines.specs.Lines.{first-line, number-line, list-line}
 use Rattle.lines.proofs.Spans.{before-most, behind-key, to-end}

@@ -2,7 +2,7 @@
 use mathlib.Core.Path.{_≡_, refl, ap, ap₂, _∙_, sym}
 use mathlib.Core.List.{List, [], _∷_, _++_, append-assoc, append-nil}
 use mathlib.Core.Option.{Option, some, none}
-use Prim.Native.Nat.{ℕ, suc, _+_, _-_, _≤_, _<_}
+use Prim.Native.Nat.{ℕ, suc, _+_, _-_, _≤_}
 use native.Mathlib.Decide.{decLe}
 use native.Mathlib.Numerals.{add-one}
 use native.Mathlib.Omega.{arith}
@@ -15,7 +15,6 @@ use Rattle.text.specs.Format.{fields, number, numbers, list}
 use Rattle.text.specs.Limits.{list-limit}
 use Rattle.lines.specs.Bytes.{bytes-before}
 use Rattle.lines.specs.Lists.{count-of, Filled}
-use Rattle.lines.specs.declared.list.Count.{Count}
 use Rattle.lines.specs.declared.list.Count.the-variants.{Is, Broken}
 use Rattle.lines.proofs.Spans.{fields-more, fields-last, before-most, to-end}
 

@@ -1,24 +1,21 @@
 -- The lines stand one behind the other: the format, line by line.
-use mathlib.Core.Path.{_≡_, refl, ap, ap₂, _∙_, sym, subst}
-use mathlib.Core.List.{List, [], _∷_, _++_}
+use mathlib.Core.Path.{_≡_, refl, ap, ap₂, _∙_, sym}
+use mathlib.Core.List.{List, [], _∷_}
 use mathlib.Core.Option.{Option, some, none}
 use mathlib.Core.Bool.{Bool, true, false}
-use Prim.Native.Nat.{ℕ, suc, _+_, _-_, _≤_, _<_}
+use Prim.Native.Nat.{ℕ, suc, _+_, _-_, _≤_}
 use native.Mathlib.Decide.{decLe}
-use native.Mathlib.Numerals.{add-one}
 use native.Mathlib.Omega.{arith}
-use lib.Dec.{eqb, ltb, leb}
-use lib.ListN.{length, drop, take, length-drop}
-use lib.Seq.{drop-drop}
-use Rattle.signature.specs.Lists.{_>>=_, require, is-some, All, none-left, also}
-use Rattle.signature.proofs.Tests.{eqb-eq, eqb-self, eqb-no, bind-some, some-inj, none≢some, true≢false, ltb-yes, ltb-no}
+use lib.Dec.{eqb}
+use lib.ListN.{length, drop, take}
+use Rattle.signature.specs.Lists.{_>>=_, require, is-some, All, also}
+use Rattle.signature.proofs.Tests.{eqb-eq, bind-some, none≢some, true≢false, ltb-yes}
 use Rattle.table.specs.Rule.{Rule}
-use Rattle.text.specs.Format.{fields, ended, after-key, number-after, list-after, rest-lines, text-lines, read-text, Text, key-sig, key-rule, key-plan, key-pat, key-book}
-use Rattle.text.specs.Limits.{text-limit}
+use Rattle.text.specs.Format.{fields, ended, after-key, key-rule, key-book}
 use Rattle.lines.specs.Bytes.{bytes-before}
-use Rattle.lines.specs.Lines.{first-line, number-line, list-line, rule-lines, rest-text}
-use Rattle.lines.proofs.LineLaws.{line-was, missing, no-number-line, no-list-line}
-use Rattle.lines.proofs.Spans.{fields-more, fields-last, before-most}
+use Rattle.lines.specs.Lines.{first-line}
+use Rattle.lines.proofs.LineLaws.{line-was}
+use Rattle.lines.proofs.Spans.{fields-more, fields-last}
 
 -- the lines of bytes
 abbrev pub lines : List ℕ → Option (List (List ℕ))

@@ -1,11 +1,10 @@
 -- The lines of a rule, by what their function found.
 use mathlib.Core.Path.{_≡_, refl, ap, ap₂, _∙_, sym}
-use mathlib.Core.List.{List, _++_}
+use mathlib.Core.List.{List}
 use mathlib.Core.Option.{Option, some, none}
 use Prim.Native.Nat.{ℕ, _+_, _-_, _≤_}
 use native.Mathlib.Omega.{arith}
 use lib.ListN.{length, drop, take, length-drop}
-use Rattle.signature.specs.Lists.{_>>=_}
 use Rattle.signature.proofs.Tests.{bind-some, some-inj, none≢some}
 use Rattle.text.specs.Format.{key-rule, key-plan, key-pat, number-after, list-after}
 use Rattle.lines.specs.Answers.{word-line-of, count-line-of, rule-of, LineFilled, RuleFilled}

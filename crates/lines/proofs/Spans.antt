@@ -1,5 +1,5 @@
 -- Bytes up to a separator, and keys.
-use mathlib.Core.Path.{_≡_, refl, ap, _∙_, sym}
+use mathlib.Core.Path.{_≡_, refl, sym}
 use mathlib.Core.List.{List, [], _∷_}
 use mathlib.Core.Option.{some}
 use mathlib.Core.Bool.{Bool, true, false}
@@ -11,8 +11,8 @@ use lib.ListN.{length, getD, drop, take, drop-of-length-le, length-drop}
 use lib.Seq.{drop-cons, take-all}
 use borrow.Author.Tests.{eq-eqb, ne-eqb}
 use Rattle.signature.specs.Lists.{is-some}
-use Rattle.signature.proofs.Tests.{true≢false, eqb-no}
-use Rattle.text.specs.Format.{fields, push, after-key}
+use Rattle.signature.proofs.Tests.{true≢false}
+use Rattle.text.specs.Format.{fields, after-key}
 use Rattle.lines.specs.Bytes.{bytes-before}
 
 -- the rest of a slice

@@ -2,14 +2,14 @@
 use mathlib.Core.Path.{_≡_, refl, ap, _∙_, sym}
 use mathlib.Core.List.{List, [], _∷_}
 use mathlib.Core.Option.{Option, some, none}
-use mathlib.Core.Bool.{Bool, true, false}
-use Prim.Native.Nat.{ℕ, _+_, _-_, _≤_, _<_}
+use mathlib.Core.Bool.{false}
+use Prim.Native.Nat.{ℕ, _+_, _-_}
 use native.Mathlib.Omega.{arith}
 use lib.Dec.{eqb, leb}
 use lib.ListN.{length, drop, length-drop}
-use Rattle.signature.specs.Lists.{_>>=_, require, is-some, All, none-left, also}
+use Rattle.signature.specs.Lists.{_>>=_, require, is-some, none-left, also}
 use Rattle.signature.proofs.Tests.{eqb-self, eqb-no, when-same}
-use Rattle.text.specs.Format.{after-key, number-after, list-after, rest-lines, text-lines, read-text, Text, key-sig, key-rule, key-book}
+use Rattle.text.specs.Format.{after-key, list-after, rest-lines, text-lines, read-text, Text, key-sig, key-rule, key-book}
 use Rattle.text.specs.Limits.{text-limit}
 use Rattle.lines.specs.Lines.{first-line, list-line, rest-text}
 use Rattle.lines.proofs.LineLaws.{line-was, missing, no-list-line}

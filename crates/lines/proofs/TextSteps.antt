@@ -1,21 +1,17 @@
 -- The lines of a rule, then the rest of the text.
-use mathlib.Core.Path.{_≡_, refl, ap, ap₂, _∙_, sym, subst}
+use mathlib.Core.Path.{_≡_, refl, ap, _∙_, sym}
 use mathlib.Core.List.{List, [], _∷_}
 use mathlib.Core.Option.{Option, some, none}
-use mathlib.Core.Bool.{Bool, true, false}
-use Prim.Native.Nat.{ℕ, _+_, _≤_, _<_}
-use native.Mathlib.Omega.{arith}
-use lib.Dec.{eqb, leb}
-use lib.ListN.{length, drop, length-drop}
+use mathlib.Core.Bool.{true}
+use Prim.Native.Nat.{ℕ, _+_}
+use lib.ListN.{length, drop}
 use lib.Seq.{drop-drop}
-use Rattle.signature.specs.Lists.{_>>=_, require, is-some, All, none-left, also}
-use Rattle.signature.proofs.Tests.{eqb-self, eqb-no, when-same}
+use Rattle.signature.specs.Lists.{_>>=_, is-some, none-left, also}
 use Rattle.table.specs.Rule.{Rule}
-use Rattle.text.specs.Format.{after-key, number-after, list-after, rest-lines, text-lines, read-text, Text, key-sig, key-rule, key-plan, key-pat, key-book}
-use Rattle.text.specs.Limits.{text-limit}
+use Rattle.text.specs.Format.{after-key, number-after, list-after, rest-lines, key-rule, key-plan, key-pat}
 use Rattle.lines.specs.Lines.{first-line, number-line, list-line, rule-lines, rest-text}
-use Rattle.lines.proofs.LineLaws.{line-was, missing, no-number-line, no-list-line}
-use Rattle.lines.proofs.Reading.{lines, no-lines, some-line, key-line, not-book, Rest, with-rule, no-rest, lines-step}
+use Rattle.lines.proofs.LineLaws.{line-was, no-number-line, no-list-line}
+use Rattle.lines.proofs.Reading.{lines, no-lines, key-line, not-book, Rest, with-rule, no-rest, lines-step}
 
 pub bind-none : {A B : Type 0} (o : Option A) → _≡_ {A = Option B} (o >>= λ a. none) none
 bind-none none = refl

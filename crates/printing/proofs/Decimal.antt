@@ -1,5 +1,5 @@
 -- A number in decimal, digit by digit from its last.
-use mathlib.Core.Path.{_≡_, refl, ap, _∙_, sym}
+use mathlib.Core.Path.{_≡_, refl, ap}
 use mathlib.Core.List.{List, [], _∷_, _++_}
 use mathlib.Core.Bool.{Bool, true, false, cond}
 use Prim.Native.Nat.{ℕ, zero, suc, _+_, _/_, _%_, _≤_, _<_}
@@ -10,7 +10,7 @@ use lib.ListN.{length, length-append, set}
 use Rattle.signature.proofs.Tests.{ltb-yes, ltb-no}
 use Rattle.text.specs.Limits.{last-word}
 use Rattle.text.specs.Print.{decimal, digits}
-use Rattle.printing.specs.Put.{Put, put-at, in-decimal}
+use Rattle.printing.specs.Put.{Put, in-decimal}
 use Rattle.printing.proofs.PutLaws.{put-one, both}
 
 one-digit : (n : ℕ) → n < 10 → in-decimal n ≡ (48 + n) ∷ []

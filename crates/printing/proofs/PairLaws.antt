@@ -1,22 +1,20 @@
 -- The pairs, one after the other.
-use mathlib.Core.Path.{_≡_, refl, ap, ap₂, _∙_, sym, subst}
+use mathlib.Core.Path.{_≡_, refl, ap, _∙_, sym}
 use mathlib.Core.List.{List, [], _∷_, _++_, append-assoc, append-nil}
-use mathlib.Core.Bool.{Bool, true, false, cond}
-use Prim.Native.Nat.{ℕ, suc, _+_, _*_, _≤_, _<_}
+use mathlib.Core.Bool.{Bool, true, false}
+use Prim.Native.Nat.{ℕ, suc, _+_, _≤_, _<_}
 use native.Mathlib.Nat.{add-zero}
 use native.Mathlib.Numerals.{add-one}
 use native.Mathlib.Omega.{arith}
 use lib.Dec.{eqb, ltb}
 use lib.ListN.{length, getD, drop, length-append, drop-of-length-le}
 use lib.Seq.{drop-cons}
-use Rattle.signature.specs.Lists.{All, none-left, also}
-use Rattle.signature.proofs.Tests.{eqb-self, eqb-no, eqb-eq, eqb-ne, ltb-yes, ltb-no}
+use Rattle.signature.proofs.Tests.{eqb-no, eqb-eq, eqb-ne, ltb-yes, ltb-no}
 use Rattle.pattern.specs.Limits.{unbound-place}
 use Rattle.text.specs.Print.{spaced, pairs-text, decimal}
 use Rattle.printing.specs.Pairs.{space, piece, pairs-bytes}
-use Rattle.printing.specs.Put.{Put, put-at, in-decimal}
-use Rattle.printing.proofs.Decimal.{five-digits}
-use Rattle.printing.proofs.PutLaws.{both, put-none, kept}
+use Rattle.printing.specs.Put.{Put, in-decimal}
+use Rattle.printing.proofs.PutLaws.{both, put-none}
 
 -- pairs with a space before them where one stands before
 abbrev joined : Bool → List (List ℕ) → List ℕ

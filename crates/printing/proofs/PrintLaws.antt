@@ -1,15 +1,15 @@
 -- The lines that are printed, and how long they are.
-use mathlib.Core.Path.{_≡_, refl, ap, ap₂, _∙_, sym, subst}
+use mathlib.Core.Path.{_≡_, refl, ap, _∙_, sym, subst}
 use mathlib.Core.List.{List, [], _∷_, _++_, append-assoc}
 use mathlib.Core.Bool.{Bool, true, false, cond}
-use Prim.Native.Nat.{ℕ, suc, _+_, _*_, _≤_, _<_}
+use Prim.Native.Nat.{ℕ, suc, _+_, _*_, _≤_}
 use native.Mathlib.Nat.{zero-add}
 use native.Mathlib.Omega.{arith}
 use lib.Dec.{eqb}
-use lib.ListN.{length, drop, length-append}
+use lib.ListN.{length, length-append}
 use Rattle.pattern.specs.Limits.{unbound-place, variable-count}
 use Rattle.text.specs.Format.{key-rule, key-plan}
-use Rattle.text.specs.Print.{spaced, pairs-text, decimal, print-refused, print-answer, key-bind, key-refused}
+use Rattle.text.specs.Print.{spaced, pairs-text, decimal, print-refused, key-bind, key-refused}
 use Rattle.printing.specs.Pairs.{pairs-bytes}
 use Rattle.printing.specs.Printed.{print-limit, number-line, answer-bytes, Printed}
 use Rattle.printing.specs.Put.{Put, in-decimal}

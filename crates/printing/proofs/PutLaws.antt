@@ -1,12 +1,12 @@
 -- Bytes behind bytes.
-use mathlib.Core.Path.{_≡_, refl, ap, ap₂, _∙_, sym, subst}
+use mathlib.Core.Path.{_≡_, ap, ap₂, _∙_, sym}
 use mathlib.Core.List.{List, [], _∷_, _++_, append-assoc, append-nil}
 use Prim.Native.Nat.{ℕ, suc, _+_, _≤_, _<_}
 use native.Mathlib.Nat.{add-zero}
 use native.Mathlib.Numerals.{add-one}
 use native.Mathlib.Omega.{arith}
 use lib.ListN.{length, set, take, drop, getD, length-append, length-drop, take-append-drop}
-use lib.Seq.{take-at, drop-append-add, drop-drop, length-take-le, set-split, paste, paste-zero, paste-suc, take-length, take-all, append-snoc}
+use lib.Seq.{take-at, drop-append-add, drop-drop, length-take-le, set-split, paste, paste-zero, paste-suc, take-length, append-snoc}
 use Rattle.printing.specs.Put.{put-at, Put}
 
 module _ (at : ℕ) (s o : List ℕ) (room : at + length s ≤ length o) where

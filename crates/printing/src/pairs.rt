@@ -1,6 +1,5 @@
 // The bindings: variable and place, variables rising, a space between.
 use crate::put;
-ghost use mathlib.Core.Path.{_≡_};
 ghost use Prim.Native.Nat.{_+_, _≤_};
 ghost use lib.Dec.{ltb};
 ghost use lib.ListN.{length};

@@ -1,7 +1,6 @@
 // The lines that the text program prints, first in a lent space; how many bytes.
 use crate::pairs;
 use crate::put;
-ghost use mathlib.Core.Path.{_≡_};
 ghost use Prim.Native.Nat.{_+_, _≤_};
 ghost use lib.ListN.{length};
 ghost use Rattle.pattern.specs.Limits.{variable-count};

@@ -1,5 +1,4 @@
 // Bytes and numbers put into a lent space from an index on; each function gives the index behind them.
-ghost use mathlib.Core.Path.{_≡_};
 ghost use Prim.Native.Nat.{_+_, _≤_};
 ghost use lib.ListN.{length};
 ghost use Rattle.printing.specs.Put.{Put, in-decimal};

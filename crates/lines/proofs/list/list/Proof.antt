@@ -1,6 +1,6 @@
 -- `list::list` meets its contract: what is left to read, and the numbers read, are the whole list.
-use mathlib.Core.Path.{_≡_, refl, sym, _∙_, ap}
-use mathlib.Core.Option.{some, none}
+use mathlib.Core.Path.{_≡_, refl, sym, _∙_}
+use mathlib.Core.Option.{some}
 use Prim.Native.Nat.{_≤_}
 use native.Mathlib.Omega.{arith}
 use lib.ListN.{length, length-set, take}
@@ -8,7 +8,6 @@ use lib.Seq.{length-take-le}
 use borrow.Author.Needs.{needs}
 use Rattle.text.specs.Format.{number}
 use Rattle.text.specs.Limits.{list-limit}
-use Rattle.lines.specs.Lists.{count-of}
 use Rattle.lines.proofs.Digits.{word-none, word-some}
 use Rattle.lines.proofs.Lists.{Reading, reading-start, no-list, too-many, no-number, number-read, list-read}
 use Rattle.lines.proofs.Spans.{before-most}

@@ -1,8 +1,8 @@
 -- `number::worth` meets its contract.
-use mathlib.Core.Path.{_≡_, refl, sym, _∙_}
+use mathlib.Core.Path.{refl}
 use Prim.Native.Nat.{_≤_, _<_, _-_, _^_}
 use native.Mathlib.Omega.{arith}
-use lib.ListN.{length, drop}
+use lib.ListN.{length}
 use Rattle.lines.proofs.Digits.{Left, few, one-more, all-read, low-byte, high-byte, digit-read}
 use Rattle.lines.proofs.number.worth.Statement.{statement}
 use Rattle.lines.proofs.number.worth.Tie as tie

@@ -1,5 +1,4 @@
 -- `pairs::put_pair` meets its contract.
-use mathlib.Core.Path.{_≡_, _∙_}
 use native.Mathlib.Omega.{arith}
 use lib.Dec.{ltb}
 use borrow.Author.Needs.{needs}
