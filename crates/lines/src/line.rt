@@ -9,7 +9,7 @@ ghost use mathlib.Core.Path.{_≡_};
 ghost use Prim.Native.Nat.{_≤_};
 ghost use lib.ListN.{length};
 ghost use Rattle.text.specs.Limits.{list-limit};
-ghost use Rattle.lines.specs.Lines.{number-line, list-line, rule-lines};
+ghost use Rattle.lines.specs.Lines.{line-end, number-line, list-line, rule-lines};
 ghost use Rattle.lines.specs.Answers.{word-line-of, count-line-of, rule-of, LineFilled, RuleFilled};
 
 pub enum WordLine {
@@ -33,17 +33,28 @@ pub enum RuleLines {
     Broken,
 }
 
+// Where the first line ends, if it begins with the key; else how many bytes there are.
+fn end_of(t: &[u8], key: &[u8]) -> usize
+    ensures { λ r. ⌜ r ≡ line-end (now (key .entry)) (now (t .entry)) ⌝ }
+{
+    let e = bytes::span(t, NEWLINE);
+    if e == t.len() {
+        return e;
+    }
+    if bytes::starts(&t[..e], key) {
+        return e;
+    }
+    t.len()
+}
+
 pub fn number_line(t: &[u8], key: &[u8]) -> WordLine
     ensures { λ r. ⌜ r ≡ word-line-of (number-line (now (key .entry)) (now (t .entry))) ⌝ }
 {
-    let e = bytes::span(t, NEWLINE);
+    let e = end_of(t, key);
     if e == t.len() {
         return WordLine::Broken;
     }
     let l = &t[..e];
-    if !bytes::starts(l, key) {
-        return WordLine::Broken;
-    }
     let k = key.len();
     let Word::Is(v) = number::number(&l[k..]) else {
         return WordLine::Broken;
@@ -59,14 +70,11 @@ pub fn list_line(t: &[u8], key: &[u8], out: &mut [u16]) -> CountLine
     requires { ⌜ list-limit ≤ length (now out) ⌝ }
     ensures { λ r. ⌜ (r ≡ count-line-of (list-line (now (key .entry)) (now (t .entry)))) × LineFilled (list-line (now (key .entry)) (now (t .entry))) (now (out .entry)) (now (out .exit)) ⌝ }
 {
-    let e = bytes::span(t, NEWLINE);
+    let e = end_of(t, key);
     if e == t.len() {
         return CountLine::Broken;
     }
     let l = &t[..e];
-    if !bytes::starts(l, key) {
-        return CountLine::Broken;
-    }
     let k = key.len();
     let Count::Is(n) = list::list(&l[k..], out) else {
         return CountLine::Broken;
