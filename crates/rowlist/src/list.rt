@@ -7,7 +7,7 @@ ghost use Rattle.cell.specs.RowList.{from};
 ghost use Rattle.rowlist.specs.Product.{GivenEach, each-entry, GivenProduct, Product, products};
 
 // The two rows at the front of x and y as one row of a list, first in out; 0 words where it is dropped.
-pub fn entry(t: &[u16], x: &[u64], y: &[u64], out: &mut [u64]) -> usize
+fn entry(t: &[u16], x: &[u64], y: &[u64], out: &mut [u64]) -> usize
     requires { ⌜ GivenOne (now t) (now x) (now y) (now out) ⌝ }
     ensures { λ r. ⌜ ((g : GivenOne (now (t .entry)) (now (x .entry)) (now (y .entry)) (now (out .entry))) → Begins (one-entry g) r (now (out .exit))) ⌝ }
 {
@@ -19,7 +19,7 @@ pub fn entry(t: &[u16], x: &[u64], y: &[u64], out: &mut [u64]) -> usize
 }
 
 // The row at the front of x with each row of the list y, first in out; how many words.
-pub fn one_by_all(t: &[u16], x: &[u64], y: &[u64], out: &mut [u64]) -> usize
+fn one_by_all(t: &[u16], x: &[u64], y: &[u64], out: &mut [u64]) -> usize
     requires { ⌜ GivenEach (now t) (now x) (now y) (now out) ⌝ }
     ensures { λ r. ⌜ ((g : GivenEach (now (t .entry)) (now (x .entry)) (now (y .entry)) (now (out .entry))) → Begins (each-entry g) r (now (out .exit))) ⌝ }
 {

@@ -15,7 +15,7 @@ ghost use Rattle.rowlist.specs.Product.{Product};
 pub const PART_WEIGHT: usize = 64;
 
 // Each row with each row of the argument behind it; none where there would be more than a part may weigh, for then an argument that is still to come has none.
-pub fn next_plus(lists: &[u64], at: usize, out: &mut [u64]) -> usize
+fn next_plus(lists: &[u64], at: usize, out: &mut [u64]) -> usize
     requires { ⌜ GivenNext (now lists) at (length (now out)) ⌝ }
     ensures { λ r. ⌜ ((g : GivenNext (now (lists .entry)) at (length (now (out .entry)))) → Product (words-list (next-rows true [] (g .left .rows) (g .right .rows))) r (now (out .exit))) ⌝ }
 {
@@ -29,7 +29,7 @@ pub fn next_plus(lists: &[u64], at: usize, out: &mut [u64]) -> usize
 }
 
 // Each row with a wildcard behind it, then the first with each row of the argument.
-pub fn next_minus(tag: u64, full: u64, lists: &[u64], at: usize, out: &mut [u64]) -> usize
+fn next_minus(tag: u64, full: u64, lists: &[u64], at: usize, out: &mut [u64]) -> usize
     requires { ⌜ GivenNextMinus (now lists) at (length (now out)) ⌝ }
     ensures { λ r. ⌜ ((g : GivenNextMinus (now (lists .entry)) at (length (now (out .entry)))) → Product (words-list (next-rows false (tag ∷ (0 ∷ (full ∷ []))) (g .next .left .rows) (g .next .right .rows))) r (now (out .exit))) ⌝ }
 {

@@ -53,12 +53,6 @@ pub fn lowest(s: u64) -> u32
     u64::trailing_zeros(s)
 }
 
-pub fn is_empty(s: u64) -> bool
-    ensures { λ r. ⌜ r ≡ eqb (length (members s)) 0 ⌝ }
-{
-    s == 0
-}
-
 // The numbers below n. A shift by 64 is none, so all 64 are written out.
 pub fn full(n: u32) -> u64
     requires { ⌜ n ≤ set-limit ⌝ }

@@ -157,7 +157,7 @@ key-was (k ∷ ks) (b ∷ bs) rest e =
 list-key : (ks ns : List ℕ) → ListOk ns → list-after ks (ks ++ list-bytes ns) ≡ some ns
 list-key ks ns h = ap (λ o. o >>= λ r. list r) (key-read ks (list-bytes ns)) ∙ list-read ns h
 
-list-key-was : (ks bs ns : List ℕ) → list-after ks bs ≡ some ns → (bs ≡ ks ++ list-bytes ns) × ListOk ns
+pub list-key-was : (ks bs ns : List ℕ) → list-after ks bs ≡ some ns → (bs ≡ ks ++ list-bytes ns) × ListOk ns
 list-key-was ks bs ns e =
     let (r, e₁, e₂) = bind-some (after-key ks bs) _ ns e in
     let (a, h) = list-was r ns e₂ in
@@ -166,7 +166,7 @@ list-key-was ks bs ns e =
 number-key : (ks : List ℕ) (n : ℕ) → n ≤ last-word → number-after ks (ks ++ decimal n) ≡ some n
 number-key ks n l = ap (λ o. o >>= λ r. number r) (key-read ks (decimal n)) ∙ number-decimal n l
 
-number-key-was : (ks bs : List ℕ) (n : ℕ) → number-after ks bs ≡ some n → (bs ≡ ks ++ decimal n) × (n ≤ last-word)
+pub number-key-was : (ks bs : List ℕ) (n : ℕ) → number-after ks bs ≡ some n → (bs ≡ ks ++ decimal n) × (n ≤ last-word)
 number-key-was ks bs n e =
     let (r, e₁, e₂) = bind-some (after-key ks bs) _ n e in
     let (a, h) = decimal-number r n e₂ in

@@ -1,0 +1,5 @@
+pub mod Bytes
+pub mod Lists
+pub mod Lines
+pub mod Answers
+pub mod Laws

@@ -1,0 +1,7 @@
+pub mod Alive
+pub mod Column
+pub mod Leaf
+pub mod Standing
+pub mod State
+pub mod Variables
+pub mod Wrote

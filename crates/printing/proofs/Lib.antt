@@ -1,0 +1,4 @@
+pub mod PutLaws
+pub mod Decimal
+pub mod PairLaws
+pub mod PrintLaws
