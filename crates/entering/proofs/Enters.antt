@@ -1,0 +1,133 @@
+-- The call as a whole.
+use mathlib.Core.Path.{_≡_, refl, sym, ap, subst, _∙_}
+use mathlib.Core.List.{List, []}
+use mathlib.Core.Bool.{Bool, true, false, cond, _&&_}
+use Prim.Native.Nat.{ℕ, _<_, _≤_}
+use native.Mathlib.Omega.{arith}
+use lib.Dec.{eqb}
+use lib.ListN.{length}
+use Rattle.signature.specs.Decoded.{decoded-length}
+use Rattle.signature.specs.Signature.{Signature}
+use Rattle.signature.proofs.Booleans.{and-left, and-right}
+use Rattle.signature.proofs.Tests.{eqb-no, leb-yes, leb-no, le-of}
+use Rattle.table.specs.Calls.{Entered as Answer, Enter, Empty, Shows, start, refused, begin, enter-start, enter-number, enter-table, long-table, long-witness}
+use Rattle.table.specs.Limits.{table-length, witness-length}
+use Rattle.table.specs.Rule.{Rule, stored, add-rule}
+use Rattle.builder.specs.Build.{row-room}
+use Rattle.loading.specs.Add.{rows-room}
+use Rattle.opening.specs.Open.{GivenOpen, InForce, OpenedAs}
+use Rattle.opening.specs.declared.open.Opened.{Opened}
+use Rattle.opening.specs.declared.open.Opened.the-variants.{Begun, Refused as Closed}
+use Rattle.entering.specs.Check.{GivenCheck, CheckedAs}
+use Rattle.entering.specs.Entry.{answer-of}
+use Rattle.entering.specs.Settle.{GivenSettle, EntryOf}
+use Rattle.entering.specs.declared.check.Checked.{Checked}
+use Rattle.entering.specs.declared.check.Checked.the-variants.{Free, Refused as Barred}
+use Rattle.entering.specs.declared.entry.Entry.the-variants.{Refused}
+
+-- ---- 2
+pub long-is : (table witness : List ℕ) → table-length ≤ length table → (b : Bool) → b ≡ long-witness witness → b ≡ (long-table table && long-witness witness)
+long-is table witness h b e = e ∙ sym (ap (λ z. z && long-witness witness) (leb-yes table-length (length table) h))
+
+pub short-is : (table witness : List ℕ) → length table < table-length → false ≡ (long-table table && long-witness witness)
+short-is table witness h = sym (ap (λ z. z && long-witness witness) (leb-no table-length (length table) h))
+
+module _ (table witness : List ℕ) (b : Bool) (b-is : b ≡ (long-table table && long-witness witness)) (e : b ≡ true) where
+  pub table-long : table-length ≤ length table
+  table-long = le-of table-length (length table) (and-left (long-table table) (long-witness witness) (sym b-is ∙ e))
+
+  pub witness-long : witness-length ≤ length witness
+  witness-long = le-of witness-length (length witness) (and-right (long-table table) (long-witness witness) (sym b-is ∙ e))
+
+-- ---- from 4 on
+not-0 : (q : ℕ) (x y : List ℕ) → 1 ≤ q → cond (eqb q 0) x y ≡ y
+not-0 q x y h = ap (λ b. cond b x y) (eqb-no q 0 (λ e. omega (arith, e, h)))
+
+module _ {t table : List ℕ} {used total : ℕ} {rows : List ℕ} {m : ℕ} (g : GivenCheck t table used total rows m) (n plan : ℕ) (ws witness : List ℕ) (r : Checked) (rows′ : List ℕ) (gave : (q : GivenCheck t table used total rows m) → CheckedAs (q .known .sig) (q .rs) n ws used total r rows′) where
+  pub turned-down : (q : ℕ) → r ≡ Barred q → EntryOf (g .known .sig) (g .rs) n plan ws table witness (answer-of (Refused q)) table witness
+  turned-down q e =
+      let (a, b, c) = subst (λ z. CheckedAs (g .known .sig) (g .rs) n ws used total z rows′) e (gave g) in
+      record {
+        number-is = sym c;
+        table-is = sym (ap (λ z. cond (eqb z 0) (stored (add-rule (record { number = n; plan = plan; pattern = ws }) (g .rs)) table) table) c ∙ not-0 q (stored (add-rule (record { number = n; plan = plan; pattern = ws }) (g .rs)) table) table a);
+        not-12 = λ f. (refl, refl, refl);
+        on-12 = λ x. absurd (omega (arith, x, b));
+      }
+
+  pub settle-given : (at : ℕ) → r ≡ Free at → (m′ : ℕ) → m′ ≡ m → length rows′ ≡ length rows → (l : ℕ) → witness-length ≤ l → GivenSettle t table n ws at used rows′ m′ l
+  settle-given at e m′ m-is rows-is l w =
+      let z = subst (λ z. CheckedAs (g .known .sig) (g .rs) n ws used total z rows′) e (gave g) in
+      record {
+        known = g .known;
+        rs = g .rs;
+        is-sound = g .is-sound;
+        total = total;
+        ready = z .1;
+        cleared = z .0;
+        room = omega (arith, rows-is, g .room);
+        work-room = omega (arith, m-is, g .work-room);
+        witness-long = w;
+      }
+
+  pub settled : (at : ℕ) (e : r ≡ Free at) (m′ : ℕ) (m-is : m′ ≡ m) (rows-is : length rows′ ≡ length rows) (w : witness-length ≤ length witness) (a : Answer) (after witness′ : List ℕ)
+      → ((q : GivenSettle t table n ws at used rows′ m′ (length witness)) → EntryOf (q .known .sig) (q .rs) n plan ws table witness a after witness′)
+      → EntryOf (g .known .sig) (g .rs) n plan ws table witness a after witness′
+  unfolding settle-given
+  settled at e m′ m-is rows-is w a after witness′ did = did (settle-given at e m′ m-is rows-is (length witness) w)
+
+-- ---- from 1 on
+begin-inj : (sig sig′ : Signature) (rs rs′ : List Rule) → begin sig rs ≡ begin sig′ rs′ → (sig ≡ sig′) × (rs ≡ rs′)
+begin-inj sig sig′ rs rs′ p = (cc, cc)
+
+refused-begin : {A : Type 0} (q : ℕ) (sig : Signature) (rs : List Rule) → refused q ≡ begin sig rs → A
+refused-begin q sig rs p = absurd (let z : _≡_ {A = ℕ} 0 1 = cc in omega arith)
+
+module _ (ss : List ℕ) (n plan : ℕ) (ws table witness : List ℕ) where
+  pub refused-early : (q : ℕ) → enter-start ss table witness ≡ refused q → Enter ss n plan ws table witness (answer-of (Refused q)) table witness
+  refused-early q e = record {
+    number-is = sym (ap (λ s. enter-number s n ws) e);
+    table-is = sym (ap (λ s. enter-table s n plan ws table) e);
+    not-12 = λ f. (refl, refl, refl);
+    on-12 = λ sig rs z x. refused-begin q sig rs (sym e ∙ z);
+  }
+
+  pub as-whole : (sig : Signature) (rs : List Rule) → enter-start ss table witness ≡ begin sig rs → (e : Answer) (after witness′ : List ℕ) → EntryOf sig rs n plan ws table witness e after witness′ → Enter ss n plan ws table witness e after witness′
+  as-whole sig rs b e after witness′ h = record {
+    number-is = h .number-is ∙ sym (ap (λ s. enter-number s n ws) b);
+    table-is = h .table-is ∙ sym (ap (λ s. enter-table s n plan ws table) b);
+    not-12 = h .not-12;
+    on-12 = λ sig′ rs′ z x. moved sig′ rs′ (begin-inj sig sig′ rs rs′ (sym b ∙ z)) (h .on-12 x);
+  }
+    where
+      moved : (sig′ : Signature) (rs′ : List Rule) → (sig ≡ sig′) × (rs ≡ rs′) → Shows sig rs ws witness e witness′ → Shows sig′ rs′ ws witness e witness′
+      moved sig′ rs′ (a, c) w = subst (λ z. Shows sig′ z ws witness e witness′) c (subst (λ z. Shows z rs ws witness e witness′) a w)
+
+module _ (ss : List ℕ) (n plan : ℕ) (ws table witness : List ℕ) (long : Bool) (long-so : long ≡ (long-table table && long-witness witness)) where
+  pub open-given : (l k m : ℕ) → l ≡ decoded-length → k ≡ rows-room → m ≡ row-room → GivenOpen long table l k m
+  open-given l k m a b c = record { decoded-room = a; table-long = λ e. table-long table witness long long-so e; room = omega (arith, b); work-room = omega (arith, c) }
+
+  module _ (r : Opened) (t rows : List ℕ) (gave : OpenedAs ss long table r t rows) where
+    pub not-opened : (q : ℕ) → r ≡ Closed q → Enter ss n plan ws table witness (answer-of (Refused q)) table witness
+    not-opened q e = refused-early ss n plan ws table witness q (ap (λ b. start ss b table) (sym long-so) ∙ subst (λ z. OpenedAs ss long table z t rows) e gave)
+
+    module _ (used total : ℕ) (e : r ≡ Begun used total) (m : ℕ) (rows-is : length rows ≡ rows-room) (m-is : m ≡ row-room) where
+      in-force : InForce ss long table used total t rows
+      in-force = subst (λ z. OpenedAs ss long table z t rows) e gave
+
+      pub check-given : GivenCheck t table used total rows m
+      check-given = record { known = in-force .known; rs = in-force .rs; is-sound = in-force .is-sound; ready = in-force .ready; room = omega (arith, rows-is); work-room = omega (arith, m-is) }
+
+      pub buffer-long : witness-length ≤ length witness
+      buffer-long = witness-long table witness long long-so (in-force .is-long)
+
+      pub entered : (a : Answer) (after witness′ : List ℕ) → ((q : GivenCheck t table used total rows m) → EntryOf (q .known .sig) (q .rs) n plan ws table witness a after witness′) → Enter ss n plan ws table witness a after witness′
+      unfolding check-given
+      entered a after witness′ did = as-whole ss n plan ws table witness (in-force .known .sig) (in-force .rs) (ap (λ b. start ss b table) (sym long-so) ∙ in-force .started) a after witness′ (did check-given)
+
+-- ---- empty
+module _ (table : List ℕ) where
+  pub not-emptied : length table < table-length → Empty table 2 table
+  not-emptied h = let z = leb-no table-length (length table) h in record { number-is = rw z; table-is = rw z }
+
+  pub emptied : table-length ≤ length table → (after : List ℕ) → after ≡ stored [] table → Empty table 0 after
+  emptied h after e = let z = leb-yes table-length (length table) h in record { number-is = rw z; table-is = rw (e, z) }

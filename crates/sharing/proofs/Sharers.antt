@@ -1,0 +1,184 @@
+-- One rule after the other.
+use mathlib.Core.Path.{_≡_, refl, sym, ap, subst, _∙_}
+use mathlib.Core.List.{List, [], _∷_, _++_, append-assoc}
+use mathlib.Core.Option.{some}
+use mathlib.Core.Bool.{Bool, true, false}
+use Prim.Native.Nat.{ℕ, _+_, _-_, _<_, _≤_}
+use native.Mathlib.Omega.{arith}
+use lib.ListN.{length, drop, getD, length-append, length-drop}
+use lib.Seq.{drop-at, drop-drop}
+use Rattle.signature.specs.Lists.{any, In, in-here, in-there}
+use Rattle.signature.proofs.ListFacts.{in-any, no-in}
+use Rattle.pattern.specs.Pattern.{Pattern}
+use Rattle.pattern.specs.Read.{read-pattern}
+use Rattle.pattern.proofs.PatternBack.{pattern-words}
+use Rattle.row.specs.Admitted.{Passed}
+use Rattle.row.specs.Overlap.{shares, Shared, SharesBooking}
+use Rattle.row.specs.Row.{rows-plus}
+use Rattle.row.proofs.Exists.{shares-exists, exists-shares}
+use Rattle.cell.specs.Coded.{kinds-of}
+use Rattle.cell.specs.RowList.{list-code, from}
+use Rattle.cell.proofs.Walk.{from-is, word-at}
+use Rattle.overlap.specs.Laws.{TwoPatterns}
+use Rattle.witness.specs.Lists.{Shown}
+use Rattle.witness.proofs.Laws.{laws}
+use Rattle.table.specs.Calls.{Entered, Shows}
+use Rattle.table.specs.Limits.{table-length, rule-limit}
+use Rattle.table.specs.Rule.{Rule, Rises, rises-cons}
+use Rattle.table.proofs.Reckoning.{in-above}
+use Rattle.table.proofs.SoundFacts.{sound-table}
+use Rattle.store.specs.Laid.{Holds}
+use Rattle.store.specs.Place.{Walked, Step}
+use Rattle.store.proofs.FindFacts.{count-is}
+use Rattle.store.proofs.LaidFacts.{sound-holds}
+use Rattle.store.proofs.Walk.{walk-start, walk-step, walk-end}
+use Rattle.loading.specs.Lists.{rows-by, list-for, lists-for}
+use Rattle.loading.specs.Load.{patterns}
+use Rattle.sharing.specs.Sharer.{GivenSharer, SharerOf}
+
+-- a rule below one of rising rules stands before it
+below-before : {m : ℕ} (before : List Rule) (r : Rule) (after : List Rule) → Rises m (before ++ (r ∷ after)) → (s : Rule) → In s (before ++ (r ∷ after)) → s .number < r .number → In s before
+below-before [] r after (rises-cons a b h) s in-here l = absurd (omega (arith, l))
+below-before [] r after (rises-cons a b h) s (in-there i) l = absurd (omega (arith, l, in-above s h i))
+below-before (q ∷ before) r after (rises-cons a b h) s in-here l = in-here
+below-before (q ∷ before) r after (rises-cons a b h) s (in-there i) l = in-there (below-before before r after h s i l)
+
+in-last : (before : List Rule) (r : Rule) (s : Rule) → In s (before ++ (r ∷ [])) → (P : Rule → Type 0) → P r → ((q : Rule) → In q before → P q) → P s
+in-last [] r s in-here P a f = a
+in-last (q ∷ before) r s in-here P a f = f s in-here
+in-last (q ∷ before) r s (in-there i) P a f = in-last before r s i P a (λ u j. f u (in-there j))
+
+in-middle : (before : List Rule) (r : Rule) (after : List Rule) → In r (before ++ (r ∷ after))
+in-middle [] r after = in-here
+in-middle (s ∷ before) r after = in-there (in-middle before r after)
+
+none-any : (f : Rule → Bool) (rs : List Rule) → ((s : Rule) → In s rs → f s ≡ true → ⊥) → any f rs ≡ false
+none-any f [] h = refl
+none-any f (s ∷ rs) h = rw (no (f s) (h s in-here), none-any f rs (λ q i. h q (in-there i)))
+  where
+    no : (b : Bool) → (b ≡ true → ⊥) → b ≡ false
+    no true e = absurd (e refl)
+    no false e = refl
+
+module _ {t table rows : List ℕ} {at n : ℕ} (g : GivenSharer t table rows at n) where
+  holds : Holds table (g .rs)
+  holds = sound-holds (g .known .sig) table (g .rs) (g .is-sound)
+
+  pub sound-long : table-length ≤ length table
+  sound-long = holds .long
+
+  passed : (r : Rule) → In r (g .rs) → Passed (g .known .sig) (r .pattern)
+  passed = sound-table (g .known .sig) (g .known .signed) table (g .rs) (g .is-sound) .passed
+
+  -- i rules are passed; the next stands at this index, and the list of its rows behind the word at j
+  pub record Mid (place j i : ℕ) : Type 0 where
+    pub before : List Rule
+    pub after : List Rule
+    pub walked : Walked (g .rs) before after i place
+    pub code-is : drop j rows ≡ lists-for (g .known .sig) (patterns after) ++ g .rest
+    pub none : (s : Rule) → In s before → SharesBooking (g .known .sig) (g .ws) (s .pattern) → ⊥
+
+  pub start : Mid 1 0 0
+  start = record { before = []; after = g .rs; walked = walk-start (g .rs); code-is = g .code-is; none = λ s i. no-in i }
+
+  module _ {place j i : ℕ} (l : Mid place j i) where
+    pub finished : getD table 0 0 ≤ i → any (λ s. shares (g .known .sig) (g .ws) (s .pattern)) (g .rs) ≡ false
+    finished e =
+        let q = walk-end (l .walked) (omega (arith, e, count-is holds)) in
+        none-any (λ s. shares (g .known .sig) (g .ws) (s .pattern)) (g .rs) (λ s k x. l .none s (subst (In s) (q .1) k) (shares-exists (g .known .sig) (g .known .signed) (g .ws) (s .pattern) x))
+
+    module _ (below : i < getD table 0 0) where
+      abbrev step : Step table (g .rs) (l .before) (l .after) i place
+      step = walk-step (g .rs) (l .before) (l .after) i place holds (l .walked) (omega (arith, below, count-is holds))
+
+      rules-are : g .rs ≡ l .before ++ (step .rule ∷ step .later)
+      rules-are = l .walked .are ∙ ap (λ z. l .before ++ z) (step .here)
+
+      held : In (step .rule) (g .rs)
+      held = subst (In (step .rule)) (sym rules-are) (in-middle (l .before) (step .rule) (step .later))
+
+      pub end-le : place + 3 + getD table (place + 2) 0 ≤ table-length
+      end-le = omega (arith, step .reads .length-is, step .reads .within)
+
+      pub few : i < rule-limit
+      few = omega (arith, below, count-is holds, holds .few)
+
+      rest : List ℕ
+      rest = lists-for (g .known .sig) (patterns (step .later)) ++ g .rest
+
+      words : drop j rows ≡ length (list-for (g .known .sig) (step .rule .pattern)) ∷ (list-for (g .known .sig) (step .rule .pattern) ++ rest)
+      unfolding rest
+      words = l .code-is ∙ ap (λ z. lists-for (g .known .sig) (patterns z) ++ g .rest) (step .here) ∙ ap (λ z. length (list-for (g .known .sig) (step .rule .pattern)) ∷ z) (append-assoc (list-for (g .known .sig) (step .rule .pattern)) (lists-for (g .known .sig) (patterns (step .later))) (g .rest))
+
+      first : (getD rows j 0 ≡ length (list-for (g .known .sig) (step .rule .pattern))) × (j < length rows) × (drop (j + 1) rows ≡ list-for (g .known .sig) (step .rule .pattern) ++ rest)
+      first = word-at rows j (length (list-for (g .known .sig) (step .rule .pattern))) (list-for (g .known .sig) (step .rule .pattern) ++ rest) words
+
+      pub there : j + 1 ≤ length rows
+      there = omega (arith, first .1)
+
+      pub past-le : j + 1 + getD rows j 0 ≤ length rows
+      past-le = omega (arith, first .0, there, length-drop (j + 1) rows, ap length (first .2), length-append (list-for (g .known .sig) (step .rule .pattern)) rest)
+
+      list-is : (ws : List ℕ) (p : Pattern) → read-pattern (g .known .sig) ws ≡ some p → list-for (g .known .sig) ws ≡ list-code (kinds-of (g .known .sig)) 0 (rows-plus (g .known .sig) 0 p)
+      list-is ws p e = ap (λ z. list-code (kinds-of (g .known .sig)) 0 (rows-by (g .known .sig) z)) e
+
+      pub two : TwoPatterns t (from rows at) (from rows (j + 1))
+      two =
+          let q = passed (step .rule) held in
+          record {
+            known = g .known;
+            us = g .ws;
+            ws = step .rule .pattern;
+            p = g .p;
+            q = q .pat;
+            words-p = pattern-words (g .known .sig) (g .ws) (g .p) (g .read);
+            words-q = pattern-words (g .known .sig) (step .rule .pattern) (q .pat) (q .read);
+            restX = g .rest′;
+            restY = rest;
+            codeX = g .last ∙ ap (λ z. z ++ g .rest′) (list-is (g .ws) (g .p) (g .read));
+            codeY = from-is rows (j + 1) ∙ first .2 ∙ ap (λ z. z ++ rest) (list-is (step .rule .pattern) (q .pat) (q .read));
+          }
+
+      -- in a turn the slice is as it was
+      module _ (k : ℕ) (o now o′ : List ℕ) (now-is : now ≡ o) (gave : (q : TwoPatterns t (from rows at) (from rows (j + 1))) → Shown (Shared (q .known .sig) (q .p) (q .q)) (λ s. s .words) k now o′) where
+        shown : Shown (SharesBooking (g .known .sig) (g .ws) (step .rule .pattern)) (λ s. s .words) k o o′
+        unfolding two
+        shown = laws .words-shown (g .known .sig) (g .known .signed) (g .ws) (step .rule .pattern) (two .p) (two .q) (two .words-p) (two .words-q) k o o′ (subst (λ z. Shown (Shared (g .known .sig) (two .p) (two .q)) (λ s. s .words) k z o′) now-is (gave two))
+
+        pub hit : 0 < k → SharerOf (g .known .sig) (g .rs) (g .ws) o (record { rule = getD table place 0; length = k }) o′
+        hit h =
+            let (s, e, w) = shown .one-shared (omega (arith, h)) in
+            let x : Entered = record { number = 12; sharer = getD table place 0; shown = k } in
+            let there : Shows (g .known .sig) (g .rs) (g .ws) o x o′ = record {
+              rule = step .rule;
+              held = held;
+              named = step .reads .number-is;
+              lowest = λ r i b. l .none r (below-before (l .before) (step .rule) (step .later) (subst (Rises 0) rules-are (holds .rises)) r (subst (In r) rules-are i) b);
+              booking = s .words;
+              binds = s .binds-us;
+              binds′ = s .binds-ws;
+              taken = s .taken-us;
+              taken′ = s .taken-ws;
+              length-is = e;
+              witness-is = w ∙ ap (λ z. s .words ++ drop z o) e;
+            } in
+            record {
+              none-shares = λ z. absurd (omega (arith, z, h));
+              one-shares = λ z. (in-any (λ q. shares (g .known .sig) (g .ws) (q .pattern)) (g .rs) (step .rule) held (exists-shares (g .known .sig) (g .known .signed) (g .ws) (step .rule .pattern) s), there);
+            }
+
+        pub same : k ≤ 0 → o′ ≡ o
+        same h = shown .none-shared (omega (arith, h)) .1
+
+        pub past : k ≤ 0 → Mid (place + 3 + getD table (place + 2) 0) (j + 1 + getD rows j 0) (i + 1)
+        unfolding rest
+        past h = record {
+          before = l .before ++ (step .rule ∷ []);
+          after = step .later;
+          walked = step .next;
+          code-is = sym (drop-drop (getD rows j 0) (j + 1) rows) ∙ ap (drop (getD rows j 0)) (first .2) ∙ drop-at (list-for (g .known .sig) (step .rule .pattern)) rest (getD rows j 0) (sym (first .0));
+          none = λ s q. in-last (l .before) (step .rule) s q (λ r. SharesBooking (g .known .sig) (g .ws) (r .pattern) → ⊥) (shown .none-shared (omega (arith, h)) .0) (l .none);
+        }
+
+    pub at-end : (o : List ℕ) (o′ : List ℕ) → o′ ≡ o → getD table 0 0 ≤ i → SharerOf (g .known .sig) (g .rs) (g .ws) o (record { rule = 0; length = 0 }) o′
+    at-end o o′ e h = record { none-shares = λ z. (finished h, refl, e); one-shares = λ z. absurd (omega (arith, z)) }

@@ -1,0 +1,2 @@
+// The first rule of a table that shares a booking with a pattern.
+pub mod first;
