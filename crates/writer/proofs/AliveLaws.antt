@@ -1,0 +1,63 @@
+-- Sets of rows.
+use mathlib.Core.Path.{_≡_, refl, sym, ap, _∙_}
+use mathlib.Core.List.{List}
+use mathlib.Core.Bool.{Bool, true, false, cond}
+use Prim.Native.Nat.{ℕ, _+_, _*_, _/_, _%_, _≤_, _<_}
+use native.Mathlib.Omega.{arith}
+use lib.Dec.{eqb}
+use lib.ListN.{length, getD, set}
+use lib.Seq.{getD-set-same, getD-set-other}
+use Rattle.signature.specs.Set.{bit, bit-if}
+use Rattle.signature.proofs.Tests.{eqb-eq, eqb-ne, eqb-no, eqb-self}
+use Rattle.writer.specs.Alive.{member, row-limit}
+use Rattle.writer.specs.State.{one-if}
+
+pub member-is : (s : List ℕ) (r : ℕ) → eqb (bit (getD s (r / 64) 0) (r % 64)) 1 ≡ member s r
+unfolding member
+member-is s r = refl
+
+one-is : (b : Bool) → eqb (one-if b) 1 ≡ b
+one-is true = refl
+one-is false = refl
+
+-- a word of the set is replaced by one that has the bit of row r as b says, and the others as they were
+put-word : (s : List ℕ) (r q : ℕ) (b : Bool) (w : ℕ) → r / 64 < length s → ((j : ℕ) → bit w j ≡ bit-if (eqb j (r % 64)) (one-if b) (bit (getD s (r / 64) 0) j)) → member (set s (r / 64) w) q ≡ cond (eqb q r) b (member s q)
+put-word s r q b w l h = sym (member-is (set s (r / 64) w) q) ∙ go (eqb q r) refl
+  where
+    same : (z : Bool) → eqb (q / 64) (r / 64) ≡ z → ¬ (q ≡ r) → eqb (bit (getD (set s (r / 64) w) (q / 64) 0) (q % 64)) 1 ≡ member s q
+    same true e n =
+        let i : q / 64 ≡ r / 64 = eqb-eq (q / 64) (r / 64) e in
+        let m : ¬ (q % 64 ≡ r % 64) = λ z. n (omega (arith, i, z)) in
+        rw (i, getD-set-same s (r / 64) w 0 l, h (q % 64), eqb-no (q % 64) (r % 64) m) (rw (← i) (member-is s q))
+    same false e n = rw (getD-set-other s (r / 64) (q / 64) w 0 (eqb-ne (q / 64) (r / 64) e)) (member-is s q)
+
+    go : (z : Bool) → eqb q r ≡ z → eqb (bit (getD (set s (r / 64) w) (q / 64) 0) (q % 64)) 1 ≡ cond z b (member s q)
+    go true e =
+        let i : q ≡ r = eqb-eq q r e in
+        rw (i, getD-set-same s (r / 64) w 0 l, h (r % 64), eqb-self (r % 64)) (one-is b)
+    go false e = same (eqb (q / 64) (r / 64)) refl (eqb-ne q r e)
+
+pub put-in : (s : List ℕ) (r q : ℕ) (b : Bool) (w : ℕ) → length s ≡ 4 → r < row-limit → b ≡ true → ((j : ℕ) → bit w j ≡ bit-if (eqb j (r % 64)) 1 (bit (getD s (r / 64) 0) j)) → member (set s (r / 64) w) q ≡ cond (eqb q r) b (member s q)
+put-in s r q b w l m e h = put-word s r q b w (omega arith) (λ j. h j ∙ ap (λ (z : Bool). bit-if (eqb j (r % 64)) (one-if z) (bit (getD s (r / 64) 0) j)) (sym e))
+
+pub put-out : (s : List ℕ) (r q : ℕ) (b : Bool) (w : ℕ) → length s ≡ 4 → r < row-limit → b ≡ false → ((j : ℕ) → bit w j ≡ bit-if (eqb j (r % 64)) 0 (bit (getD s (r / 64) 0) j)) → member (set s (r / 64) w) q ≡ cond (eqb q r) b (member s q)
+put-out s r q b w l m e h = put-word s r q b w (omega arith) (λ j. h j ∙ ap (λ (z : Bool). bit-if (eqb j (r % 64)) (one-if z) (bit (getD s (r / 64) 0) j)) (sym e))
+
+-- no row before r is a member, nor r
+pub below-next : (p : ℕ → Bool) (r : ℕ) → ((q : ℕ) → q < r → p q ≡ false) → p r ≡ false → (q : ℕ) → q < r + 1 → p q ≡ false
+below-next p r h e q l = go (eqb q r) refl
+  where
+    go : (b : Bool) → eqb q r ≡ b → p q ≡ false
+    go true z = ap p (eqb-eq q r z) ∙ e
+    go false z = h q (omega (arith, eqb-ne q r z))
+
+-- the rows before r are members as f says
+abbrev pub Filled : (ℕ → Bool) → List ℕ → ℕ → Type 0
+Filled f s r = (q : ℕ) → q < r → member s q ≡ f q
+
+pub filled-next : (f : ℕ → Bool) (s x : List ℕ) (r : ℕ) (b : Bool) → Filled f s r → r < row-limit → b ≡ f r → ((q : ℕ) → q < row-limit → member x q ≡ cond (eqb q r) b (member s q)) → Filled f x (r + 1)
+filled-next f s x r b h l e g q m = g q (omega arith) ∙ go (eqb q r) refl
+  where
+    go : (z : Bool) → eqb q r ≡ z → cond z b (member s q) ≡ f q
+    go true i = e ∙ ap f (sym (eqb-eq q r i))
+    go false i = h q (omega (arith, eqb-ne q r i))

@@ -1,0 +1,108 @@
+-- Where the writer begins: every row alive at its first cell, one column of kind 0.
+use mathlib.Core.Path.{_≡_, refl, sym, ap, ap₂, subst, _∙_}
+use mathlib.Core.List.{List, [], _∷_, _++_, map}
+use mathlib.Core.Option.{Option, none, some}
+use mathlib.Core.Bool.{Bool, true}
+use Prim.Native.Nat.{ℕ, zero, suc, _+_, _-_, _*_, _≤_, _<_}
+use native.Mathlib.Omega.{arith}
+use lib.ListN.{length, getD, drop, length-append, length-drop}
+use Rattle.signature.specs.Decoded.{Known}
+use Rattle.signature.specs.Lists.{All, none-left, also, at, somes, _>>=_}
+use Rattle.signature.specs.Signature.{Signature}
+use Rattle.signature.proofs.LawfulFacts.{kinds-above}
+use Rattle.signature.proofs.KnownFacts.{at-some}
+use Rattle.signature.proofs.ListFacts.{all-at}
+use Rattle.pattern.specs.Limits.{pattern-limit}
+use Rattle.row.specs.Row.{rcons, rnil}
+use Rattle.cell.specs.Coded.{kinds-of, code}
+use Rattle.cell.specs.Cursor.{opensOf}
+use Rattle.tree.specs.Limits.{tree-limit}
+use Rattle.tree.specs.Tree.{Line, Tree, compile}
+use Rattle.writer.specs.Alive.{member}
+use Rattle.writer.specs.Standing.{At}
+use Rattle.writer.specs.State.{row-stride, options, Indexed, LineAt, RowIs, State, cell-of, own-of, stop-of, start-of}
+use Rattle.writer.specs.Write.{RuleRow, line-of, GivenRows, Placed, AllPlaced, Fit, tree-of-rows}
+use Rattle.writer.specs.Writer.{Given, tree-of, Wrote}
+use Rattle.writer.proofs.IndexLaws.{one-column}
+
+module _ {B : Type 0} where
+  options-on : (f : ℕ → Option B) (i n : ℕ) → options f (suc i) n ≡ options (λ r. f (suc r)) i n
+  options-on f i zero = refl
+  options-on f i (suc n) = ap (λ (l : List (Option B)). f (suc i) ∷ l) (options-on f (suc i) n)
+
+module _ {A B : Type 0} where
+  -- the elements of a list, by their numbers
+  listed : (h : A → B) (xs : List A) → somes (options (λ r. at xs r >>= λ a. some (h a)) 0 (length xs)) ≡ map h xs
+  listed h [] = refl
+  listed h (x ∷ xs) = ap (λ (l : List B). h x ∷ l) (ap somes (options-on (λ r. at (x ∷ xs) r >>= λ a. some (h a)) 0 (length xs)) ∙ listed h xs)
+
+module _ {t a held : List ℕ} {n : ℕ} (g : GivenRows t a held n) (tab : List ℕ) (placed : AllPlaced (g .known .sig) t a tab (g .rows)) where
+  -- row r, and its place
+  record RowAt (r : ℕ) : Type 0 where
+    e : RuleRow
+    there : at (g .rows) r ≡ some e
+    fit : Fit (g .known .sig) t e
+    place : Placed (g .known .sig) t a tab r e
+
+  row-at : (r : ℕ) → r < n → RowAt r
+  row-at r l = let (e, h) = at-some (g .rows) r (omega (arith, g .count)) in record { e = e; there = h; fit = all-at (g .fit) r e h; place = placed r e h }
+
+  ends : (r : ℕ) (w : RowAt r) → w .place .start + length (code (kinds-of (g .known .sig)) (w .e .row) 0) ≤ length a
+  ends r w = omega (arith, w .place .within, length-drop (w .place .start) a, ap length (w .place .code-is), length-append (code (kinds-of (g .known .sig)) (w .e .row) 0) (w .place .rest))
+
+  pub indexed : row-stride * n ≤ length tab → Indexed t a tab n
+  indexed l = record {
+    long = l;
+    counts = λ r q h i.
+        let w = row-at r h in
+        let x = w .place .indexed in
+        rw (x .start-is) (x .counted .counts q (omega (arith, x .start-is, x .stop-is)));
+    within = λ r h.
+        let w = row-at r h in
+        let x = w .place .indexed in
+        (omega (arith, x .stop-is, ends r w), omega (arith, x .start-is, x .stop-is, w .fit .short));
+  }
+
+  abbrev pub start-lines : ℕ → Option Line
+  start-lines r = at (g .rows) r >>= λ e. some (line-of e)
+
+  line-at : (vis : List ℕ) (r : ℕ) (w : RowAt r) → LineAt (g .known .sig) t a tab n vis r 0 (0 ∷ []) (line-of (w .e))
+  line-at vis r w =
+      let x = w .place .indexed in
+      let z : w .place .start + 3 * 0 ≡ w .place .start = omega arith in
+      record {
+        here = rw (x .start-is, x .stop-is, x .counted .one, z) (one-column (g .known .sig) t a (w .place .start) (w .e .row) (w .place .rest) (w .fit .good) (w .place .code-is) (w .place .within));
+        rule-is = sym (x .rule-is);
+        plan-is = sym (x .plan-is);
+        binds-are = refl;
+      }
+
+  start-state : (s cur vis : List ℕ) → ((r : ℕ) → r < n → member s r ≡ true) → ((r : ℕ) → r < n → getD cur r 0 ≡ 0) → State (g .known .sig) t a tab n (member s) cur vis (0 ∷ []) start-lines
+  start-state s cur vis m z r l = let w = row-at r l in rw (m r l, z r l, w .there) (line-at vis r w)
+
+  module _ (s cur vis : List ℕ) (long : row-stride * n ≤ length tab) (cursors : n ≤ length cur) (visits : pattern-limit * n ≤ length vis) (m : (r : ℕ) → r < n → member s r ≡ true) (z : (r : ℕ) → r < n → getD cur r 0 ≡ 0) (len : ℕ) (small : len ≤ tree-limit) where
+    pub start-given : Given t a tab n s cur vis 1 0 0 len
+    start-given = record {
+      known = g .known;
+      ok = indexed long;
+      few = g .few;
+      cursors = cursors;
+      visits = visits;
+      low = λ r l. omega (arith, z r l);
+      ks = 0 ∷ [];
+      f = start-lines;
+      kinds = also 0 (kinds-above (g .known .sig) (g .known .decoded .n) (g .known .decoded .kinds-are)) none-left;
+      state = start-state s cur vis m z;
+      columns = refl;
+      ncols-fit = omega arith;
+      visits-fit = omega arith;
+      links-fit = omega arith;
+    }
+
+    pub start-tree : (dft fuel : ℕ) → tree-of start-given dft fuel ≡ tree-of-rows g dft fuel
+    unfolding start-given
+    start-tree dft fuel = ap (λ (ls : List Line). compile dft fuel (g .known .sig) (0 ∷ []) ls 0) (ap (λ (k : ℕ). somes (options start-lines 0 k)) (g .count) ∙ listed line-of (g .rows))
+
+    -- what is written for the lines is written for the rows
+    pub started : (u : ℕ) (space ys : List ℕ) → len ≡ length space → ((g2 : Given t a tab n s cur vis 1 0 0 len) (d2 f2 : ℕ) → length space < f2 → Wrote (tree-of g2 d2 f2) 0 u space ys) → (dft fuel : ℕ) → tree-limit < fuel → Wrote (tree-of-rows g dft fuel) 0 u space ys
+    started u space ys e call dft fuel h = subst (λ (T : Tree). Wrote T 0 u space ys) (start-tree dft fuel) (call start-given dft fuel (omega arith))

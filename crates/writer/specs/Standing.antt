@@ -1,0 +1,50 @@
+-- A row of cells on a path: the columns that are left of it.
+use mathlib.Core.Path.{_≡_}
+use mathlib.Core.List.{List, [], _∷_, _++_}
+use mathlib.Core.Bool.{Bool, true, not}
+use Prim.Native.Nat.{ℕ, _+_, _≤_, _<_}
+use lib.Dec.{eqb, ltb}
+use lib.ListN.{length, drop}
+use Rattle.signature.specs.Lists.{memb, first, _or-else_}
+use Rattle.signature.specs.Signature.{Signature, heads, arguments}
+use Rattle.row.specs.Row.{Row, Rows, named, free, rnil, rcons, open-rows}
+use Rattle.cell.specs.Cell.{wordss}
+use Rattle.cell.specs.Coded.{Known, kinds-of, cellss}
+use Rattle.cell.specs.Mask.{Within, mask}
+use Rattle.tree.specs.Tree.{rappend}
+use Rattle.writer.specs.Variables.{Once}
+
+-- each of these is one of those
+abbrev pub Among : List ℕ → List ℕ → Type 0
+Among cs ds = (c : ℕ) → memb c cs ≡ true → memb c ds ≡ true
+
+-- a cell's test: it names a constructor, or excludes one of its kind
+abbrev pub refined-cell : Signature → ℕ → ℕ → ℕ → Bool
+refined-cell sig k tag allowed = ltb tag 256 or-else not (eqb allowed (mask (first (heads sig k)) (heads sig k)))
+
+module _ (sig : Signature) (t : List ℕ) where
+  -- a row of kind k whose constructors are of the kinds of their places
+  abbrev mutual
+    pub Good : Row → ℕ → Type 0
+    Good (named vs c rs) k = Known (kinds-of sig) t k c × (memb c (heads sig k) ≡ true) × Once vs × Goods rs (arguments sig c)
+    Good (free vs cs) k = (k < 256) × Within (first (heads sig k)) cs × Among cs (heads sig k) × Once vs
+
+    pub Goods : Rows → List ℕ → Type 0
+    Goods rnil [] = Unit {0}
+    Goods rnil (k ∷ ks) = ⊥
+    Goods (rcons r rs) [] = ⊥
+    Goods (rcons r rs) (k ∷ ks) = Good r k × Goods rs ks
+
+  -- columns of kinds ks: wildcards that no cell stands for, then `own` columns whose cells are the words of a from `at` to `stop`
+  pub record At (a : List ℕ) (stop at own : ℕ) (ks : List ℕ) (rs : Rows) : Type 0 where
+    pub virt : List ℕ
+    pub mine : List ℕ
+    pub qs : Rows
+    pub rest : List ℕ
+    pub kinds-are : ks ≡ virt ++ mine
+    pub columns-are : rs ≡ rappend (open-rows sig virt) qs
+    pub good : Goods qs mine
+    pub code-is : drop at a ≡ wordss (cellss (kinds-of sig) qs mine) ++ rest
+    pub within : at ≤ length a
+    pub own-is : own ≡ length mine
+    pub ends : at + length (wordss (cellss (kinds-of sig) qs mine)) ≡ stop

@@ -1,0 +1,129 @@
+-- The writer's state on a path: the rows alive, their cursors, the visits of the cells before them; and the lines that it stands for.
+use mathlib.Core.Path.{_≡_}
+use mathlib.Core.List.{List, [], _∷_}
+use mathlib.Core.Option.{Option, none, some}
+use mathlib.Core.Bool.{Bool, true, false, _&&_, not}
+use Prim.Native.Nat.{ℕ, zero, suc, _+_, _-_, _*_, _≤_, _<_}
+use lib.Dec.{eqb}
+use lib.ListN.{length, getD, set}
+use Rattle.signature.specs.Set.{bit}
+use Rattle.signature.specs.Signature.{Signature}
+use Rattle.pattern.specs.Limits.{pattern-limit}
+use Rattle.cell.specs.Cursor.{opensOf}
+use Rattle.tree.specs.Tree.{Line, inserts}
+use Rattle.writer.specs.Standing.{At}
+use Rattle.writer.specs.Variables.{variables}
+
+-- the options of n numbers from i on
+abbrev pub options : {A : Type 0} → (ℕ → Option A) → ℕ → ℕ → List (Option A)
+options f i zero = []
+options f i (suc n) = f i ∷ options f (suc i) n
+
+-- ---- the table of the rows: where a row's words begin and end, its rule, its plan, and how many columns it has of its own at each cell
+
+abbrev pub row-stride : ℕ
+row-stride = 72
+
+abbrev pub start-of : List ℕ → ℕ → ℕ
+start-of rows r = getD rows (row-stride * r) 0
+
+abbrev pub stop-of : List ℕ → ℕ → ℕ
+stop-of rows r = getD rows (row-stride * r + 1) 0
+
+abbrev pub rule-of : List ℕ → ℕ → ℕ
+rule-of rows r = getD rows (row-stride * r + 2) 0
+
+abbrev pub plan-of : List ℕ → ℕ → ℕ
+plan-of rows r = getD rows (row-stride * r + 3) 0
+
+abbrev pub own-of : List ℕ → ℕ → ℕ → ℕ
+own-of rows r q = getD rows (row-stride * r + 4 + q) 0
+
+-- the word where cell q of row r begins
+abbrev pub cell-of : List ℕ → ℕ → ℕ → ℕ
+cell-of rows r q = start-of rows r + 3 * q
+
+pub record Indexed (t a rows : List ℕ) (n : ℕ) : Type 0 where
+  pub long : row-stride * n ≤ length rows
+  pub counts : (r q : ℕ) → r < n → cell-of rows r q + 3 ≤ stop-of rows r → own-of rows r (q + 1) ≡ own-of rows r q - 1 + opensOf t (getD a (cell-of rows r q) 0)
+  pub within : (r : ℕ) → r < n → (stop-of rows r ≤ length a) × (stop-of rows r ≤ start-of rows r + 3 * pattern-limit)
+
+-- ---- visits: a word for each cell of each row
+
+abbrev pub visit-of : List ℕ → ℕ → ℕ → ℕ
+visit-of vis r q = getD vis (pattern-limit * r + q) 0
+
+-- what the first q cells of row r bind, each at its visit
+abbrev pub bound : List ℕ → List ℕ → List ℕ → ℕ → ℕ → List (ℕ × ℕ)
+bound a rows vis r zero = []
+bound a rows vis r (suc q) = inserts (visit-of vis r q) (variables (getD a (cell-of rows r q + 1) 0)) (bound a rows vis r q)
+
+-- ---- sets of rows, by the test of a row
+
+abbrev pub one-if : Bool → ℕ
+one-if true = 1
+one-if false = 0
+
+-- the rows whose own cell stands in the first of m columns
+abbrev pub real-of : List ℕ → (ℕ → Bool) → List ℕ → ℕ → ℕ → Bool
+real-of rows alive cur m r = alive r && eqb (own-of rows r (getD cur r 0)) m
+
+-- those that allow head number j of the kind, by the cell q of a row
+abbrev pub kept-by : List ℕ → List ℕ → (ℕ → Bool) → (ℕ → Bool) → ℕ → ℕ → ℕ → Bool
+kept-by a rows alive real q j r = alive r && not (real r && eqb (bit (getD a (cell-of rows r q + 2) 0) j) 0)
+
+-- before the cursors are raised, and after
+abbrev pub keep-of : List ℕ → List ℕ → (ℕ → Bool) → (ℕ → Bool) → List ℕ → ℕ → ℕ → Bool
+keep-of a rows alive real cur j r = kept-by a rows alive real (getD cur r 0) j r
+
+abbrev pub kept-of : List ℕ → List ℕ → (ℕ → Bool) → (ℕ → Bool) → List ℕ → ℕ → ℕ → Bool
+kept-of a rows alive real cur j r = kept-by a rows alive real (getD cur r 0 - 1) j r
+
+-- cursors and visits after visit v of the real rows
+pub record Raised (n : ℕ) (real : ℕ → Bool) (v : ℕ) (cur vis cur′ vis′ : List ℕ) : Type 0 where
+  pub cursor : (r : ℕ) → r < n → getD cur′ r 0 ≡ getD cur r 0 + one-if (real r)
+  pub beyond : (r : ℕ) → n ≤ r → getD cur′ r 0 ≡ getD cur r 0
+  pub visit : (r : ℕ) → r < n → real r ≡ true → visit-of vis′ r (getD cur r 0) ≡ v
+  pub others : (r q : ℕ) → r < n → q < getD cur r 0 → visit-of vis′ r q ≡ visit-of vis r q
+
+-- the cursors back
+pub record Lowered (n : ℕ) (real : ℕ → Bool) (cur cur′ : List ℕ) : Type 0 where
+  pub cursor : (r : ℕ) → r < n → getD cur′ r 0 ≡ getD cur r 0 - one-if (real r)
+  pub beyond : (r : ℕ) → n ≤ r → getD cur′ r 0 ≡ getD cur r 0
+
+-- visits of cells before the cursors stay
+abbrev pub Kept : ℕ → List ℕ → List ℕ → List ℕ → Type 0
+Kept n cur vis vis′ = (r q : ℕ) → r < n → q < getD cur r 0 → visit-of vis′ r q ≡ visit-of vis r q
+
+module _ (sig : Signature) (t a rows : List ℕ) (n : ℕ) where
+  -- a line of row r, whose cursor is at its cell q
+  pub record LineAt (vis : List ℕ) (r q : ℕ) (ks : List ℕ) (l : Line) : Type 0 where
+    pub here : At sig t a (stop-of rows r) (cell-of rows r q) (own-of rows r q) ks (l .cells)
+    pub rule-is : l .rule ≡ rule-of rows r
+    pub plan-is : l .plan ≡ plan-of rows r
+    pub binds-are : l .binds ≡ bound a rows vis r q
+
+  abbrev pub RowIs : Bool → Option Line → List ℕ → ℕ → ℕ → List ℕ → Type 0
+  RowIs true (some l) vis r q ks = LineAt vis r q ks l
+  RowIs true none vis r q ks = ⊥
+  RowIs false (some l) vis r q ks = ⊥
+  RowIs false none vis r q ks = Unit {0}
+
+  -- the lines f are those that stand at the cursors
+  abbrev pub State : (ℕ → Bool) → List ℕ → List ℕ → List ℕ → (ℕ → Option Line) → Type 0
+  State alive cur vis ks f = (r : ℕ) → r < n → RowIs (alive r) (f r) vis r (getD cur r 0) ks
+
+-- how many columns are row r's own at its cell q, 0 where it is not alive
+abbrev pub own-if : List ℕ → Bool → ℕ → ℕ → ℕ
+own-if rows true r q = own-of rows r q
+own-if rows false r q = 0
+
+-- one row past its cell, where it is in the set
+abbrev pub Lifted : Bool → ℕ → ℕ → List ℕ → List ℕ → List ℕ → List ℕ → Type 0
+Lifted true v r cur vis cur′ vis′ = (cur′ ≡ set cur r (getD cur r 0 + 1)) × (vis′ ≡ set vis (pattern-limit * r + getD cur r 0) v)
+Lifted false v r cur vis cur′ vis′ = (cur′ ≡ cur) × (vis′ ≡ vis)
+
+-- and back
+abbrev pub Dropped : Bool → ℕ → List ℕ → List ℕ → Type 0
+Dropped true r cur cur′ = cur′ ≡ set cur r (getD cur r 0 - 1)
+Dropped false r cur cur′ = cur′ ≡ cur

@@ -1,0 +1,52 @@
+// A set of the rows of a table, 64 to a word.
+use signature::set::has as has_bit;
+use signature::set::with;
+use signature::set::without;
+ghost use mathlib.Core.Path.{_≡_};
+ghost use mathlib.Core.Bool.{cond};
+ghost use Prim.Native.Nat.{ℕ, _≤_, _<_};
+ghost use lib.Dec.{eqb};
+ghost use lib.ListN.{length};
+ghost use Rattle.writer.specs.Alive.{member, row-limit, FirstAlive};
+
+pub const SET_WORDS: usize = 4;
+
+const WORD: usize = 64;
+
+pub fn has(s: [u64; SET_WORDS], r: usize) -> bool
+    requires { ⌜ r < row-limit ⌝ }
+    ensures { λ b. ⌜ b ≡ member s r ⌝ }
+{
+    has_bit(s[r / WORD], (r % WORD) as u32)
+}
+
+// The set with row r in it exactly where b says so.
+pub fn put(s: [u64; SET_WORDS], r: usize, b: bool) -> [u64; SET_WORDS]
+    requires { ⌜ r < row-limit ⌝ }
+    ensures { λ x. ⌜ ((q : ℕ) → q < row-limit → member x q ≡ cond (eqb q r) b (member s q)) ⌝ }
+{
+    let mut x = s;
+    let w = s[r / WORD];
+    let i = (r % WORD) as u32;
+    if b {
+        x[r / WORD] = with(w, i);
+        return x;
+    }
+    x[r / WORD] = without(w, i);
+    x
+}
+
+// The first row of n that is in the set, or n.
+pub fn first_alive(s: [u64; SET_WORDS], n: usize) -> usize
+    requires { ⌜ n ≤ row-limit ⌝ }
+    ensures { λ r. ⌜ FirstAlive s n r ⌝ }
+{
+    let mut r = 0;
+    while r < n {
+        if has(s, r) {
+            return r;
+        }
+        r += 1;
+    }
+    n
+}

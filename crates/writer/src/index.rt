@@ -1,0 +1,63 @@
+// The table of rows is filled.
+use crate::rows::OWN;
+use crate::rows::ROW;
+use cell::cell::opens;
+ghost use mathlib.Core.Path.{_≡_};
+ghost use Prim.Native.Nat.{ℕ, _+_, _*_, _≤_, _<_};
+ghost use lib.ListN.{length};
+ghost use Rattle.writer.specs.State.{row-stride};
+ghost use Rattle.writer.specs.Write.{GivenRow, RowCounted, RowIndexed, Before, GivenRows, AllPlaced};
+ghost use Rattle.writer.specs.Writer.{word-limit};
+
+const CELL: usize = 3;
+
+// How many columns are row r's own at each of its cells.
+fn count_columns(t: &[u16], a: &[u64], start: usize, len: usize, r: usize, rows: &mut [u16])
+    requires { ⌜ GivenRow (now t) (now a) start len × (row-stride * r + row-stride ≤ length (now rows)) ⌝ }
+    ensures { λ _. ⌜ RowCounted (now (t .entry)) (now (a .entry)) (now (rows .exit)) r start len × Before (row-stride * r + 4) (now (rows .entry)) (now (rows .exit)) ⌝ }
+{
+    let mut left = 1;
+    let mut i = 0;
+    while left > 0 {
+        rows[ROW * r + OWN + i] = left as u16;
+        left = left - 1 + opens(t, a[start + CELL * i]);
+        i += 1;
+    }
+    rows[ROW * r + OWN + i] = 0;
+}
+
+// Row r of the table: of so many words from a word on.
+fn index_row(
+    t: &[u16],
+    a: &[u64],
+    start: usize,
+    len: usize,
+    rule: u16,
+    plan: u16,
+    r: usize,
+    rows: &mut [u16],
+)
+    requires { ⌜ GivenRow (now t) (now a) start len × (row-stride * r + row-stride ≤ length (now rows)) × (start + len < word-limit) ⌝ }
+    ensures { λ _. ⌜ RowIndexed (now (t .entry)) (now (a .entry)) (now (rows .exit)) r start len rule plan × Before (row-stride * r) (now (rows .entry)) (now (rows .exit)) ⌝ }
+{
+    rows[ROW * r] = start as u16;
+    rows[ROW * r + 1] = (start + len) as u16;
+    rows[ROW * r + 2] = rule;
+    rows[ROW * r + 3] = plan;
+    count_columns(t, a, start, len, r, rows);
+}
+
+// The table of n rows.
+pub fn index(t: &[u16], a: &[u64], held: &[u16], n: usize, rows: &mut [u16])
+    requires { ⌜ GivenRows (now t) (now a) (now held) n × (row-stride * n ≤ length (now rows)) ⌝ }
+    ensures { λ _. ⌜ ((g : GivenRows (now (t .entry)) (now (a .entry)) (now (held .entry)) n) → AllPlaced (g .known .sig) (now (t .entry)) (now (a .entry)) (now (rows .exit)) (g .rows)) ⌝ }
+{
+    let mut at = 0;
+    let mut r = 0;
+    while r < n {
+        let len = a[at] as usize;
+        index_row(t, a, at + 1, len, held[2 * r], held[2 * r + 1], r, rows);
+        at = at + 1 + len;
+        r += 1;
+    }
+}

@@ -1,0 +1,100 @@
+// The tree of the rows of a set of rules.
+use crate::alive::SET_WORDS;
+use crate::alive::put;
+use crate::index::index;
+use crate::node::node;
+ghost use mathlib.Core.Path.{_≡_};
+ghost use mathlib.Core.Bool.{true};
+ghost use mathlib.Core.List.{_++_};
+ghost use Prim.Native.Nat.{ℕ, _*_, _≤_, _<_, min};
+ghost use lib.ListN.{length, getD, take, drop};
+ghost use Rattle.pattern.specs.Limits.{pattern-limit};
+ghost use Rattle.tree.specs.Limits.{tree-limit};
+ghost use Rattle.writer.specs.Alive.{member, row-limit};
+ghost use Rattle.writer.specs.State.{row-stride};
+ghost use Rattle.writer.specs.Write.{GivenRows, tree-of-rows, answer, space-after};
+
+// The most words of a tree.
+pub const TREE_LIMIT: usize = 32768;
+
+pub enum Written {
+    Done(usize),
+    TooLarge,
+}
+
+// The set of the first n rows.
+fn all_rows(n: usize) -> [u64; SET_WORDS]
+    requires { ⌜ n ≤ row-limit ⌝ }
+    ensures { λ s. ⌜ ((r : ℕ) → r < n → member s r ≡ true) ⌝ }
+{
+    let mut s = [0; SET_WORDS];
+    let mut r = 0;
+    while r < n {
+        let x = put(s, r, true);
+        s = x;
+        r += 1;
+    }
+    s
+}
+
+// The cursors of the first n rows at their first cells.
+fn clear(cur: &mut [u8], n: usize)
+    requires { ⌜ n ≤ length (now cur) ⌝ }
+    ensures { λ _. ⌜ ((r : ℕ) → r < n → getD (now (cur .exit)) r 0 ≡ 0) ⌝ }
+{
+    let mut r = 0;
+    while r < n {
+        cur[r] = 0;
+        r += 1;
+    }
+}
+
+// The first n words.
+fn copy(words: &[u16], n: usize, out: &mut [u16])
+    requires { ⌜ (n ≤ length (now words)) × (n ≤ length (now out)) ⌝ }
+    ensures { λ _. ⌜ now (out .exit) ≡ take n (now (words .entry)) ++ drop n (now (out .entry)) ⌝ }
+{
+    let mut i = 0;
+    while i < n {
+        out[i] = words[i];
+        i += 1;
+    }
+}
+
+// The lesser of a length and the most words of a tree.
+fn limit(n: usize) -> usize
+    ensures { λ m. ⌜ m ≡ min n tree-limit ⌝ }
+{
+    if n < TREE_LIMIT {
+        return n;
+    }
+    TREE_LIMIT
+}
+
+// Writes the tree of n rows first in out, or nothing where it is too large. The words of the rows stand one row behind the other in a, each row's behind their number,
+// and their rules and plans in held. The other slices are working space.
+pub fn write(
+    t: &[u16],
+    a: &[u64],
+    held: &[u16],
+    n: usize,
+    rows: &mut [u16],
+    cur: &mut [u8],
+    vis: &mut [u16],
+    tree: &mut [u16],
+    out: &mut [u16],
+) -> Written
+    requires { ⌜ GivenRows (now t) (now a) (now held) n × (row-stride * n ≤ length (now rows)) × (n ≤ length (now cur)) × (pattern-limit * n ≤ length (now vis)) × (tree-limit ≤ length (now tree)) ⌝ }
+    ensures { λ w. ⌜ ((g : GivenRows (now (t .entry)) (now (a .entry)) (now (held .entry)) n) (dft fuel : ℕ) → tree-limit < fuel → (w ≡ answer (tree-of-rows g dft fuel) (now (out .entry))) × (now (out .exit) ≡ space-after (tree-of-rows g dft fuel) (now (out .entry)))) ⌝ }
+{
+    index(t, a, held, n, rows);
+    clear(cur, n);
+    let s = all_rows(n);
+    let most = limit(out.len());
+    let u = node(t, a, rows, n, s, cur, vis, 1, 0, 0, &mut tree[..most]);
+    if u > most {
+        return Written::TooLarge;
+    }
+    copy(tree, u, out);
+    Written::Done(u)
+}
