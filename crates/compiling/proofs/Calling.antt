@@ -1,9 +1,9 @@
 -- The call compile, refusal by refusal.
-use mathlib.Core.Path.{_≡_, refl, sym, ap, subst, _∙_}
+use mathlib.Core.Path.{_≡_, sym, ap, subst, _∙_}
 use mathlib.Core.List.{List}
 use Prim.Native.Nat.{ℕ}
 use Rattle.tree.specs.Limits.{default-plan}
-use Rattle.table.specs.Calls.{Compile, start, refused, begin, long-table, compile-number, compile-length, compile-space}
+use Rattle.table.specs.Calls.{Compile, start, refused, long-table, compile-number, compile-length, compile-space}
 use Rattle.table.specs.Matrix.{tree-words}
 use Rattle.opening.specs.Open.{OpenedAs, InForce}
 use Rattle.opening.specs.declared.open.Opened.{Opened}

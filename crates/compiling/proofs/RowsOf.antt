@@ -3,7 +3,7 @@ use mathlib.Core.Path.{_≡_, refl, sym, ap, ap₂, subst, _∙_}
 use mathlib.Core.List.{List, [], _∷_, _++_, map, map-append}
 use mathlib.Core.Option.{Option, none, some}
 use mathlib.Core.Bool.{Bool, true, false, _&&_}
-use Prim.Native.Nat.{ℕ, suc, _+_, _*_, _≤_, _<_}
+use Prim.Native.Nat.{ℕ, _+_, _*_, _≤_}
 use native.Mathlib.Omega.{arith}
 use lib.Dec.{eqb, leb}
 use lib.ListN.{length, length-append, length-map}
@@ -16,7 +16,7 @@ use Rattle.signature.proofs.Tests.{eqb-eq, true≢false}
 use Rattle.pattern.specs.Limits.{pattern-limit}
 use Rattle.pattern.specs.Pattern.{Pattern, pattern-code}
 use Rattle.pattern.specs.Read.{read-pattern}
-use Rattle.pattern.specs.Weight.{weight, weight-by}
+use Rattle.pattern.specs.Weight.{weight-by}
 use Rattle.pattern.proofs.PatternBack.{pattern-words}
 use Rattle.row.specs.Admitted.{refusal-of-pattern, Passed}
 use Rattle.row.specs.Row.{Row, rcons, rnil, rows-plus}

@@ -1,15 +1,13 @@
 -- The tree of a sound table's rules.
-use mathlib.Core.Path.{_≡_, refl, sym, ap, ap₂, subst, _∙_}
+use mathlib.Core.Path.{_≡_, refl, sym, ap, ap₂, _∙_}
 use mathlib.Core.List.{List, [], _∷_, _++_, map}
 use mathlib.Core.Bool.{Bool, true, false, not, cond, _&&_}
-use Prim.Native.Nat.{ℕ, _+_, _*_, _≤_, _<_}
+use Prim.Native.Nat.{ℕ, _*_, _≤_, _<_}
 use native.Mathlib.Omega.{arith}
 use lib.Dec.{leb, ltb}
-use lib.ListN.{length, take, drop, take-append-drop}
-use Rattle.signature.specs.Decoded.{Known}
+use lib.ListN.{length, drop, take-append-drop}
 use Rattle.signature.specs.Lists.{_or-else_}
-use Rattle.signature.proofs.Tests.{leb-yes, leb-no, le-of, lt-of-not, ltb-yes, ltb-no}
-use Rattle.pattern.specs.Limits.{pattern-limit}
+use Rattle.signature.proofs.Tests.{le-of, lt-of-not, ltb-yes, ltb-no}
 use Rattle.tree.specs.Limits.{tree-limit, default-plan}
 use Rattle.tree.specs.Tree.{Line, Tree, compile}
 use Rattle.tree.specs.Words.{words, layout}
@@ -17,11 +15,10 @@ use Rattle.tree.proofs.RunFacts.{length-layout}
 use Rattle.table.specs.Calls.{too-large}
 use Rattle.table.specs.Limits.{visit-bound, weight-limit}
 use Rattle.table.specs.Matrix.{tree, tree-words}
-use Rattle.table.specs.Rule.{Rule, total-weight}
+use Rattle.table.specs.Rule.{total-weight}
 use Rattle.store.specs.Laid.{Holds}
 use Rattle.writer.specs.Alive.{row-limit}
-use Rattle.writer.specs.State.{row-stride}
-use Rattle.writer.specs.Write.{GivenRows, rows-code, rules-of, fits, answer, space-after, tree-of-rows, line-of}
+use Rattle.writer.specs.Write.{GivenRows, rows-code, fits, answer, space-after, tree-of-rows, line-of}
 use Rattle.writer.specs.declared.write.Written.{Written}
 use Rattle.writer.specs.declared.write.Written.the-variants.{Done, TooLarge}
 use Rattle.loading.specs.Load.{tests}

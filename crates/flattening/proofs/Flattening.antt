@@ -1,14 +1,12 @@
 -- The rows of rule after rule.
 use mathlib.Core.Path.{_≡_, refl, sym, ap, ap₂, subst, _∙_}
-use mathlib.Core.List.{List, [], _∷_, _++_, append-assoc, append-nil}
-use Prim.Native.Nat.{ℕ, zero, suc, _+_, _*_, _-_, _<_, _≤_}
+use mathlib.Core.List.{List, [], _∷_, _++_, append-assoc}
+use Prim.Native.Nat.{ℕ, _+_, _*_, _-_, _<_, _≤_}
 use native.Mathlib.Omega.{arith}
-use lib.ListN.{length, take, drop, getD, length-append, length-drop}
+use lib.ListN.{length, take, drop, getD, length-append}
 use lib.Seq.{drop-at, drop-drop}
 use Rattle.cell.specs.Coded.{kinds-of, code}
-use Rattle.cell.specs.RowList.{each-with}
 use Rattle.rowlist.specs.Grow.{words-list}
-use Rattle.builder.specs.Arguments.{row-words}
 use Rattle.builder.proofs.NextLists.{words-filled}
 use Rattle.writer.specs.Write.{rows-code, rules-of}
 use Rattle.table.specs.Limits.{table-length, rule-limit}

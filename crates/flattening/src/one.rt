@@ -8,7 +8,7 @@ ghost use lib.ListN.{length, take};
 ghost use Rattle.flattening.specs.Flat.{doubles, GivenMove, Moved};
 
 // Number and plan for each of m rows, from row r on.
-pub fn hold(held: &mut [u16], r: usize, m: usize, number: u16, plan: u16)
+fn hold(held: &mut [u16], r: usize, m: usize, number: u16, plan: u16)
     requires { ⌜ 2 * (r + m) ≤ length (now held) ⌝ }
     ensures { λ _. ⌜ take (2 * (r + m)) (now (held .exit)) ≡ take (2 * r) (now (held .entry)) ++ doubles number plan m ⌝ }
 {

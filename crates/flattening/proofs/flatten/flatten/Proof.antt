@@ -1,9 +1,8 @@
 -- `flatten::flatten` meets its contract. Assumes nothing.
-use mathlib.Core.Path.{_≡_, refl, sym, _∙_}
+use mathlib.Core.Path.{_≡_, refl, _∙_}
 use Prim.Native.Nat.{_-_}
 use native.Mathlib.Omega.{arith}
 use lib.ListN.{length}
-use borrow.Author.Needs.{needs}
 use Rattle.flattening.specs.Flat.{GivenFlat}
 use Rattle.flattening.proofs.Flattening.{long, Mid, start, done, end-le, few, given, word, list-le, rows-le, used-le, again}
 use Rattle.flattening.proofs.flatten.flatten.Statement.{statement}
