@@ -27,7 +27,7 @@ use Rattle.row.proofs.Places.{all-each, plus-places}
 use Rattle.row.proofs.RowCount.{counts, occurs, occurs-all, plus-once}
 use Rattle.cell.specs.Coded.{kinds-of, code, Typed, Typeds}
 use Rattle.cell.specs.RowList.{Every}
-use Rattle.rowlist.proofs.Rooms.{code-places}
+use Rattle.builder.proofs.Rooms.{code-places}
 use Rattle.rowlist.proofs.Typing.{typed-rows}
 use Rattle.path.specs.Standing.{Good, Goods, Among}
 use Rattle.path.specs.Variables.{Once}

@@ -1,0 +1,3 @@
+pub mod RowsOf
+pub mod Treed
+pub mod Calling

@@ -1,0 +1,140 @@
+-- The tree of a sound table's rules.
+use mathlib.Core.Path.{_≡_, refl, sym, ap, ap₂, _∙_}
+use mathlib.Core.List.{List, [], _∷_, _++_, map}
+use mathlib.Core.Bool.{Bool, true, false, not, cond, _&&_}
+use Prim.Native.Nat.{ℕ, _*_, _≤_, _<_}
+use native.Mathlib.Omega.{arith}
+use lib.Dec.{leb, ltb}
+use lib.ListN.{length, drop, take-append-drop}
+use Rattle.signature.specs.Lists.{_or-else_}
+use Rattle.signature.proofs.Tests.{le-of, lt-of-not, ltb-yes, ltb-no}
+use Rattle.tree.specs.Limits.{tree-limit, default-plan}
+use Rattle.tree.specs.Tree.{Line, Tree, compile}
+use Rattle.tree.specs.Words.{words, layout}
+use Rattle.tree.proofs.RunFacts.{length-layout}
+use Rattle.table.specs.Calls.{too-large}
+use Rattle.table.specs.Limits.{visit-bound, weight-limit}
+use Rattle.table.specs.Matrix.{tree, tree-words}
+use Rattle.table.specs.Rule.{total-weight}
+use Rattle.store.specs.Laid.{Holds}
+use Rattle.writer.specs.Alive.{row-limit}
+use Rattle.writer.specs.Write.{GivenRows, rows-code, fits, answer, space-after, tree-of-rows, line-of}
+use Rattle.writer.specs.declared.write.Written.{Written}
+use Rattle.writer.specs.declared.write.Written.the-variants.{Done, TooLarge}
+use Rattle.loading.specs.Load.{tests}
+use Rattle.loading.proofs.Loads.{sound-holds}
+use Rattle.loading.proofs.Tested.{tests-light}
+use Rattle.flattening.specs.Flat.{rows-all, GivenFlat, Flat}
+use Rattle.compiling.specs.Compile.{InTable, TreeIn, words-room}
+use Rattle.compiling.proofs.RowsOf.{lines-are, few-rows, words-less, rows-are-fit}
+
+-- ---- the answer of the writer as the call's
+
+abbrev pub number-by : Written → ℕ
+number-by (Done n) = 0
+number-by TooLarge = 14
+
+abbrev pub length-by : Written → ℕ
+length-by (Done n) = n
+length-by TooLarge = 0
+
+ltb-not : (m n : ℕ) → ltb m n ≡ not (leb n m)
+ltb-not m n = go (leb n m) refl
+  where
+    go : (b : Bool) → leb n m ≡ b → ltb m n ≡ not b
+    go true e = ltb-no m n (le-of n m e)
+    go false e = ltb-yes m n (lt-of-not n m e)
+
+fits-or : (T : Tree) (space : List ℕ) → too-large (layout T 0) space ≡ not (fits T space)
+fits-or T space =
+    ap₂ (λ (x y : Bool). x or-else y) (ltb-not (length space) (length (layout T 0)) ∙ ap (λ (n : ℕ). not (leb n (length space))) (length-layout T 0)) (ltb-not tree-limit (length (layout T 0)) ∙ ap (λ (n : ℕ). not (leb n tree-limit)) (length-layout T 0))
+    ∙ go (leb (words T) (length space)) (leb (words T) tree-limit)
+  where
+    go : (a b : Bool) → (not a or-else not b) ≡ not (a && b)
+    go true b = refl
+    go false b = refl
+
+told : (T : Tree) (space : List ℕ) → TreeIn (layout T 0) space (number-by (answer T space)) (length-by (answer T space)) (space-after T space)
+told T space = record {
+  number-is = number-so (fits T space) ∙ ap (λ (b : Bool). cond {A = ℕ} b 14 0) (sym (fits-or T space));
+  length-is = length-so (fits T space) ∙ ap (λ (b : Bool). cond b 0 (length (layout T 0))) (sym (fits-or T space));
+  space-is = space-so (fits T space) ∙ ap (λ (b : Bool). cond b space (layout T 0 ++ drop (length (layout T 0)) space)) (sym (fits-or T space));
+}
+  where
+    number-so : (b : Bool) → number-by (cond b (Done (words T)) TooLarge) ≡ cond (not b) 14 0
+    number-so true = refl
+    number-so false = refl
+
+    length-so : (b : Bool) → length-by (cond b (Done (words T)) TooLarge) ≡ cond (not b) 0 (length (layout T 0))
+    length-so true = sym (length-layout T 0)
+    length-so false = refl
+
+    space-so : (b : Bool) → cond b (layout T 0 ++ drop (words T) space) space ≡ cond (not b) space (layout T 0 ++ drop (length (layout T 0)) space)
+    space-so true = ap (λ (n : ℕ). layout T 0 ++ drop n space) (sym (length-layout T 0))
+    space-so false = refl
+
+-- by the words of the tree, whatever is known of the writer's answer
+treed : (T : Tree) (ts space : List ℕ) (w : Written) (space′ : List ℕ) → layout T 0 ≡ ts → w ≡ answer T space → space′ ≡ space-after T space → TreeIn ts space (number-by w) (length-by w) space′
+treed T ts space w space′ e f h = rw (f, h, ← e) (told T space)
+
+-- ---- the rows of the rules
+
+module _ {t table lists : List ℕ} (g : InTable t table lists) where
+  holds : Holds table (g .rs)
+  holds = sound-holds (g .known .sig) table (g .rs) (g .is-sound) .0
+
+  good : tests (g .known .sig) (g .rs) ≡ true
+  good = sound-holds (g .known .sig) table (g .rs) (g .is-sound) .1
+
+  light : total-weight (g .known .sig) (g .rs) ≤ weight-limit
+  light = tests-light (g .known .sig) (g .rs) good
+
+  pub few : length (rows-all (g .known .sig) (g .rs)) ≤ row-limit
+  few = omega (arith, few-rows (g .known .sig) (g .rs), light)
+
+  short : length (rows-code (g .known .sig) (rows-all (g .known .sig) (g .rs))) ≤ words-room
+  short = omega (arith, words-less (g .known .sig) (g .rs), g .ready .used-is, g .ready .total-is, g .ready .small, light)
+
+  pub given-flat : (na nh : ℕ) → words-room ≤ na → 2 * row-limit ≤ nh → GivenFlat table lists na nh
+  given-flat na nh x y = record {
+    sig = g .known .sig;
+    rs = g .rs;
+    holds = holds;
+    rest = g .ready .rest;
+    code-is = g .ready .code-is;
+    room = omega (arith, short, x);
+    held-room = omega (arith, few, y);
+  }
+
+  module _ (na nh : ℕ) (x : words-room ≤ na) (y : 2 * row-limit ≤ nh) (n : ℕ) (a held : List ℕ) (gave : (q : GivenFlat table lists na nh) → Flat (q .sig) (q .rs) n a held) where
+    flat : Flat (g .known .sig) (g .rs) n a held
+    unfolding given-flat
+    flat = gave (given-flat na nh x y)
+
+    pub many : n ≤ row-limit
+    many = omega (arith, flat .many, few)
+
+    pub given-rows : GivenRows t a held n
+    given-rows =
+        let C = rows-code (g .known .sig) (rows-all (g .known .sig) (g .rs)) in
+        record {
+          known = g .known;
+          rows = rows-all (g .known .sig) (g .rs);
+          count = flat .many;
+          few = many;
+          rest = drop (length C) a;
+          code-is = sym (take-append-drop (length C) a) ∙ ap (λ (z : List ℕ). z ++ drop (length C) a) (flat .code-is);
+          rest-held = drop (2 * n) held;
+          held-is = sym (take-append-drop (2 * n) held) ∙ ap (λ (z : List ℕ). z ++ drop (2 * n) held) (flat .held-is);
+          fit = rows-are-fit (g .known) (g .rs) good;
+        }
+
+    tree-is : layout (compile default-plan visit-bound (g .known .sig) (0 ∷ []) (map line-of (rows-all (g .known .sig) (g .rs))) 0) 0 ≡ tree-words default-plan (g .known .sig) (g .rs)
+    unfolding tree-words tree
+    tree-is = ap (λ (ls : List Line). layout (compile default-plan visit-bound (g .known .sig) (0 ∷ []) ls 0) 0) (lines-are (g .known .sig) (g .rs))
+
+    pub written : (w : Written) (space space′ : List ℕ) → ((q : GivenRows t a held n) (dft fuel : ℕ) → tree-limit < fuel → (w ≡ answer (tree-of-rows q dft fuel) space) × (space′ ≡ space-after (tree-of-rows q dft fuel) space)) → (v : Written) → w ≡ v → TreeIn (tree-words default-plan (g .known .sig) (g .rs)) space (number-by v) (length-by v) space′
+    unfolding given-rows
+    written w space space′ h v e =
+        let z = h given-rows default-plan visit-bound (omega arith) in
+        treed (compile default-plan visit-bound (g .known .sig) (0 ∷ []) (map line-of (rows-all (g .known .sig) (g .rs))) 0) (tree-words default-plan (g .known .sig) (g .rs)) space v space′ tree-is (sym e ∙ z .0) (z .1)
