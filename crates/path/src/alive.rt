@@ -1,10 +1,11 @@
 // A set of the rows of a table, 64 to a word.
 use signature::set::has as has_bit;
+use signature::set::lowest;
 use signature::set::with;
 use signature::set::without;
 ghost use mathlib.Core.Path.{_≡_};
 ghost use mathlib.Core.Bool.{cond};
-ghost use Prim.Native.Nat.{ℕ, _≤_, _<_};
+ghost use Prim.Native.Nat.{ℕ, _≤_, _<_, min};
 ghost use lib.Dec.{eqb};
 ghost use lib.ListN.{length};
 ghost use Rattle.path.specs.Alive.{member, row-limit, FirstAlive};
@@ -36,17 +37,28 @@ pub fn put(s: [u64; SET_WORDS], r: usize, b: bool) -> [u64; SET_WORDS]
     x
 }
 
+// The lesser of two.
+fn lesser(a: usize, b: usize) -> usize
+    ensures { λ m. ⌜ m ≡ min a b ⌝ }
+{
+    if a < b {
+        return a;
+    }
+    b
+}
+
 // The first row of n that is in the set, or n.
 pub fn first_alive(s: [u64; SET_WORDS], n: usize) -> usize
     requires { ⌜ n ≤ row-limit ⌝ }
     ensures { λ r. ⌜ FirstAlive s n r ⌝ }
 {
-    let mut r = 0;
-    while r < n {
-        if has(s, r) {
-            return r;
+    let mut i = 0;
+    while i < SET_WORDS {
+        let w = s[i];
+        if w > 0 {
+            return lesser(WORD * i + lowest(w) as usize, n);
         }
-        r += 1;
+        i += 1;
     }
     n
 }
