@@ -2,14 +2,16 @@
 use mathlib.Core.Path.{_≡_, refl, sym, ap, _∙_}
 use mathlib.Core.List.{List}
 use mathlib.Core.Bool.{Bool, true, false, cond}
-use Prim.Native.Nat.{ℕ, _+_, _*_, _/_, _%_, _≤_, _<_}
+use Prim.Native.Nat.{ℕ, _+_, _*_, _/_, _%_, _≤_, _<_, min}
 use native.Mathlib.Omega.{arith}
-use lib.Dec.{eqb}
+use borrow.Author.Tests.{ltb-true, ltb-false}
+use lib.Dec.{eqb, ltb}
 use lib.ListN.{length, getD, set}
 use lib.Seq.{getD-set-same, getD-set-other}
-use Rattle.signature.specs.Set.{bit, bit-if}
+use Rattle.signature.specs.Set.{bit, bit-if, Lowest}
+use Rattle.signature.proofs.SetLaws.{bit-zero}
 use Rattle.signature.proofs.Tests.{eqb-eq, eqb-ne, eqb-no, eqb-self}
-use Rattle.path.specs.Alive.{member, row-limit}
+use Rattle.path.specs.Alive.{member, row-limit, FirstAlive}
 use Rattle.path.specs.State.{one-if}
 
 pub member-is : (s : List ℕ) (r : ℕ) → eqb (bit (getD s (r / 64) 0) (r % 64)) 1 ≡ member s r
@@ -43,13 +45,38 @@ put-in s r q b w l m e h = put-word s r q b w (omega arith) (λ j. h j ∙ ap (�
 pub put-out : (s : List ℕ) (r q : ℕ) (b : Bool) (w : ℕ) → length s ≡ 4 → r < row-limit → b ≡ false → ((j : ℕ) → bit w j ≡ bit-if (eqb j (r % 64)) 0 (bit (getD s (r / 64) 0) j)) → member (set s (r / 64) w) q ≡ cond (eqb q r) b (member s q)
 put-out s r q b w l m e h = put-word s r q b w (omega arith) (λ j. h j ∙ ap (λ (z : Bool). bit-if (eqb j (r % 64)) (one-if z) (bit (getD s (r / 64) 0) j)) (sym e))
 
--- no row before r is a member, nor r
-pub below-next : (p : ℕ → Bool) (r : ℕ) → ((q : ℕ) → q < r → p q ≡ false) → p r ≡ false → (q : ℕ) → q < r + 1 → p q ≡ false
-below-next p r h e q l = go (eqb q r) refl
+-- no row of the first i words is a member
+abbrev pub NoneIn : List ℕ → ℕ → Type 0
+NoneIn s i = (q : ℕ) → q < 64 * i → member s q ≡ false
+
+-- a row of word i, by its bit
+of-word : (s : List ℕ) (i q b : ℕ) → q / 64 ≡ i → bit (getD s i 0) (q % 64) ≡ b → member s q ≡ eqb b 1
+of-word s i q b e h = sym (member-is s q) ∙ (rw (e, h))
+
+pub word-none : (s : List ℕ) (i : ℕ) → NoneIn s i → getD s i 0 ≤ 0 → NoneIn s (i + 1)
+word-none s i h l q m = go (ltb q (64 * i)) refl
   where
-    go : (b : Bool) → eqb q r ≡ b → p q ≡ false
-    go true z = ap p (eqb-eq q r z) ∙ e
-    go false z = h q (omega (arith, eqb-ne q r z))
+    go : (b : Bool) → ltb q (64 * i) ≡ b → member s q ≡ false
+    go true e = h q (ltb-true q (64 * i) e)
+    go false e =
+        let z : getD s i 0 ≡ 0 = omega arith in
+        of-word s i q 0 (omega (arith, ltb-false q (64 * i) e)) (ap (λ (w : ℕ). bit w (q % 64)) z ∙ bit-zero (q % 64))
+
+pub word-first : (s : List ℕ) (i b n : ℕ) → NoneIn s i → Lowest (getD s i 0) b → FirstAlive s n (min (64 * i + b) n)
+word-first s i b n h w = record {
+  most = omega arith;
+  before = λ q l. go q (omega arith) (ltb q (64 * i)) refl;
+  there = λ l.
+      let e : min (64 * i + b) n ≡ 64 * i + b = omega arith in
+      let f : (64 * i + b) % 64 ≡ b = omega (arith, w .small) in
+      rw e (of-word s i (64 * i + b) 1 (omega (arith, w .small)) (ap (bit (getD s i 0)) f ∙ w .member));
+}
+  where
+    go : (q : ℕ) → q < 64 * i + b → (z : Bool) → ltb q (64 * i) ≡ z → member s q ≡ false
+    go q l true e = h q (ltb-true q (64 * i) e)
+    go q l false e =
+        let k : 64 * i ≤ q = ltb-false q (64 * i) e in
+        of-word s i q 0 (omega (arith, w .small)) (w .none-below (q % 64) (omega (arith, w .small)))
 
 -- the rows before r are members as f says
 abbrev pub Filled : (ℕ → Bool) → List ℕ → ℕ → Type 0

@@ -1,19 +1,24 @@
 -- A leaf is written.
+use mathlib.Core.Bool.{Bool, true, false}
 use mathlib.Core.Path.{_≡_, refl, sym, ap, ap₂, subst, _∙_}
 use mathlib.Core.List.{List, [], _∷_, _++_, append-nil}
-use Prim.Native.Nat.{ℕ, suc, _+_, _-_, _*_, _/_, _≤_, _<_, min}
+use Prim.Native.Nat.{ℕ, zero, suc, _+_, _-_, _*_, _/_, _≤_, _<_, min, max}
 use native.Mathlib.Nat.{zero-add}
 use native.Mathlib.Omega.{arith}
+use lib.Dec.{eqb}
 use lib.ListN.{length, getD, drop, take, set, length-append, length-drop, drop-of-length-le}
 use lib.Seq.{take-all, length-take-le, drop-drop}
+use Rattle.signature.specs.Set.{bit}
+use Rattle.signature.proofs.SetLaws.{bit-lt}
+use Rattle.signature.proofs.Tests.{eqb-eq, eqb-ne}
 use Rattle.pattern.specs.Limits.{variable-count}
 use Rattle.tree.specs.Tree.{hit}
 use Rattle.tree.specs.Words.{pairs}
-use Rattle.path.specs.Leaf.{Paired, all-pairs, pairs-from, cell-pair, cell-pairs, Pairing}
-use Rattle.path.specs.State.{bound}
+use Rattle.path.specs.Leaf.{Paired, all-pairs, pairs-from, cell-pair, cell-pairs, Pairing, Used}
+use Rattle.path.specs.State.{bound, cell-of, start-of}
 use Rattle.path.specs.Column.{Leaving}
 use Rattle.path.specs.Wrote.{Wrote}
-use Rattle.path.proofs.PairLaws.{bound-rising, Sofar, sofar-more, sofar-full, sofar-end}
+use Rattle.path.proofs.PairLaws.{bound-rising, Sofar, sofar-more, sofar-full, sofar-end, paired-none}
 
 pub pairing : {a rows : List ℕ} {r : ℕ} {cur vis : List ℕ} (q : ℕ) → Leaving a rows r cur vis → q ≡ getD cur r 0 → Pairing a rows vis r q
 pairing q g e = record { long = g .long; visits = g .visits; small = omega (arith, g .small); cells = omega (arith, g .cells) }
@@ -113,3 +118,24 @@ module _ (a rows vis : List ℕ) (r q x : ℕ) where
 
   pub variable-end : (bs : List (ℕ × ℕ)) (to : ℕ) (o₀ o : List ℕ) → variable-count ≤ x → Sofar bs (later x) 0 to o₀ o → Paired bs 0 to o₀ o
   variable-end bs to o₀ o l s = sofar-end bs 0 to o₀ o (subst (λ (cs : List (ℕ × ℕ)). Sofar bs cs 0 to o₀ o) (later-end l) s)
+
+-- ---- variables that no cell binds
+
+pub used-more : (a rows : List ℕ) (r p u u′ s : ℕ) → Used a rows r p u → s ≡ start-of rows r → ((x : ℕ) → bit u′ x ≡ max (bit u x) (bit (getD a (s + 3 * p + 1) 0) x)) → Used a rows r (p + 1) u′
+used-more a rows r p u u′ s h e j x q z l = go (eqb q p) refl
+  where
+    both : (bit u x ≡ 0) × (bit (getD a (cell-of rows r p + 1) 0) x ≡ 0)
+    both = (omega (arith, j x, z), ap (λ (y : ℕ). bit (getD a (y + 3 * p + 1) 0) x) (sym e) ∙ (let w : bit (getD a (s + 3 * p + 1) 0) x ≡ 0 = omega (arith, j x, z) in w))
+
+    go : (b : Bool) → eqb q p ≡ b → bit (getD a (cell-of rows r q + 1) 0) x ≡ 0
+    go true i = ap (λ (y : ℕ). bit (getD a (cell-of rows r y + 1) 0) x) (eqb-eq q p i) ∙ both .1
+    go false i = h x q (both .0) (omega (arith, eqb-ne q p i))
+
+unused : (a rows vis : List ℕ) (r q u x : ℕ) → Used a rows r q u → bit u x ≡ 0 → cell-pairs a rows vis r x q ≡ []
+unused a rows vis r zero u x h z = refl
+unused a rows vis r (suc q) u x h z = rw (h x q z (omega arith)) (unused a rows vis r q u x (λ y p w l. h y p w (omega arith)) z)
+
+pub none-bound : (a rows vis : List ℕ) (r q u x at : ℕ) (o : List ℕ) → Used a rows r q u → eqb (bit u x) 1 ≡ false → at ≤ length o → Paired (cell-pairs a rows vis r x q) at at o o
+none-bound a rows vis r q u x at o h e l =
+    let z : bit u x ≡ 0 = omega (arith, bit-lt u x, eqb-ne (bit u x) 1 e) in
+    rw (unused a rows vis r q u x h z) (paired-none at o l)

@@ -97,7 +97,7 @@ pub pairs-length : (bs : List (ℕ × ℕ)) → length (pairs bs) ≡ 2 * length
 pairs-length [] = refl
 pairs-length (b ∷ bs) = omega (arith, pairs-length bs)
 
-paired-none : (at : ℕ) (o : List ℕ) → at ≤ length o → Paired [] at at o o
+pub paired-none : (at : ℕ) (o : List ℕ) → at ≤ length o → Paired [] at at o o
 paired-none at o l = record { much = omega arith; wrote = λ h. rw (add-zero at) (sym (take-append-drop at o)) }
 
 two-set : (at x v : ℕ) (o : List ℕ) → at + 2 ≤ length o → set (set o at x) (at + 1) v ≡ take at o ++ (x ∷ (v ∷ drop (at + 2) o))

@@ -11,6 +11,10 @@ use Rattle.signature.specs.Set.{bit, set-limit}
 abbrev pub row-limit : ℕ
 row-limit = 256
 
+-- the words of a set of them
+abbrev pub set-words : ℕ
+set-words = 4
+
 unfoldable pub member : List ℕ → ℕ → Bool
 member s r = eqb (bit (getD s (r / set-limit) 0) (r % set-limit)) 1
 

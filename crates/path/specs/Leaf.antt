@@ -2,7 +2,7 @@
 use mathlib.Core.Path.{_≡_}
 use mathlib.Core.List.{List, [], _∷_, _++_}
 use mathlib.Core.Bool.{cond}
-use Prim.Native.Nat.{ℕ, zero, suc, _+_, _*_, _≤_, min}
+use Prim.Native.Nat.{ℕ, zero, suc, _+_, _*_, _≤_, _<_, min}
 use lib.Dec.{eqb}
 use lib.ListN.{length, getD, take, drop}
 use Rattle.signature.specs.Set.{bit}
@@ -27,6 +27,10 @@ module _ (a rows vis : List ℕ) (r : ℕ) where
 
   abbrev pub all-pairs : ℕ → List (ℕ × ℕ)
   all-pairs q = pairs-from q 0 variable-count
+
+-- a variable outside the set is bound by no cell before q
+abbrev pub Used : List ℕ → List ℕ → ℕ → ℕ → ℕ → Type 0
+Used a rows r q u = (x p : ℕ) → bit u x ≡ 0 → p < q → bit (getD a (cell-of rows r p + 1) 0) x ≡ 0
 
 -- the cells before q, and their visits
 pub record Pairing (a rows vis : List ℕ) (r q : ℕ) : Type 0 where

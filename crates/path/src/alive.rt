@@ -1,13 +1,14 @@
 // A set of the rows of a table, 64 to a word.
 use signature::set::has as has_bit;
+use signature::set::lowest;
 use signature::set::with;
 use signature::set::without;
 ghost use mathlib.Core.Path.{_≡_};
 ghost use mathlib.Core.Bool.{cond};
-ghost use Prim.Native.Nat.{ℕ, _≤_, _<_};
+ghost use Prim.Native.Nat.{ℕ, _≤_, _<_, min};
 ghost use lib.Dec.{eqb};
 ghost use lib.ListN.{length};
-ghost use Rattle.path.specs.Alive.{member, row-limit, FirstAlive};
+ghost use Rattle.path.specs.Alive.{member, row-limit, set-words, FirstAlive};
 
 pub const SET_WORDS: usize = 4;
 
@@ -20,20 +21,28 @@ pub fn has(s: [u64; SET_WORDS], r: usize) -> bool
     has_bit(s[r / WORD], (r % WORD) as u32)
 }
 
-// The set with row r in it exactly where b says so.
-pub fn put(s: [u64; SET_WORDS], r: usize, b: bool) -> [u64; SET_WORDS]
-    requires { ⌜ r < row-limit ⌝ }
-    ensures { λ x. ⌜ ((q : ℕ) → q < row-limit → member x q ≡ cond (eqb q r) b (member s q)) ⌝ }
+// Row r is in the set from now on exactly where b says so.
+pub fn put(s: &mut [u64], r: usize, b: bool)
+    requires { ⌜ (r < row-limit) × (length (now s) ≡ set-words) ⌝ }
+    ensures { λ _. ⌜ ((q : ℕ) → q < row-limit → member (now (s .exit)) q ≡ cond (eqb q r) b (member (now (s .entry)) q)) ⌝ }
 {
-    let mut x = s;
     let w = s[r / WORD];
     let i = (r % WORD) as u32;
     if b {
-        x[r / WORD] = with(w, i);
-        return x;
+        s[r / WORD] = with(w, i);
+        return;
     }
-    x[r / WORD] = without(w, i);
-    x
+    s[r / WORD] = without(w, i);
+}
+
+// The lesser of two.
+fn lesser(a: usize, b: usize) -> usize
+    ensures { λ m. ⌜ m ≡ min a b ⌝ }
+{
+    if a < b {
+        return a;
+    }
+    b
 }
 
 // The first row of n that is in the set, or n.
@@ -41,12 +50,13 @@ pub fn first_alive(s: [u64; SET_WORDS], n: usize) -> usize
     requires { ⌜ n ≤ row-limit ⌝ }
     ensures { λ r. ⌜ FirstAlive s n r ⌝ }
 {
-    let mut r = 0;
-    while r < n {
-        if has(s, r) {
-            return r;
+    let mut i = 0;
+    while i < SET_WORDS {
+        let w = s[i];
+        if w > 0 {
+            return lesser(WORD * i + lowest(w) as usize, n);
         }
-        r += 1;
+        i += 1;
     }
     n
 }

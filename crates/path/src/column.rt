@@ -140,8 +140,7 @@ pub fn keep(
     let mut r = 0;
     while r < n {
         let b = stays(a, rows, s, re, cur, j, r);
-        let x = put(next, r, b);
-        next = x;
+        put(&mut next, r, b);
         r += 1;
     }
     next

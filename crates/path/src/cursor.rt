@@ -55,8 +55,7 @@ pub fn real(
     let mut r = 0;
     while r < n {
         let b = is_real(rows, s, cur, ncols, r);
-        let x = put(re, r, b);
-        re = x;
+        put(&mut re, r, b);
         r += 1;
     }
     re

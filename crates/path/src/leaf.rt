@@ -4,13 +4,14 @@ use crate::rows::plan_of;
 use crate::rows::rule_of;
 use crate::rows::start_of;
 use signature::set::has as has_bit;
+use signature::set::join;
 ghost use mathlib.Core.Path.{_≡_};
-ghost use Prim.Native.Nat.{ℕ, _+_, _≤_, _<_};
+ghost use Prim.Native.Nat.{ℕ, _+_, _*_, _≤_, _<_};
 ghost use lib.ListN.{length, getD};
 ghost use Rattle.signature.specs.Set.{set-limit};
 ghost use Rattle.tree.specs.Tree.{hit};
-ghost use Rattle.path.specs.Leaf.{cell-pair, cell-pairs, all-pairs, Pairing, Paired};
-ghost use Rattle.path.specs.State.{rule-of, plan-of, bound};
+ghost use Rattle.path.specs.Leaf.{cell-pair, cell-pairs, all-pairs, Pairing, Paired, Used};
+ghost use Rattle.path.specs.State.{rule-of, plan-of, bound as bound-by, row-stride, cell-of};
 ghost use Rattle.path.specs.Column.{Leaving};
 ghost use Rattle.path.specs.Wrote.{Wrote, word-limit};
 
@@ -75,15 +76,52 @@ fn variable_pairs(
     to
 }
 
+// The variables that some cell of row r before q binds.
+fn used(a: &[u64], rows: &[u16], r: usize, q: usize) -> u64
+    requires { ⌜ (row-stride * r + row-stride ≤ length (now rows)) × (cell-of (now rows) r q ≤ length (now a)) ⌝ }
+    ensures { λ u. ⌜ Used (now (a .entry)) (now (rows .entry)) r q u ⌝ }
+{
+    let start = start_of(rows, r) as usize;
+    let mut u = 0;
+    let mut p = 0;
+    while p < q {
+        u = join(u, a[start + CELL * p + 1]);
+        p += 1;
+    }
+    u
+}
+
+// The pairs of variable x where some cell binds it.
+fn some_pairs(
+    a: &[u64],
+    rows: &[u16],
+    vis: &[u16],
+    r: usize,
+    q: usize,
+    bound: u64,
+    x: u16,
+    at: usize,
+    out: &mut [u16],
+) -> usize
+    requires { ⌜ Pairing (now a) (now rows) (now vis) r q × (x < set-limit) × (at ≤ length (now out)) × Used (now a) (now rows) r q bound ⌝ }
+    ensures { λ u. ⌜ Paired (cell-pairs (now (a .entry)) (now (rows .entry)) (now (vis .entry)) r x q) at u (now (out .entry)) (now (out .exit)) ⌝ }
+{
+    if has_bit(bound, x as u32) {
+        return variable_pairs(a, rows, vis, r, q, x, at, out);
+    }
+    at
+}
+
 // The pairs of all variables, rising.
 fn pairs(a: &[u64], rows: &[u16], vis: &[u16], r: usize, q: usize, out: &mut [u16]) -> usize
     requires { ⌜ Pairing (now a) (now rows) (now vis) r q ⌝ }
     ensures { λ u. ⌜ Paired (all-pairs (now (a .entry)) (now (rows .entry)) (now (vis .entry)) r q) 0 u (now (out .entry)) (now (out .exit)) ⌝ }
 {
+    let bound = used(a, rows, r, q);
     let mut x = 0;
     let mut to = 0;
     while x < VARIABLES {
-        let u = variable_pairs(a, rows, vis, r, q, x, to, out);
+        let u = some_pairs(a, rows, vis, r, q, bound, x, to, out);
         if u > out.len() {
             return u;
         }
@@ -96,7 +134,7 @@ fn pairs(a: &[u64], rows: &[u16], vis: &[u16], r: usize, q: usize, out: &mut [u1
 // The leaf of row r: how long it is, or one more than there is room.
 pub fn leaf(a: &[u64], rows: &[u16], r: usize, cur: &[u8], vis: &[u16], out: &mut [u16]) -> usize
     requires { ⌜ Leaving (now a) (now rows) r (now cur) (now vis) × (length (now out) ≤ word-limit) ⌝ }
-    ensures { λ x. ⌜ Wrote (hit (rule-of (now (rows .entry)) r) (plan-of (now (rows .entry)) r) (bound (now (a .entry)) (now (rows .entry)) (now (vis .entry)) r (getD (now (cur .entry)) r 0))) 0 x (now (out .entry)) (now (out .exit)) ⌝ }
+    ensures { λ x. ⌜ Wrote (hit (rule-of (now (rows .entry)) r) (plan-of (now (rows .entry)) r) (bound-by (now (a .entry)) (now (rows .entry)) (now (vis .entry)) r (getD (now (cur .entry)) r 0))) 0 x (now (out .entry)) (now (out .exit)) ⌝ }
 {
     if out.len() < LEAF_HEAD {
         return out.len() + 1;

@@ -30,8 +30,7 @@ fn all_rows(n: usize) -> [u64; SET_WORDS]
     let mut s = [0; SET_WORDS];
     let mut r = 0;
     while r < n {
-        let x = put(s, r, true);
-        s = x;
+        put(&mut s, r, true);
         r += 1;
     }
     s

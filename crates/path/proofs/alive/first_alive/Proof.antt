@@ -1,18 +1,17 @@
 -- `path::alive::first_alive` meets its contract. Assumes nothing.
-use mathlib.Core.Path.{_≡_, sym, _∙_}
-use mathlib.Core.Bool.{false}
-use Prim.Native.Nat.{ℕ, _-_, _≤_, _<_}
+use mathlib.Core.Path.{_≡_}
+use Prim.Native.Nat.{ℕ, _-_, _≤_}
 use native.Mathlib.Omega.{arith}
-use Rattle.path.specs.Alive.{member}
-use Rattle.path.proofs.AliveLaws.{below-next}
+use borrow.Author.Needs.{needs}
+use Rattle.path.proofs.AliveLaws.{NoneIn, word-none, word-first}
 use Rattle.path.proofs.alive.first_alive.Statement.{statement}
 use Rattle.path.proofs.alive.first_alive.Tie as tie
 
 abbrev Inv-loop : tie.InvT-loop
-Inv-loop s n r₀ r = (r ≤ n) × ((q : ℕ) → q < r → member s q ≡ false)
+Inv-loop n s i₀ i = (i ≤ 4) × NoneIn s i
 
 abbrev μ-loop : tie.MeasureT-loop
-μ-loop s n r₀ r = n - r
+μ-loop n s i₀ i = 4 - i
 
 pub first-alive-spec : {M : Type 1} → statement M
 first-alive-spec =
@@ -21,9 +20,15 @@ first-alive-spec =
     Inv-loop
     μ-loop
     (λ c. (omega arith, λ q l. absurd (omega arith)))
-    (λ c κs. omega arith)
-    (λ c. record { most = omega arith; before = c .before .before .before .loop .inv .1; there = λ l. sym (c .before .has .ensures) ∙ c .if1 .taken })
     (λ c. omega arith)
     (λ c. omega arith)
-    (λ c. (omega arith, below-next _ _ (c .before .before .before .loop .inv .1) (sym (c .before .has .ensures) ∙ c .if1 .left)))
+    (λ c. omega arith)
+    (λ c κs. c .if1 .taken)
+    (λ c. search needs)
+    (λ c. omega (arith, c .lowest .ensures .small))
+    (λ c κs. tt)
+    (λ c. rw (c .lesser .ensures) (word-first (c .before .before .before .before .before .args .t1) (c .before .before .before .before .loop .i) (c .before .lowest .result) (c .before .before .before .before .before .args .n) (c .before .before .before .before .loop .inv .1) (c .before .lowest .ensures)))
+    (λ c. omega arith)
+    (λ c. omega arith)
+    (λ c. (omega arith, word-none (c .before .before .before .args .t1) (c .before .before .loop .i) (c .before .before .loop .inv .1) (omega (arith, c .if1 .left))))
     (λ c. record { most = omega arith; before = λ q l. c .before .loop .inv .1 q (omega (arith, c .loop-test .left)); there = λ l. absurd (omega arith) }))

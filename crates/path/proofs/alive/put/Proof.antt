@@ -1,7 +1,8 @@
 -- `path::alive::put` meets its contract. Assumes nothing.
-use mathlib.Core.Path.{_≡_, sym}
+use mathlib.Core.Path.{_≡_}
 use native.Mathlib.Omega.{arith}
 use borrow.Author.Needs.{needs}
+use lib.ListN.{length-set}
 use Rattle.path.proofs.AliveLaws.{put-in, put-out}
 use Rattle.path.proofs.alive.put.Statement.{statement}
 use Rattle.path.proofs.alive.put.Tie as tie
@@ -11,13 +12,15 @@ put-spec =
     tie.close
     (tie.spec
     (λ c. search needs)
-    (λ c. search needs)
+    (λ c. omega arith)
     (λ c. search needs)
     (λ c κs. search needs)
     (λ c. search needs)
+    (λ c. omega arith)
     (λ c. search needs)
-    (λ c. λ q l. put-in (c .before .before .args .t1) (c .before .before .args .r) q (c .before .before .args .b) (c .with .result) (search needs) (omega arith) (c .before .if1 .taken) (c .with .ensures))
+    (λ c. λ q l. put-in (c .before .before .before .before .args .s .now) (c .before .before .before .before .args .r) q (c .before .before .before .before .args .b) (c .with .result) (c .before .before .before .before .pre .1) (c .before .before .before .before .pre .0) (c .before .if1 .taken) (c .with .ensures))
     (λ c κs. search needs)
     (λ c. search needs)
+    (λ c. omega arith)
     (λ c. search needs)
-    (λ c. λ q l. put-out (c .before .before .args .t1) (c .before .before .args .r) q (c .before .before .args .b) (c .without .result) (search needs) (omega arith) (c .before .if1 .left) (c .without .ensures)))
+    (λ c. λ q l. put-out (c .before .before .before .before .args .s .now) (c .before .before .before .before .args .r) q (c .before .before .before .before .args .b) (c .without .result) (c .before .before .before .before .pre .1) (c .before .before .before .before .pre .0) (c .before .if1 .left) (c .without .ensures)))
