@@ -70,18 +70,18 @@ pub fn list_line(t: &[u8], key: &[u8], out: &mut [u16]) -> CountLine
     requires { ⌜ list-limit ≤ length (now out) ⌝ }
     ensures { λ r. ⌜ (r ≡ count-line-of (list-line (now (key .entry)) (now (t .entry)))) × LineFilled (list-line (now (key .entry)) (now (t .entry))) (now (out .entry)) (now (out .exit)) ⌝ }
 {
-    let e = end_of(t, key);
-    if e == t.len() {
+    let end = end_of(t, key);
+    if end == t.len() {
         return CountLine::Broken;
     }
-    let l = &t[..e];
+    let l = &t[..end];
     let k = key.len();
     let Count::Is(n) = list::list(&l[k..], out) else {
         return CountLine::Broken;
     };
     CountLine::Is {
         count: n,
-        used: e + 1,
+        used: end + 1,
     }
 }
 
