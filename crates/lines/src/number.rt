@@ -10,6 +10,9 @@ pub const DIGIT_LIMIT: usize = 5;
 
 pub const LAST_WORD: u32 = 65535;
 
+// What no number is worth.
+pub const NO_WORD: u32 = 65536;
+
 pub const FIRST_DIGIT: u8 = 48;
 
 pub const LAST_DIGIT: u8 = 57;
@@ -28,7 +31,7 @@ fn zero_leads(s: &[u8]) -> bool
     s[0] == FIRST_DIGIT
 }
 
-// What the digits are worth; more than any word where one is no digit.
+// What the digits are worth; NO_WORD where one is no digit.
 fn worth(s: &[u8]) -> u32
     requires { ⌜ length (now s) ≤ digit-limit ⌝ }
     ensures { λ r. ⌜ r ≡ worth-of (now (s .entry)) ⌝ }
@@ -38,10 +41,10 @@ fn worth(s: &[u8]) -> u32
     while i < s.len() {
         let b = s[i];
         if b < FIRST_DIGIT {
-            return LAST_WORD + 1;
+            return NO_WORD;
         }
         if LAST_DIGIT < b {
-            return LAST_WORD + 1;
+            return NO_WORD;
         }
         v = 10 * v + (b - FIRST_DIGIT) as u32;
         i += 1;

@@ -21,9 +21,7 @@ worth-spec =
     μ-loop
     (λ c. (omega arith, c .pre, omega arith, record { digits-are = refl; worth-is = refl }))
     (λ c. omega arith)
-    (λ c. omega arith)
     (λ c. low-byte (c .before .before .before .before .args .s .now) (c .before .before .before .loop .v) (c .before .before .before .loop .i) (c .before .before .before .loop .inv .3) (c .before .before .loop-test .taken) (c .if1 .taken))
-    (λ c. omega arith)
     (λ c. high-byte (c .before .before .before .before .before .args .s .now) (c .before .before .before .before .loop .v) (c .before .before .before .before .loop .i) (c .before .before .before .before .loop .inv .3) (c .before .before .before .loop-test .taken) (c .before .if1 .left) (c .if2 .taken))
     (λ c. omega (arith, few (c .before .before .before .before .loop .i) (c .before .before .before .before .loop .v) (omega arith) (c .before .before .before .before .loop .inv .2)))
     (λ c. omega arith)
