@@ -9,3 +9,5 @@ pub mod TextSteps
 pub mod TextLaws
 pub mod FormatSteps
 pub mod Laws
+pub mod Program
+pub mod Found
