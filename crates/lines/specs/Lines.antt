@@ -8,7 +8,7 @@ use lib.ListN.{length, take, drop}
 use Rattle.signature.specs.Lists.{_>>=_, require, is-some}
 use Rattle.table.specs.Rule.{Rule}
 use Rattle.text.specs.Format.{fields, ended, after-key, list-after, number-after, rest-lines, key-rule, key-plan, key-pat}
-use Rattle.lines.specs.Bytes.{bytes-before}
+use Rattle.numbers.specs.Bytes.{bytes-before}
 
 -- the first line without its newline: "every line ends in a newline"
 unfoldable pub first-line : List ℕ → Option (List ℕ)
