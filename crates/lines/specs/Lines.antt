@@ -1,4 +1,4 @@
--- 01, the text program: the lines as they are read one behind the other, each with the bytes that it takes. `Laws` ties them to the format.
+-- 01, the text program: the lines as they are read one behind the other, each with the bytes that it takes. `format/Laws` ties them to the format.
 use mathlib.Core.List.{List}
 use mathlib.Core.Option.{Option, none, some}
 use mathlib.Core.Bool.{cond}
