@@ -1,11 +1,3 @@
-pub mod Spans
-pub mod Digits
-pub mod Lists
 pub mod LineLaws
 pub mod LineSteps
 pub mod RuleSteps
-pub mod Reading
-pub mod TextSteps
-pub mod TextLaws
-pub mod FormatSteps
-pub mod Laws

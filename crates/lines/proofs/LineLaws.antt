@@ -11,9 +11,9 @@ use lib.Seq.{length-take-le}
 use Rattle.signature.specs.Lists.{_>>=_, require, is-some}
 use Rattle.signature.proofs.Tests.{ltb-yes, ltb-no, bind-some, some-inj, true≢false, le-of, require-some}
 use Rattle.text.specs.Format.{after-key, number, list}
-use Rattle.lines.specs.Bytes.{bytes-before}
+use Rattle.numbers.specs.Bytes.{bytes-before}
 use Rattle.lines.specs.Lines.{first-line, number-line, list-line}
-use Rattle.lines.proofs.Spans.{before-most, behind-key, to-end}
+use Rattle.numbers.proofs.Spans.{before-most, behind-key, to-end}
 
 -- the first line, where its newline was found
 module _ (bs : List ℕ) (e : ℕ) (before : e ≡ bytes-before 10 bs) where

@@ -11,18 +11,18 @@ use Rattle.signature.specs.Lists.{_>>=_, is-some}
 use Rattle.signature.proofs.Tests.{some-inj, none≢some}
 use Rattle.text.specs.Format.{after-key, number, list}
 use Rattle.lines.specs.Answers.{word-line-of, count-line-of, LineFilled}
-use Rattle.lines.specs.Bytes.{bytes-before, word-of}
-use Rattle.lines.specs.Lists.{count-of, Filled}
+use Rattle.numbers.specs.Bytes.{bytes-before, word-of}
+use Rattle.numbers.specs.Lists.{count-of, Filled}
 use Rattle.lines.specs.Lines.{first-line, end-of, line-end, number-line, list-line}
 use Rattle.lines.specs.declared.line.CountLine.the-variants as count-line
 use Rattle.lines.specs.declared.line.WordLine.the-variants as word-line
-use Rattle.lines.specs.declared.list.Count.{Count}
-use Rattle.lines.specs.declared.list.Count.the-variants as count
-use Rattle.lines.specs.declared.number.Word.{Word}
-use Rattle.lines.specs.declared.number.Word.the-variants as word
-use Rattle.lines.proofs.Digits.{word-none, word-some}
+use Rattle.numbers.specs.declared.list.Count.{Count}
+use Rattle.numbers.specs.declared.list.Count.the-variants as count
+use Rattle.numbers.specs.declared.number.Word.{Word}
+use Rattle.numbers.specs.declared.number.Word.the-variants as word
+use Rattle.numbers.proofs.Digits.{word-none, word-some}
 use Rattle.lines.proofs.LineLaws.{line-was, no-newline, newline, other-number, other-list, the-number, the-list, no-number-line, no-list-line}
-use Rattle.lines.proofs.Spans.{before-most, behind-key}
+use Rattle.numbers.proofs.Spans.{before-most, behind-key}
 
 -- a line that is broken
 abbrev NoList : List ℕ → List ℕ → List ℕ → List ℕ → Type 0

@@ -15,7 +15,7 @@ use Rattle.lines.specs.declared.line.RuleLines.the-variants as rule-line
 use Rattle.lines.specs.declared.line.WordLine.{WordLine}
 use Rattle.lines.specs.declared.line.WordLine.the-variants as word-line
 use Rattle.lines.proofs.LineLaws.{line-was}
-use Rattle.lines.proofs.Spans.{to-end}
+use Rattle.numbers.proofs.Spans.{to-end}
 
 -- what an answer says of the line
 pub word-line-none : (o : Option (ℕ × ℕ)) → word-line-of o ≡ word-line.Broken → o ≡ none

@@ -1,4 +1,4 @@
--- 01, the text program: the lines as they are read one behind the other, each with the bytes that it takes. `Laws` ties them to the format.
+-- 01, the text program: the lines as they are read one behind the other, each with the bytes that it takes. `format/Laws` ties them to the format.
 use mathlib.Core.List.{List}
 use mathlib.Core.Option.{Option, none, some}
 use mathlib.Core.Bool.{cond}
@@ -8,7 +8,7 @@ use lib.ListN.{length, take, drop}
 use Rattle.signature.specs.Lists.{_>>=_, require, is-some}
 use Rattle.table.specs.Rule.{Rule}
 use Rattle.text.specs.Format.{fields, ended, after-key, list-after, number-after, rest-lines, key-rule, key-plan, key-pat}
-use Rattle.lines.specs.Bytes.{bytes-before}
+use Rattle.numbers.specs.Bytes.{bytes-before}
 
 -- the first line without its newline: "every line ends in a newline"
 unfoldable pub first-line : List ℕ → Option (List ℕ)

@@ -1,7 +1,2 @@
-// The lines of a text: bytes, numbers, lines, and the format over the whole text (17).
-pub mod bytes;
-pub mod format;
+// A line by its key, and the lines of a rule.
 pub mod line;
-pub mod list;
-pub mod number;
-pub mod promises;

@@ -1,10 +1,10 @@
 // A line at the front of the bytes: its key, its numbers, and how many bytes it takes with its newline.
-use crate::bytes;
-use crate::bytes::NEWLINE;
-use crate::list;
-use crate::list::Count;
-use crate::number;
-use crate::number::Word;
+use numbers::bytes;
+use numbers::bytes::NEWLINE;
+use numbers::list;
+use numbers::list::Count;
+use numbers::number;
+use numbers::number::Word;
 ghost use mathlib.Core.Path.{_≡_};
 ghost use Prim.Native.Nat.{_≤_};
 ghost use lib.ListN.{length};
