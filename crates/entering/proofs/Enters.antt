@@ -1,29 +1,26 @@
 -- The call as a whole.
 use mathlib.Core.Path.{_≡_, refl, sym, ap, subst, _∙_}
-use mathlib.Core.List.{List, []}
-use mathlib.Core.Bool.{Bool, true, false, cond, _&&_}
+use mathlib.Core.List.{List}
+use mathlib.Core.Bool.{Bool, true, false, _&&_}
 use Prim.Native.Nat.{ℕ, _<_, _≤_}
 use native.Mathlib.Omega.{arith}
-use lib.Dec.{eqb}
 use lib.ListN.{length}
 use Rattle.signature.specs.Decoded.{decoded-length}
 use Rattle.signature.specs.Signature.{Signature}
 use Rattle.signature.proofs.Booleans.{and-left, and-right}
-use Rattle.signature.proofs.Tests.{eqb-no, leb-yes, leb-no, le-of}
-use Rattle.table.specs.Calls.{Entered as Answer, Enter, Empty, Shows, start, refused, begin, enter-start, enter-number, enter-table, long-table, long-witness}
+use Rattle.signature.proofs.Tests.{leb-yes, leb-no, le-of}
+use Rattle.table.specs.Calls.{Entered as Answer, Enter, Shows, start, refused, begin, enter-start, enter-number, enter-table, long-table, long-witness}
 use Rattle.table.specs.Limits.{table-length, witness-length}
-use Rattle.table.specs.Rule.{Rule, stored, add-rule}
+use Rattle.table.specs.Rule.{Rule}
 use Rattle.builder.specs.Build.{row-room}
 use Rattle.loading.specs.Add.{rows-room}
 use Rattle.opening.specs.Open.{GivenOpen, InForce, OpenedAs}
 use Rattle.opening.specs.declared.open.Opened.{Opened}
 use Rattle.opening.specs.declared.open.Opened.the-variants.{Begun, Refused as Closed}
-use Rattle.entering.specs.Check.{GivenCheck, CheckedAs}
-use Rattle.entering.specs.Entry.{answer-of}
-use Rattle.entering.specs.Settle.{GivenSettle, EntryOf}
-use Rattle.entering.specs.declared.check.Checked.{Checked}
-use Rattle.entering.specs.declared.check.Checked.the-variants.{Free, Refused as Barred}
-use Rattle.entering.specs.declared.entry.Entry.the-variants.{Refused}
+use Rattle.entry.specs.Check.{GivenCheck}
+use Rattle.entry.specs.Entry.{answer-of}
+use Rattle.entry.specs.Settle.{EntryOf}
+use Rattle.entry.specs.declared.sound.Entry.the-variants.{Refused}
 
 -- ---- 2
 pub long-is : (table witness : List ℕ) → table-length ≤ length table → (b : Bool) → b ≡ long-witness witness → b ≡ (long-table table && long-witness witness)
@@ -38,42 +35,6 @@ module _ (table witness : List ℕ) (b : Bool) (b-is : b ≡ (long-table table &
 
   pub witness-long : witness-length ≤ length witness
   witness-long = le-of witness-length (length witness) (and-right (long-table table) (long-witness witness) (sym b-is ∙ e))
-
--- ---- from 4 on
-not-0 : (q : ℕ) (x y : List ℕ) → 1 ≤ q → cond (eqb q 0) x y ≡ y
-not-0 q x y h = ap (λ b. cond b x y) (eqb-no q 0 (λ e. omega (arith, e, h)))
-
-module _ {t table : List ℕ} {used total : ℕ} {rows : List ℕ} {m : ℕ} (g : GivenCheck t table used total rows m) (n plan : ℕ) (ws witness : List ℕ) (r : Checked) (rows′ : List ℕ) (gave : (q : GivenCheck t table used total rows m) → CheckedAs (q .known .sig) (q .rs) n ws used total r rows′) where
-  pub turned-down : (q : ℕ) → r ≡ Barred q → EntryOf (g .known .sig) (g .rs) n plan ws table witness (answer-of (Refused q)) table witness
-  turned-down q e =
-      let (a, b, c) = subst (λ z. CheckedAs (g .known .sig) (g .rs) n ws used total z rows′) e (gave g) in
-      record {
-        number-is = sym c;
-        table-is = sym (ap (λ z. cond (eqb z 0) (stored (add-rule (record { number = n; plan = plan; pattern = ws }) (g .rs)) table) table) c ∙ not-0 q (stored (add-rule (record { number = n; plan = plan; pattern = ws }) (g .rs)) table) table a);
-        not-12 = λ f. (refl, refl, refl);
-        on-12 = λ x. absurd (omega (arith, x, b));
-      }
-
-  pub settle-given : (at : ℕ) → r ≡ Free at → (m′ : ℕ) → m′ ≡ m → length rows′ ≡ length rows → (l : ℕ) → witness-length ≤ l → GivenSettle t table n ws at used rows′ m′ l
-  settle-given at e m′ m-is rows-is l w =
-      let z = subst (λ z. CheckedAs (g .known .sig) (g .rs) n ws used total z rows′) e (gave g) in
-      record {
-        known = g .known;
-        rs = g .rs;
-        is-sound = g .is-sound;
-        total = total;
-        ready = z .1;
-        cleared = z .0;
-        room = omega (arith, rows-is, g .room);
-        work-room = omega (arith, m-is, g .work-room);
-        witness-long = w;
-      }
-
-  pub settled : (at : ℕ) (e : r ≡ Free at) (m′ : ℕ) (m-is : m′ ≡ m) (rows-is : length rows′ ≡ length rows) (w : witness-length ≤ length witness) (a : Answer) (after witness′ : List ℕ)
-      → ((q : GivenSettle t table n ws at used rows′ m′ (length witness)) → EntryOf (q .known .sig) (q .rs) n plan ws table witness a after witness′)
-      → EntryOf (g .known .sig) (g .rs) n plan ws table witness a after witness′
-  unfolding settle-given
-  settled at e m′ m-is rows-is w a after witness′ did = did (settle-given at e m′ m-is rows-is (length witness) w)
 
 -- ---- from 1 on
 begin-inj : (sig sig′ : Signature) (rs rs′ : List Rule) → begin sig rs ≡ begin sig′ rs′ → (sig ≡ sig′) × (rs ≡ rs′)
@@ -123,11 +84,3 @@ module _ (ss : List ℕ) (n plan : ℕ) (ws table witness : List ℕ) (long : Bo
       pub entered : (a : Answer) (after witness′ : List ℕ) → ((q : GivenCheck t table used total rows m) → EntryOf (q .known .sig) (q .rs) n plan ws table witness a after witness′) → Enter ss n plan ws table witness a after witness′
       unfolding check-given
       entered a after witness′ did = as-whole ss n plan ws table witness (in-force .known .sig) (in-force .rs) (ap (λ b. start ss b table) (sym long-so) ∙ in-force .started) a after witness′ (did check-given)
-
--- ---- empty
-module _ (table : List ℕ) where
-  pub not-emptied : length table < table-length → Empty table 2 table
-  not-emptied h = let z = leb-no table-length (length table) h in record { number-is = rw z; table-is = rw z }
-
-  pub emptied : table-length ≤ length table → (after : List ℕ) → after ≡ stored [] table → Empty table 0 after
-  emptied h after e = let z = leb-yes table-length (length table) h in record { number-is = rw z; table-is = rw (e, z) }

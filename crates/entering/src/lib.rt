@@ -1,6 +1,2 @@
-// A rule's entry into a table: refusals 4 to 12, and the rule stored.
-pub mod check;
-pub mod empty;
+// The call that enters a rule.
 pub mod enter;
-pub mod entry;
-pub mod settle;

@@ -1,0 +1,2 @@
+// The call that empties a table.
+pub mod empty;

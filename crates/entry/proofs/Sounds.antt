@@ -1,0 +1,53 @@
+-- 4 to 11, then 12.
+use mathlib.Core.Path.{_≡_, refl, sym, ap, subst, _∙_}
+use mathlib.Core.List.{List}
+use mathlib.Core.Bool.{cond}
+use Prim.Native.Nat.{ℕ, _≤_}
+use native.Mathlib.Omega.{arith}
+use lib.Dec.{eqb}
+use lib.ListN.{length}
+use Rattle.signature.proofs.Tests.{eqb-no}
+use Rattle.table.specs.Calls.{Entered as Answer}
+use Rattle.table.specs.Limits.{witness-length}
+use Rattle.table.specs.Rule.{stored, add-rule}
+use Rattle.entry.specs.Check.{GivenCheck, CheckedAs}
+use Rattle.entry.specs.Entry.{answer-of}
+use Rattle.entry.specs.Settle.{GivenSettle, EntryOf}
+use Rattle.entry.specs.declared.check.Checked.{Checked}
+use Rattle.entry.specs.declared.check.Checked.the-variants.{Free, Refused as Barred}
+use Rattle.entry.specs.declared.sound.Entry.the-variants.{Refused}
+
+not-0 : (q : ℕ) (x y : List ℕ) → 1 ≤ q → cond (eqb q 0) x y ≡ y
+not-0 q x y h = ap (λ b. cond b x y) (eqb-no q 0 (λ e. omega (arith, e, h)))
+
+module _ {t table : List ℕ} {used total : ℕ} {rows : List ℕ} {m : ℕ} (g : GivenCheck t table used total rows m) (n plan : ℕ) (ws witness : List ℕ) (r : Checked) (rows′ : List ℕ) (gave : (q : GivenCheck t table used total rows m) → CheckedAs (q .known .sig) (q .rs) n ws used total r rows′) where
+  pub turned-down : (q : ℕ) → r ≡ Barred q → EntryOf (g .known .sig) (g .rs) n plan ws table witness (answer-of (Refused q)) table witness
+  turned-down q e =
+      let (a, b, c) = subst (λ z. CheckedAs (g .known .sig) (g .rs) n ws used total z rows′) e (gave g) in
+      record {
+        number-is = sym c;
+        table-is = sym (ap (λ z. cond (eqb z 0) (stored (add-rule (record { number = n; plan = plan; pattern = ws }) (g .rs)) table) table) c ∙ not-0 q (stored (add-rule (record { number = n; plan = plan; pattern = ws }) (g .rs)) table) table a);
+        not-12 = λ f. (refl, refl, refl);
+        on-12 = λ x. absurd (omega (arith, x, b));
+      }
+
+  pub settle-given : (at : ℕ) → r ≡ Free at → (m′ : ℕ) → m′ ≡ m → length rows′ ≡ length rows → (l : ℕ) → witness-length ≤ l → GivenSettle t table n ws at used rows′ m′ l
+  settle-given at e m′ m-is rows-is l w =
+      let z = subst (λ z. CheckedAs (g .known .sig) (g .rs) n ws used total z rows′) e (gave g) in
+      record {
+        known = g .known;
+        rs = g .rs;
+        is-sound = g .is-sound;
+        total = total;
+        ready = z .1;
+        cleared = z .0;
+        room = omega (arith, rows-is, g .room);
+        work-room = omega (arith, m-is, g .work-room);
+        witness-long = w;
+      }
+
+  pub settled : (at : ℕ) (e : r ≡ Free at) (m′ : ℕ) (m-is : m′ ≡ m) (rows-is : length rows′ ≡ length rows) (w : witness-length ≤ length witness) (a : Answer) (after witness′ : List ℕ)
+      → ((q : GivenSettle t table n ws at used rows′ m′ (length witness)) → EntryOf (q .known .sig) (q .rs) n plan ws table witness a after witness′)
+      → EntryOf (g .known .sig) (g .rs) n plan ws table witness a after witness′
+  unfolding settle-given
+  settled at e m′ m-is rows-is w a after witness′ did = did (settle-given at e m′ m-is rows-is (length witness) w)

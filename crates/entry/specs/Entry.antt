@@ -1,0 +1,10 @@
+-- The number and the values of an entry's answer, by cases.
+use Rattle.table.specs.Calls.{Entered as Answer}
+use Rattle.entry.specs.declared.sound.Entry.{Entry}
+use Rattle.entry.specs.declared.sound.Entry.the-variants.{Entered, Refused, Shares}
+
+-- "Success gives 0 as its number"; "A refusal gives its number, other results 0"; "12. .. the lowest such number and the booking's length are returned"
+abbrev pub answer-of : Entry → Answer
+answer-of Entered = record { number = 0; sharer = 0; shown = 0 }
+answer-of (Refused n) = record { number = n; sharer = 0; shown = 0 }
+answer-of (Shares rule words) = record { number = 12; sharer = rule; shown = words }
