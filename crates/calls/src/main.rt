@@ -28,5 +28,11 @@ fn main() {
     let mut table = [0u16; TABLE];
     let mut space = [0u16; SPACE];
     let mut witness = [0u16; WITNESS];
-    scene::play(&all[..m], &mut signature, &mut table, &mut space, &mut witness);
+    scene::play(
+        &all[..m],
+        &mut signature,
+        &mut table,
+        &mut space,
+        &mut witness,
+    );
 }

@@ -2,7 +2,7 @@
 use crate::show;
 use compiling::compile::compile;
 use deciding::decide::decide;
-use entering::empty::empty;
+use emptying::empty::empty;
 use entering::enter::enter;
 use withdrawing::withdraw;
 ghost use mathlib.Core.Path.{_≡_};
@@ -67,20 +67,36 @@ fn begin(w: &[u16], signature: &mut [u16], table: &mut [u16]) -> Now
 {
     let e = behind(w, 2);
     if e == 0 {
-        return Now { used: 0, signature: 0, table: 0 };
+        return Now {
+            used: 0,
+            signature: 0,
+            table: 0,
+        };
     }
     let k = size(w[1]);
     let s = e - 3;
     if table.len() < k {
-        return Now { used: 0, signature: 0, table: 0 };
+        return Now {
+            used: 0,
+            signature: 0,
+            table: 0,
+        };
     }
     if signature.len() < s {
-        return Now { used: 0, signature: 0, table: 0 };
+        return Now {
+            used: 0,
+            signature: 0,
+            table: 0,
+        };
     }
     shift::copy(&mut signature[..s], &w[3..e]);
     show::number(empty(&mut table[..k]));
     show::end();
-    Now { used: e, signature: s, table: k }
+    Now {
+        used: e,
+        signature: s,
+        table: k,
+    }
 }
 
 // number, plan, words of the witness buffer, pattern
@@ -190,13 +206,7 @@ fn damage(w: &[u16], table: &mut [u16]) -> usize
 }
 
 // Every call but the first of a list.
-fn call(
-    w: &[u16],
-    ss: &[u16],
-    table: &mut [u16],
-    space: &mut [u16],
-    witness: &mut [u16],
-) -> usize
+fn call(w: &[u16], ss: &[u16], table: &mut [u16], space: &mut [u16], witness: &mut [u16]) -> usize
     requires { ⌜ 1 ≤ length (now w) ⌝ }
     ensures { λ r. ⌜ r ≤ length (now (w .entry)) ⌝ }
 {
@@ -224,7 +234,11 @@ fn step(
 ) -> Now
     ensures { λ r. ⌜ r .used ≤ length (now (w .entry)) ⌝ }
 {
-    let stop = Now { used: 0, signature: 0, table: 0 };
+    let stop = Now {
+        used: 0,
+        signature: 0,
+        table: 0,
+    };
     if w.len() == 0 {
         return stop;
     }
@@ -238,7 +252,11 @@ fn step(
         return stop;
     }
     let used = call(w, &signature[..s], &mut table[..k], space, witness);
-    Now { used, signature: s, table: k }
+    Now {
+        used,
+        signature: s,
+        table: k,
+    }
 }
 
 pub fn play(

@@ -1,5 +1,5 @@
 // What a call gave, as a line.
-use entering::entry::Entry;
+use entry::sound::Entry;
 use libc::STDOUT_FILENO;
 use run::Ran;
 use run::leaf::UNBOUND;

@@ -12,9 +12,6 @@ pub const ROWS_ROOM: usize = 65985;
 // What the rules of a table may weigh in all.
 pub const WEIGHT: u16 = 256;
 
-// The words for the rows of all rules of a table, and of one pattern more.
-pub const ROWS_ROOM: usize = 65985;
-
 // The words used and the weight, with the rule; or that no sound table has it.
 pub enum Step {
     Added(usize, u16),
