@@ -56,7 +56,7 @@ module _ (sig : Signature) where
   lines-are [] = refl
   lines-are (r ∷ rs) = map-append line-of (rule-rows sig r) (rows-all sig rs) ∙ ap₂ (λ (x y : List Line). x ++ y) (rule-lines r (read-pattern sig (r .pattern))) (lines-are rs)
 
-  -- "Their number is at most the weight"
+  -- no more rows than the rules weigh
   pub few-rows : (rs : List Rule) → length (rows-all sig rs) ≤ total-weight sig rs
   few-rows [] = omega arith
   few-rows (r ∷ rs) = omega (arith, length-append (rule-rows sig r) (rows-all sig rs), length-map (rows-for sig (r .pattern)) (row-of r), go (read-pattern sig (r .pattern)), few-rows rs)
