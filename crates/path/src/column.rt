@@ -13,7 +13,7 @@ ghost use mathlib.Core.Bool.{true};
 ghost use Prim.Native.Nat.{ℕ, _+_, _*_, _-_, _≤_, _<_};
 ghost use lib.ListN.{length, getD};
 ghost use Rattle.signature.specs.Set.{set-limit};
-ghost use Rattle.path.specs.Alive.{member, row-limit};
+ghost use Rattle.path.specs.Alive.{member, row-limit, set-words};
 ghost use Rattle.path.specs.State.{row-stride, cell-of, kept-of};
 ghost use Rattle.path.specs.Standing.{refined-cell};
 ghost use Rattle.path.specs.Column.{Seen, Looking, Column, Keeping, RowKind, RowSaw, tag-at, allowed-at};
@@ -123,7 +123,7 @@ fn stays(
     has(s, r)
 }
 
-// The rows that stay alive where head number j of the kind is taken.
+// In next from now on: the rows that stay alive where head number j of the kind is taken.
 pub fn keep(
     a: &[u64],
     rows: &[u16],
@@ -132,16 +132,15 @@ pub fn keep(
     re: [u64; SET_WORDS],
     cur: &[u8],
     j: usize,
-) -> [u64; SET_WORDS]
-    requires { ⌜ Keeping (now a) (now rows) n re (now cur) j ⌝ }
-    ensures { λ x. ⌜ ((r : ℕ) → r < n → member x r ≡ kept-of (now (a .entry)) (now (rows .entry)) (member s) (member re) (now (cur .entry)) j r) ⌝ }
+    next: &mut [u64],
+)
+    requires { ⌜ Keeping (now a) (now rows) n re (now cur) j × (length (now next) ≡ set-words) ⌝ }
+    ensures { λ _. ⌜ ((r : ℕ) → r < n → member (now (next .exit)) r ≡ kept-of (now (a .entry)) (now (rows .entry)) (member s) (member re) (now (cur .entry)) j r) ⌝ }
 {
-    let mut next = s;
     let mut r = 0;
     while r < n {
         let b = stays(a, rows, s, re, cur, j, r);
-        put(&mut next, r, b);
+        put(next, r, b);
         r += 1;
     }
-    next
 }

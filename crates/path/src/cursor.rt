@@ -9,7 +9,7 @@ ghost use mathlib.Core.Bool.{true};
 ghost use Prim.Native.Nat.{ℕ, _+_, _*_, _≤_, _<_, max};
 ghost use lib.ListN.{length, getD};
 ghost use Rattle.pattern.specs.Limits.{pattern-limit};
-ghost use Rattle.path.specs.Alive.{member, row-limit};
+ghost use Rattle.path.specs.Alive.{member, row-limit, set-words};
 ghost use Rattle.path.specs.State.{real-of, Raised, Lowered, row-stride, own-if, own-of, Lifted, Dropped};
 ghost use Rattle.path.specs.Column.{Blank};
 ghost use Rattle.path.specs.Wrote.{word-limit};
@@ -40,25 +40,17 @@ fn is_real(rows: &[u16], s: [u64; SET_WORDS], cur: &[u8], ncols: usize, r: usize
     false
 }
 
-// The rows alive whose own cell stands in the first of ncols columns.
-pub fn real(
-    rows: &[u16],
-    n: usize,
-    s: [u64; SET_WORDS],
-    cur: &[u8],
-    ncols: usize,
-) -> [u64; SET_WORDS]
-    requires { ⌜ (n ≤ row-limit) × (n ≤ length (now cur)) × (row-stride * n ≤ length (now rows)) × ((r : ℕ) → r < n → member s r ≡ true → getD (now cur) r 0 ≤ pattern-limit) ⌝ }
-    ensures { λ re. ⌜ ((r : ℕ) → r < n → member re r ≡ real-of (now (rows .entry)) (member s) (now (cur .entry)) ncols r) ⌝ }
+// In re from now on: the rows alive whose own cell stands in the first of ncols columns.
+pub fn real(rows: &[u16], n: usize, s: [u64; SET_WORDS], cur: &[u8], ncols: usize, re: &mut [u64])
+    requires { ⌜ (n ≤ row-limit) × (n ≤ length (now cur)) × (row-stride * n ≤ length (now rows)) × ((r : ℕ) → r < n → member s r ≡ true → getD (now cur) r 0 ≤ pattern-limit) × (length (now re) ≡ set-words) ⌝ }
+    ensures { λ _. ⌜ ((r : ℕ) → r < n → member (now (re .exit)) r ≡ real-of (now (rows .entry)) (member s) (now (cur .entry)) ncols r) ⌝ }
 {
-    let mut re = [0; SET_WORDS];
     let mut r = 0;
     while r < n {
         let b = is_real(rows, s, cur, ncols, r);
-        put(&mut re, r, b);
+        put(re, r, b);
         r += 1;
     }
-    re
 }
 
 fn larger(a: usize, b: usize) -> usize

@@ -107,7 +107,8 @@ fn visit(
     if ncols == 0 {
         return leaf(a, rows, r, cur, vis, out);
     }
-    let re = real(rows, n, s, cur, ncols);
+    let mut re = [0; SET_WORDS];
+    real(rows, n, s, cur, ncols, &mut re);
     let k = column(t, a, rows, n, re, cur);
     raise(cur, vis, n, re, v);
     if k == NO_KIND {
@@ -163,7 +164,8 @@ fn branch(
     out[2] = m;
     let mut j = 0;
     while j < m as usize {
-        let x = keep(a, rows, n, s, re, cur, j);
+        let mut x = [0; SET_WORDS];
+        keep(a, rows, n, s, re, cur, j, &mut x);
         let w = ncols - 1 + arity_of(t, f as usize + j) as usize;
         let u = node(
             t,
