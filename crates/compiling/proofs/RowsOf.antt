@@ -30,7 +30,7 @@ use Rattle.table.specs.Limits.{weight-limit}
 use Rattle.table.specs.Matrix.{lines, lines-by}
 use Rattle.table.specs.Rule.{Rule, total-weight}
 use Rattle.table.specs.Sound.{no-shared}
-use Rattle.writer.specs.Standing.{Good}
+use Rattle.path.specs.Standing.{Good}
 use Rattle.writer.specs.Write.{RuleRow, line-of, rows-code, Fit}
 use Rattle.writer.proofs.RowsFit.{rows-fit}
 use Rattle.loading.specs.Lists.{rows-by, rows-for, lists-for, list-for}

@@ -17,7 +17,7 @@ use Rattle.table.specs.Limits.{visit-bound, weight-limit}
 use Rattle.table.specs.Matrix.{tree, tree-words}
 use Rattle.table.specs.Rule.{total-weight}
 use Rattle.store.specs.Laid.{Holds}
-use Rattle.writer.specs.Alive.{row-limit}
+use Rattle.path.specs.Alive.{row-limit}
 use Rattle.writer.specs.Write.{GivenRows, rows-code, fits, answer, space-after, tree-of-rows, line-of}
 use Rattle.writer.specs.declared.write.Written.{Written}
 use Rattle.writer.specs.declared.write.Written.the-variants.{Done, TooLarge}

@@ -16,8 +16,8 @@ ghost use Rattle.pattern.specs.Limits.{pattern-limit};
 ghost use Rattle.builder.specs.Build.{row-room};
 ghost use Rattle.loading.specs.Add.{rows-room};
 ghost use Rattle.tree.specs.Limits.{tree-limit};
-ghost use Rattle.writer.specs.Alive.{row-limit};
-ghost use Rattle.writer.specs.State.{row-stride};
+ghost use Rattle.path.specs.Alive.{row-limit};
+ghost use Rattle.path.specs.State.{row-stride};
 ghost use Rattle.table.specs.Calls.{Compile};
 ghost use Rattle.compiling.specs.Compile.{words-room};
 

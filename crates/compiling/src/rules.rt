@@ -6,8 +6,8 @@ ghost use Prim.Native.Nat.{_*_, _≤_};
 ghost use lib.ListN.{length};
 ghost use Rattle.pattern.specs.Limits.{pattern-limit};
 ghost use Rattle.tree.specs.Limits.{tree-limit, default-plan};
-ghost use Rattle.writer.specs.Alive.{row-limit};
-ghost use Rattle.writer.specs.State.{row-stride};
+ghost use Rattle.path.specs.Alive.{row-limit};
+ghost use Rattle.path.specs.State.{row-stride};
 ghost use Rattle.table.specs.Matrix.{tree-words};
 ghost use Rattle.compiling.specs.Compile.{InTable, TreeIn, words-room};
 
