@@ -1,0 +1,38 @@
+// Lists of calls on a table, good and bad: the file has them as words of 16 bits, the lower byte first. Each call is a line of what it gave.
+mod scene;
+mod show;
+
+const BYTES: usize = 131072;
+
+const WORDS: usize = 65536;
+
+const SIGNATURE: usize = 2048;
+
+const TABLE: usize = 4400;
+
+const SPACE: usize = 40000;
+
+const WITNESS: usize = 4200;
+
+fn main() {
+    let mut bytes = [0u8; BYTES];
+    let fd = os::open_read(b"calls.bin");
+    if fd < 0 {
+        return;
+    }
+    let n = io::read_full(fd, &mut bytes);
+    libc::close(fd);
+    let mut all = [0u16; WORDS];
+    let m = scene::words(&bytes[..n], &mut all);
+    let mut signature = [0u16; SIGNATURE];
+    let mut table = [0u16; TABLE];
+    let mut space = [0u16; SPACE];
+    let mut witness = [0u16; WITNESS];
+    scene::play(
+        &all[..m],
+        &mut signature,
+        &mut table,
+        &mut space,
+        &mut witness,
+    );
+}
