@@ -116,12 +116,12 @@ pub extern "C" fn bellgantlet_decide(signature: &[u16], table: &[u16], booking: 
 pub extern "C" fn bellgantlet_run(signature: &[u16], tree: &[u16], booking: &[u16]) -> Answer
     ensures { λ r. ⌜ RunCall (now (signature .entry)) (now (tree .entry)) (now (booking .entry)) (r .number) (answer-of r) ⌝ }
 {
-    let a = run(signature, tree, booking);
-    let places = a.places;
+    let r = run(signature, tree, booking);
+    let places = r.places;
     Answer {
-        number: a.number,
-        rule: a.rule,
-        plan: a.plan,
+        number: r.number,
+        rule: r.rule,
+        plan: r.plan,
         places: places,
     }
 }

@@ -400,6 +400,15 @@ fn changed(r: &mut Random, table: &mut [u16]) {
                 table[0] *= 2;
                 used += n;
             }
+            7 if i == 0 && table[0] > 1 => {
+                // a rule under the number of the next one, or under one more or one less
+                let mut at = 1;
+                for _ in 0..r.below(table[0] as usize - 1) {
+                    at += 3 + table[at + 2] as usize;
+                }
+                let next = table[at + 3 + table[at + 2] as usize];
+                table[at] = next + r.below(3) as u16 - 1;
+            }
             _ => {
                 let i = r.between(1, used).min(TABLE - 1);
                 table[i] = odd_word(r);
