@@ -3,7 +3,7 @@ use mathlib.Core.Path.{_≡_, refl, sym, ap, subst, _∙_}
 use mathlib.Core.List.{List, []}
 use mathlib.Core.Option.{Option, some, none}
 use mathlib.Core.Bool.{Bool, true, false, cond}
-use Prim.Native.Nat.{ℕ, suc, _<_}
+use Prim.Native.Nat.{ℕ, suc, _<_, _≤_}
 use native.Mathlib.Decide.{decLe}
 use native.Mathlib.Omega.{arith}
 use lib.ListN.{length, take, drop}
@@ -14,7 +14,7 @@ use Rattle.signature.specs.Signature.{Signature}
 use Rattle.signature.specs.Value.{Value}
 use Rattle.signature.proofs.PartFacts.{part-given, part-refused-16}
 use Rattle.signature.proofs.Tests.{eqb-no}
-use Rattle.signature.proofs.Values.{length-code}
+use Rattle.signature.proofs.Values.{length-code, some-size}
 use Rattle.table.specs.Calls.{Enter}
 use Rattle.entry.specs.Entry.{answer-of}
 use Rattle.entry.specs.declared.sound.Entry.{Entry}
@@ -37,38 +37,53 @@ none-1 : (o : Option Signature) (bs : List ℕ) (place : ℕ) → (part-signatur
 none-1 none bs place f = refl
 none-1 (some sig) bs place f = none-13 bs place (read-booking sig bs) f
 
--- and else it stands at the place
+-- and else it stands at the place, a word of it at least
+pub record There (ss bs : List ℕ) (place : ℕ) : Type 0 where
+  pub words : take (length (part-call ss bs place .1)) (drop place bs) ≡ part-call ss bs place .1
+  pub some-word : 1 ≤ length (part-call ss bs place .1)
+
 module _ (ss bs : List ℕ) (place : ℕ) (z : part-call ss bs place .0 ≡ 0) where
-  there-16 : (sig : Signature) (v : Value) → read-signature ss ≡ some sig → read-booking sig bs ≡ some v → Dec (place < length bs) → take (length (part-call ss bs place .1)) (drop place bs) ≡ part-call ss bs place .1
+  there-16 : (sig : Signature) (v : Value) → read-signature ss ≡ some sig → read-booking sig bs ≡ some v → Dec (place < length bs) → There ss bs place
   there-16 sig v e r (yes l) =
       let (u, b, call, words) = part-given ss sig bs v place e r l in
       let is = ap (λ y. y .1) call in
-      ap (λ k. take k (drop place bs)) (ap length is ∙ length-code u) ∙ sym words ∙ sym is
+      let n = ap length is ∙ length-code u in
+      record {
+        words = ap (λ k. take k (drop place bs)) n ∙ sym words ∙ sym is;
+        some-word = omega (arith, n, some-size u);
+      }
   there-16 sig v e r (no l) = absurd (let q : 16 ≡ 0 = sym (ap (λ y. y .0) (part-refused-16 ss sig bs v place e r (omega arith))) ∙ z in omega (arith, q))
 
-  there-13 : (sig : Signature) (o : Option Value) → read-signature ss ≡ some sig → read-booking sig bs ≡ o → take (length (part-call ss bs place .1)) (drop place bs) ≡ part-call ss bs place .1
+  there-13 : (sig : Signature) (o : Option Value) → read-signature ss ≡ some sig → read-booking sig bs ≡ o → There ss bs place
   there-13 sig none e r = absurd (let q : 13 ≡ 0 = sym (ap (λ o. part-booking bs place o .0) r) ∙ sym (ap (λ o. part-signature o bs place .0) e) ∙ z in omega (arith, q))
   there-13 sig (some v) e r = there-16 sig v e r (decLe (suc place) (length bs))
 
-  there-1 : (o : Option Signature) → read-signature ss ≡ o → take (length (part-call ss bs place .1)) (drop place bs) ≡ part-call ss bs place .1
+  there-1 : (o : Option Signature) → read-signature ss ≡ o → There ss bs place
   there-1 none e = absurd (let q : 1 ≡ 0 = sym (ap (λ o. part-signature o bs place .0) e) ∙ z in omega (arith, q))
   there-1 (some sig) e = there-13 sig (read-booking sig bs) e refl
 
-pub no-part : (ss bs : List ℕ) (place n : ℕ) → n ≡ part-call ss bs place .0 → (n ≡ 0 → ⊥) → PartCall ss bs place n 0 0
-no-part ss bs place n e f =
-    let nothing = none-1 (read-signature ss) bs place (λ q. f (e ∙ q)) in
-    record {
-      number-is = e;
-      start-is = sym (ap (λ b. cond b place 0) (eqb-no n 0 f));
-      length-is = sym (ap length nothing);
-      words-are = sym nothing;
-    }
+module _ (ss bs : List ℕ) (place : ℕ) (p : List ℕ) (w : p ≡ part-call ss bs place .1) where
+  pub no-part : (n : ℕ) → n ≡ part-call ss bs place .0 → length p ≡ 0 → PartCall ss bs place n 0 0
+  no-part n e l =
+      let f : n ≡ 0 → ⊥ = λ q. omega (arith, l, ap length w, there-1 ss bs place (sym e ∙ q) (read-signature ss) refl .some-word) in
+      let nothing = none-1 (read-signature ss) bs place (λ q. f (e ∙ q)) in
+      record {
+        number-is = e;
+        start-is = sym (ap (λ b. cond b place 0) (eqb-no n 0 f));
+        length-is = sym (ap length nothing);
+        words-are = sym nothing;
+      }
 
-pub a-part : (ss bs : List ℕ) (place n : ℕ) (p : List ℕ) → n ≡ part-call ss bs place .0 → n ≡ 0 → p ≡ part-call ss bs place .1 → PartCall ss bs place n place (length p)
-a-part ss bs place n p e z w =
-    record {
-      number-is = e;
-      start-is = sym (ap (λ m. cond (eqb m 0) place 0) z);
-      length-is = ap length w;
-      words-are = ap (λ l. take l (drop place bs)) (ap length w) ∙ there-1 ss bs place (sym e ∙ z) (read-signature ss) refl;
-    }
+  done : (length p ≡ 0 → ⊥) → Dec (part-call ss bs place .0 ≤ 0) → part-call ss bs place .0 ≡ 0
+  done f (yes z) = omega arith
+  done f (no q) = absurd (f (ap length (w ∙ none-1 (read-signature ss) bs place (λ e. q (omega (arith, e))))))
+
+  pub a-part : (length p ≡ 0 → ⊥) → PartCall ss bs place 0 place (length p)
+  a-part f =
+      let z = done f (decLe (part-call ss bs place .0) 0) in
+      record {
+        number-is = sym z;
+        start-is = refl;
+        length-is = ap length w;
+        words-are = ap (λ l. take l (drop place bs)) (ap length w) ∙ there-1 ss bs place z (read-signature ss) refl .words;
+      }

@@ -130,17 +130,17 @@ pub extern "C" fn bellgantlet_run(signature: &[u16], tree: &[u16], booking: &[u1
 pub extern "C" fn bellgantlet_part(signature: &[u16], booking: &[u16], place: usize) -> Part
     ensures { λ r. ⌜ PartCall (now (signature .entry)) (now (booking .entry)) place (r .number) (r .start) (r .length) ⌝ }
 {
-    let n = booking::part::part_number(signature, booking, place);
-    if n != 0 {
+    let p = booking::part::part(signature, booking, place);
+    if p.len() == 0 {
+        let n = booking::part::part_number(signature, booking, place);
         return Part {
             number: n,
             start: 0,
             length: 0,
         };
     }
-    let p = booking::part::part(signature, booking, place);
     Part {
-        number: n,
+        number: 0,
         start: place,
         length: p.len(),
     }

@@ -63,6 +63,8 @@ fn times(rounds: usize) {
         run(c, rounds);
     }
     run(&long(), rounds);
+    part(&all[0], rounds);
+    part(&long(), rounds);
     for c in all.iter().filter(|c| !c.bookings.is_empty()) {
         decide(c, rounds);
     }
@@ -108,6 +110,18 @@ fn run(c: &Case, rounds: usize) {
         ("sum", Box::new(|| { black_box(next4().iter().map(|w| *w as u64).sum::<u64>()); })),
     ];
     line("run", &name, &mut parties, rounds);
+}
+
+fn part(c: &Case, rounds: usize) {
+    let (sig, b) = (&c.signature, &c.bookings[0]);
+    let p = raw::part(sig, b, 1);
+    assert!(p.number == 0 && &b[p.start..p.start + p.length] == prototype::booking::part_at(sig, b, 1));
+    let mut parties: Vec<Party> = vec![
+        ("library", Box::new(|| { black_box(raw::part(sig, b, 1)); })),
+        ("prototype", Box::new(|| { black_box(prototype::booking::part_at(sig, b, 1)); })),
+        ("sum", Box::new(|| { black_box(b.iter().map(|w| *w as u64).sum::<u64>()); })),
+    ];
+    line("part", &format!("a booking of {} words", b.len()), &mut parties, rounds);
 }
 
 fn decide(c: &Case, rounds: usize) {
@@ -189,8 +203,8 @@ fn compile(c: &Case, rounds: usize) {
 }
 
 fn stacks() {
-    println!("| table | run | decide | enter | withdraw | compile | compile of the prototype |");
-    println!("|---|---|---|---|---|---|---|");
+    println!("| table | part | run | empty | decide | enter | withdraw | compile | compile of the prototype |");
+    println!("|---|---|---|---|---|---|---|---|---|");
     for c in cases() {
         let (sig, table, n) = (&c.signature, c.table(c.rules.len()), c.rules.len());
         let fewer = c.table(n - 1);
@@ -201,8 +215,11 @@ fn stacks() {
         let tree = if c.bookings.is_empty() { vec![0] } else { compiled(&c) };
         let mut lent = fewer.clone();
         let mut out = table.clone();
+        let mut fresh = table.clone();
         let all = [
+            stack::peak(|| { black_box(raw::part(sig, &b, 0)); }),
             stack::peak(|| { black_box(raw::run(sig, &tree, &b)); }),
+            stack::peak(|| { black_box(raw::empty(&mut fresh)); }),
             stack::peak(|| { black_box(raw::decide(sig, &table, &b)); }),
             stack::peak(|| { black_box(raw::enter(sig, *number, *plan, pattern, &mut lent, &mut witness)); }),
             stack::peak(|| { black_box(raw::withdraw(sig, *number, &mut out)); }),

@@ -9,6 +9,6 @@ bellgantlet-part-spec =
     tie.close
     (tie.spec
     (λ c κs. search needs)
-    (λ c. no-part (c .before .before .before .before .args .signature .now) (c .before .before .before .before .args .booking .now) (c .before .before .before .before .args .place) _ (c .before .part-number .ensures) (c .if1 .taken))
     (λ c κs. search needs)
-    (λ c. a-part (c .before .before .before .before .before .args .signature .now) (c .before .before .before .before .before .args .booking .now) (c .before .before .before .before .before .args .place) _ _ (c .before .before .part-number .ensures) (c .before .if1 .left) (c .part .ensures)))
+    (λ c. no-part (c .before .before .before .before .before .args .signature .now) (c .before .before .before .before .before .args .booking .now) (c .before .before .before .before .before .args .place) _ (c .before .before .part .ensures) _ (c .part-number .ensures) (c .before .if1 .taken))
+    (λ c. a-part (c .before .before .before .before .args .signature .now) (c .before .before .before .before .args .booking .now) (c .before .before .before .before .args .place) _ (c .before .part .ensures) (c .if1 .left)))
