@@ -90,7 +90,7 @@ pub fn write(
     clear(cur, n);
     let s = all_rows(n);
     let most = limit(out.len());
-    let u = node(t, a, rows, n, s, cur, vis, 1, 0, 0, &mut tree[..most]);
+    let u = node(t, a, rows, n, &s, cur, vis, 1, 0, 0, &mut tree[..most]);
     if u > most {
         return Written::TooLarge;
     }
