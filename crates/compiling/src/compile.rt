@@ -6,6 +6,9 @@ use opening::open::Opened;
 use opening::open::open;
 use signature::decoded::DECODED;
 use store::layout::TABLE;
+use writer::node::CURSORS;
+use writer::node::INDEX_ROOM;
+use writer::node::VISITS;
 use writer::write::TREE_LIMIT;
 ghost use mathlib.Core.Path.{_≡_};
 ghost use Prim.Native.Nat.{_≤_};
@@ -24,13 +27,6 @@ pub struct Compiled {
     pub len: usize,
 }
 
-// For at most 256 rows: their table, cursors and visits.
-pub const INDEX_ROOM: usize = 18432;
-
-pub const CURSORS: usize = 256;
-
-pub const VISITS: usize = 16384;
-
 // Opens the table. The workspace is free again behind it, so that it does not add to the writer's.
 fn open_table(ss: &[u16], table: &[u16], t: &mut [u16], lists: &mut [u64]) -> Opened
     requires { ⌜ (length (now t) ≡ decoded-length) × (rows-room ≤ length (now lists)) ⌝ }
@@ -42,7 +38,7 @@ fn open_table(ss: &[u16], table: &[u16], t: &mut [u16], lists: &mut [u64]) -> Op
 }
 
 // The tree of the table's rules, with the writer's workspaces.
-fn write_tree(t: &[u16], table: &[u16], lists: &[u64], space: &mut [u16]) -> Compiled
+fn write_tree(t: &[u16; DECODED], table: &[u16], lists: &[u64], space: &mut [u16]) -> Compiled
     requires { ⌜ InTable (now t) (now table) (now lists) ⌝ }
     ensures { λ r. ⌜ ((g : InTable (now (t .entry)) (now (table .entry)) (now (lists .entry))) → TreeIn (tree-words default-plan (g .known .sig) (g .rs)) (now (space .entry)) (r .number) (r .len) (now (space .exit))) ⌝ }
 {
@@ -67,7 +63,7 @@ fn compile_in(
     ss: &[u16],
     table: &[u16],
     space: &mut [u16],
-    t: &mut [u16],
+    t: &mut [u16; DECODED],
     lists: &mut [u64],
 ) -> Compiled
     requires { ⌜ (length (now t) ≡ decoded-length) × (rows-room ≤ length (now lists)) ⌝ }

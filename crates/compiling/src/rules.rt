@@ -1,6 +1,10 @@
 // The tree of the rules of a sound table, whose rows are loaded.
 use crate::compile::Compiled;
 use indexing::rules::index_rules;
+use signature::decoded::DECODED;
+use writer::node::CURSORS;
+use writer::node::INDEX_ROOM;
+use writer::node::VISITS;
 use writer::write::Written;
 use writer::write::write;
 ghost use Prim.Native.Nat.{_*_, _≤_};
@@ -16,12 +20,12 @@ pub const TREE_TOO_LARGE: u16 = 14;
 
 // `rows` takes the table of the rules' rows; the slices behind it are the writer's working space.
 pub fn write_rules(
-    t: &[u16],
+    t: &[u16; DECODED],
     table: &[u16],
     lists: &[u64],
-    rows: &mut [u16],
-    cur: &mut [u8],
-    vis: &mut [u16],
+    rows: &mut [u16; INDEX_ROOM],
+    cur: &mut [u8; CURSORS],
+    vis: &mut [u16; VISITS],
     tree: &mut [u16],
     space: &mut [u16],
 ) -> Compiled

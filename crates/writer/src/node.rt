@@ -9,6 +9,7 @@ use path::cursor::lower;
 use path::cursor::raise;
 use path::cursor::real;
 use path::leaf::leaf;
+use signature::decoded::DECODED;
 use signature::decoded::arity_of;
 use signature::decoded::count_of;
 use signature::decoded::first_of;
@@ -19,6 +20,13 @@ ghost use lib.ListN.{length, replicate, drop};
 ghost use Rattle.path.specs.State.{Kept};
 ghost use Rattle.path.specs.Wrote.{Wrote};
 ghost use Rattle.writer.specs.Writer.{Given, Branching, tree-of, branch-of};
+
+// For at most 256 rows: their table, cursors and visits.
+pub const INDEX_ROOM: usize = 18432;
+
+pub const CURSORS: usize = 256;
+
+pub const VISITS: usize = 16384;
 
 const DEFAULT: u16 = 0;
 
@@ -43,20 +51,20 @@ fn skips(out: &mut [u16], b: usize)
 // Writes the tree of the rows alive, whose index is base, first in out: its length, or one more than there is room.
 // Columns in which no row has a cell are skipped without a call, so that calls nest only where some row has one.
 pub fn node(
-    t: &[u16],
+    t: &[u16; DECODED],
     a: &[u64],
-    rows: &[u16],
+    rows: &[u16; INDEX_ROOM],
     n: usize,
     s: &[u64; SET_WORDS],
-    cur: &mut [u8],
-    vis: &mut [u16],
+    cur: &mut [u8; CURSORS],
+    vis: &mut [u16; VISITS],
     ncols: usize,
     v: usize,
     base: usize,
     out: &mut [u16],
 ) -> usize
     requires { ⌜ Given (now t) (now a) (now rows) n (now s) (now cur) (now vis) ncols v base (length (now out)) ⌝ }
-    ensures { λ u. ⌜ ((g : Given (now (t .entry)) (now (a .entry)) (now (rows .entry)) n (now (s .entry)) (now (cur .entry)) (now (vis .entry)) ncols v base (length (now (out .entry)))) → (dft fuel : ℕ) → length (now (out .entry)) < fuel → Wrote (tree-of g dft fuel) base u (now (out .entry)) (now (out .exit))) × (now (cur .exit) ≡ now (cur .entry)) × Kept n (now (cur .entry)) (now (vis .entry)) (now (vis .exit)) ⌝ }
+    ensures { λ u. ⌜ ((g : Given (now (t .entry)) (now (a .entry)) (now (rows .entry)) n (now (s .entry)) (now (cur .entry)) (now (vis .entry)) ncols v base (length (now (out .entry)))) → (dft fuel : ℕ) → length (now (out .entry)) < fuel → Wrote (tree-of g dft fuel) base u (now (out .entry)) (now (out .exit))) × (now (cur .exit) ≡ now (cur .entry)) × Kept n (now (cur .entry)) (now (vis .entry)) (now (vis .exit)) × (length (now (vis .exit)) ≡ length (now (vis .entry))) ⌝ }
 {
     let b = blank(rows, n, s, cur, ncols);
     if out.len() < b {
@@ -81,20 +89,20 @@ pub fn node(
 
 // The same with the first column looked at.
 fn visit(
-    t: &[u16],
+    t: &[u16; DECODED],
     a: &[u64],
-    rows: &[u16],
+    rows: &[u16; INDEX_ROOM],
     n: usize,
     s: &[u64; SET_WORDS],
-    cur: &mut [u8],
-    vis: &mut [u16],
+    cur: &mut [u8; CURSORS],
+    vis: &mut [u16; VISITS],
     ncols: usize,
     v: usize,
     base: usize,
     out: &mut [u16],
 ) -> usize
     requires { ⌜ Given (now t) (now a) (now rows) n (now s) (now cur) (now vis) ncols v base (length (now out)) ⌝ }
-    ensures { λ u. ⌜ ((g : Given (now (t .entry)) (now (a .entry)) (now (rows .entry)) n (now (s .entry)) (now (cur .entry)) (now (vis .entry)) ncols v base (length (now (out .entry)))) → (dft fuel : ℕ) → length (now (out .entry)) < fuel → Wrote (tree-of g dft fuel) base u (now (out .entry)) (now (out .exit))) × (now (cur .exit) ≡ now (cur .entry)) × Kept n (now (cur .entry)) (now (vis .entry)) (now (vis .exit)) ⌝ }
+    ensures { λ u. ⌜ ((g : Given (now (t .entry)) (now (a .entry)) (now (rows .entry)) n (now (s .entry)) (now (cur .entry)) (now (vis .entry)) ncols v base (length (now (out .entry)))) → (dft fuel : ℕ) → length (now (out .entry)) < fuel → Wrote (tree-of g dft fuel) base u (now (out .entry)) (now (out .exit))) × (now (cur .exit) ≡ now (cur .entry)) × Kept n (now (cur .entry)) (now (vis .entry)) (now (vis .exit)) × (length (now (vis .exit)) ≡ length (now (vis .entry))) ⌝ }
 {
     if out.len() == 0 {
         return 1;
@@ -136,14 +144,14 @@ fn visit(
 
 // The node for the first column, which is of kind k and refined, and its children.
 fn branch(
-    t: &[u16],
+    t: &[u16; DECODED],
     a: &[u64],
-    rows: &[u16],
+    rows: &[u16; INDEX_ROOM],
     n: usize,
     s: &[u64; SET_WORDS],
     re: &[u64; SET_WORDS],
-    cur: &mut [u8],
-    vis: &mut [u16],
+    cur: &mut [u8; CURSORS],
+    vis: &mut [u16; VISITS],
     ncols: usize,
     v: usize,
     base: usize,
@@ -151,7 +159,7 @@ fn branch(
     k: usize,
 ) -> usize
     requires { ⌜ Branching (now t) (now a) (now rows) n (now s) (now re) (now cur) (now vis) ncols v base (length (now out)) k ⌝ }
-    ensures { λ u. ⌜ ((g : Branching (now (t .entry)) (now (a .entry)) (now (rows .entry)) n (now (s .entry)) (now (re .entry)) (now (cur .entry)) (now (vis .entry)) ncols v base (length (now (out .entry))) k) → (dft fuel : ℕ) → length (now (out .entry)) ≤ fuel → Wrote (branch-of g dft fuel) base u (now (out .entry)) (now (out .exit))) × (now (cur .exit) ≡ now (cur .entry)) × Kept n (now (cur .entry)) (now (vis .entry)) (now (vis .exit)) ⌝ }
+    ensures { λ u. ⌜ ((g : Branching (now (t .entry)) (now (a .entry)) (now (rows .entry)) n (now (s .entry)) (now (re .entry)) (now (cur .entry)) (now (vis .entry)) ncols v base (length (now (out .entry))) k) → (dft fuel : ℕ) → length (now (out .entry)) ≤ fuel → Wrote (branch-of g dft fuel) base u (now (out .entry)) (now (out .exit))) × (now (cur .exit) ≡ now (cur .entry)) × Kept n (now (cur .entry)) (now (vis .entry)) (now (vis .exit)) × (length (now (vis .exit)) ≡ length (now (vis .entry))) ⌝ }
 {
     let f = first_of(t, k);
     let m = count_of(t, k);

@@ -1,7 +1,11 @@
 // The tree of the rows of a set of rules.
+use crate::node::CURSORS;
+use crate::node::INDEX_ROOM;
+use crate::node::VISITS;
 use crate::node::node;
 use path::alive::SET_WORDS;
 use path::alive::put;
+use signature::decoded::DECODED;
 ghost use mathlib.Core.Path.{_≡_};
 ghost use mathlib.Core.Bool.{true};
 ghost use mathlib.Core.List.{_++_};
@@ -71,12 +75,12 @@ fn limit(n: usize) -> usize
 
 // Writes the tree of n rows first in out, or nothing where it is too large. The words of the rows stand in a, and the table of rows says where. The slices before out are working space.
 pub fn write(
-    t: &[u16],
+    t: &[u16; DECODED],
     a: &[u64],
-    rows: &[u16],
+    rows: &[u16; INDEX_ROOM],
     n: usize,
-    cur: &mut [u8],
-    vis: &mut [u16],
+    cur: &mut [u8; CURSORS],
+    vis: &mut [u16; VISITS],
     tree: &mut [u16],
     out: &mut [u16],
 ) -> Written
