@@ -2,9 +2,9 @@
 use crate::compile::Compiled;
 use indexing::rules::index_rules;
 use signature::decoded::DECODED;
-use writer::node::CURSORS;
-use writer::node::INDEX_ROOM;
-use writer::node::VISITS;
+use writer::write::CURSORS;
+use writer::write::INDEX_ROOM;
+use writer::write::VISITS;
 use writer::write::Written;
 use writer::write::write;
 ghost use Prim.Native.Nat.{_*_, _≤_};

@@ -1,3 +1,3 @@
 // The tree of rows: from the rows of rules to the words of their tree.
-pub mod node;
+mod node;
 pub mod write;

@@ -1,4 +1,7 @@
 // The tree of the rows that stand at their cursors. The tail behind a node is lent to the child's writer.
+use crate::write::CURSORS;
+use crate::write::INDEX_ROOM;
+use crate::write::VISITS;
 use path::alive::SET_WORDS;
 use path::alive::first_alive;
 use path::column::NO_KIND;
@@ -20,13 +23,6 @@ ghost use lib.ListN.{length, replicate, drop};
 ghost use Rattle.path.specs.State.{Kept};
 ghost use Rattle.path.specs.Wrote.{Wrote};
 ghost use Rattle.writer.specs.Writer.{Given, Branching, tree-of, branch-of};
-
-// For at most 256 rows: their table, cursors and visits.
-pub const INDEX_ROOM: usize = 18432;
-
-pub const CURSORS: usize = 256;
-
-pub const VISITS: usize = 16384;
 
 const DEFAULT: u16 = 0;
 

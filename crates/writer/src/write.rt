@@ -1,7 +1,4 @@
 // The tree of the rows of a set of rules.
-use crate::node::CURSORS;
-use crate::node::INDEX_ROOM;
-use crate::node::VISITS;
 use crate::node::node;
 use path::alive::SET_WORDS;
 use path::alive::put;
@@ -19,6 +16,13 @@ ghost use Rattle.writer.specs.Write.{GivenRows, tree-of-rows, answer, sp
 
 // The most words of a tree.
 pub const TREE_LIMIT: usize = 32768;
+
+// For at most 256 rows: their table, cursors and visits.
+pub const INDEX_ROOM: usize = 18432;
+
+pub const CURSORS: usize = 256;
+
+pub const VISITS: usize = 16384;
 
 pub enum Written {
     Done(usize),
