@@ -1,4 +1,7 @@
 // The tree of the rows that stand at their cursors. The tail behind a node is lent to the child's writer.
+use crate::write::CURSORS;
+use crate::write::INDEX_ROOM;
+use crate::write::VISITS;
 use path::alive::SET_WORDS;
 use path::alive::first_alive;
 use path::column::NO_KIND;
@@ -9,6 +12,7 @@ use path::cursor::lower;
 use path::cursor::raise;
 use path::cursor::real;
 use path::leaf::leaf;
+use signature::decoded::DECODED;
 use signature::decoded::arity_of;
 use signature::decoded::count_of;
 use signature::decoded::first_of;
@@ -43,20 +47,20 @@ fn skips(out: &mut [u16], b: usize)
 // Writes the tree of the rows alive, whose index is base, first in out: its length, or one more than there is room.
 // Columns in which no row has a cell are skipped without a call, so that calls nest only where some row has one.
 pub fn node(
-    t: &[u16],
+    t: &[u16; DECODED],
     a: &[u64],
-    rows: &[u16],
+    rows: &[u16; INDEX_ROOM],
     n: usize,
-    s: [u64; SET_WORDS],
-    cur: &mut [u8],
-    vis: &mut [u16],
+    s: &[u64; SET_WORDS],
+    cur: &mut [u8; CURSORS],
+    vis: &mut [u16; VISITS],
     ncols: usize,
     v: usize,
     base: usize,
     out: &mut [u16],
 ) -> usize
-    requires { ⌜ Given (now t) (now a) (now rows) n s (now cur) (now vis) ncols v base (length (now out)) ⌝ }
-    ensures { λ u. ⌜ ((g : Given (now (t .entry)) (now (a .entry)) (now (rows .entry)) n s (now (cur .entry)) (now (vis .entry)) ncols v base (length (now (out .entry)))) → (dft fuel : ℕ) → length (now (out .entry)) < fuel → Wrote (tree-of g dft fuel) base u (now (out .entry)) (now (out .exit))) × (now (cur .exit) ≡ now (cur .entry)) × Kept n (now (cur .entry)) (now (vis .entry)) (now (vis .exit)) ⌝ }
+    requires { ⌜ Given (now t) (now a) (now rows) n (now s) (now cur) (now vis) ncols v base (length (now out)) ⌝ }
+    ensures { λ u. ⌜ ((g : Given (now (t .entry)) (now (a .entry)) (now (rows .entry)) n (now (s .entry)) (now (cur .entry)) (now (vis .entry)) ncols v base (length (now (out .entry)))) → (dft fuel : ℕ) → length (now (out .entry)) < fuel → Wrote (tree-of g dft fuel) base u (now (out .entry)) (now (out .exit))) × (now (cur .exit) ≡ now (cur .entry)) × Kept n (now (cur .entry)) (now (vis .entry)) (now (vis .exit)) × (length (now (vis .exit)) ≡ length (now (vis .entry))) ⌝ }
 {
     let b = blank(rows, n, s, cur, ncols);
     if out.len() < b {
@@ -81,20 +85,20 @@ pub fn node(
 
 // The same with the first column looked at.
 fn visit(
-    t: &[u16],
+    t: &[u16; DECODED],
     a: &[u64],
-    rows: &[u16],
+    rows: &[u16; INDEX_ROOM],
     n: usize,
-    s: [u64; SET_WORDS],
-    cur: &mut [u8],
-    vis: &mut [u16],
+    s: &[u64; SET_WORDS],
+    cur: &mut [u8; CURSORS],
+    vis: &mut [u16; VISITS],
     ncols: usize,
     v: usize,
     base: usize,
     out: &mut [u16],
 ) -> usize
-    requires { ⌜ Given (now t) (now a) (now rows) n s (now cur) (now vis) ncols v base (length (now out)) ⌝ }
-    ensures { λ u. ⌜ ((g : Given (now (t .entry)) (now (a .entry)) (now (rows .entry)) n s (now (cur .entry)) (now (vis .entry)) ncols v base (length (now (out .entry)))) → (dft fuel : ℕ) → length (now (out .entry)) < fuel → Wrote (tree-of g dft fuel) base u (now (out .entry)) (now (out .exit))) × (now (cur .exit) ≡ now (cur .entry)) × Kept n (now (cur .entry)) (now (vis .entry)) (now (vis .exit)) ⌝ }
+    requires { ⌜ Given (now t) (now a) (now rows) n (now s) (now cur) (now vis) ncols v base (length (now out)) ⌝ }
+    ensures { λ u. ⌜ ((g : Given (now (t .entry)) (now (a .entry)) (now (rows .entry)) n (now (s .entry)) (now (cur .entry)) (now (vis .entry)) ncols v base (length (now (out .entry)))) → (dft fuel : ℕ) → length (now (out .entry)) < fuel → Wrote (tree-of g dft fuel) base u (now (out .entry)) (now (out .exit))) × (now (cur .exit) ≡ now (cur .entry)) × Kept n (now (cur .entry)) (now (vis .entry)) (now (vis .exit)) × (length (now (vis .exit)) ≡ length (now (vis .entry))) ⌝ }
 {
     if out.len() == 0 {
         return 1;
@@ -109,8 +113,8 @@ fn visit(
     }
     let mut re = [0; SET_WORDS];
     real(rows, n, s, cur, ncols, &mut re);
-    let k = column(t, a, rows, n, re, cur);
-    raise(cur, vis, n, re, v);
+    let k = column(t, a, rows, n, &re, cur);
+    raise(cur, vis, n, &re, v);
     if k == NO_KIND {
         out[0] = SKIP;
         let u = node(
@@ -126,32 +130,32 @@ fn visit(
             base + 1,
             &mut out[1..],
         );
-        lower(cur, n, re);
+        lower(cur, n, &re);
         return u + 1;
     }
-    let u = branch(t, a, rows, n, s, re, cur, vis, ncols, v, base, out, k);
-    lower(cur, n, re);
+    let u = branch(t, a, rows, n, s, &re, cur, vis, ncols, v, base, out, k);
+    lower(cur, n, &re);
     u
 }
 
 // The node for the first column, which is of kind k and refined, and its children.
 fn branch(
-    t: &[u16],
+    t: &[u16; DECODED],
     a: &[u64],
-    rows: &[u16],
+    rows: &[u16; INDEX_ROOM],
     n: usize,
-    s: [u64; SET_WORDS],
-    re: [u64; SET_WORDS],
-    cur: &mut [u8],
-    vis: &mut [u16],
+    s: &[u64; SET_WORDS],
+    re: &[u64; SET_WORDS],
+    cur: &mut [u8; CURSORS],
+    vis: &mut [u16; VISITS],
     ncols: usize,
     v: usize,
     base: usize,
     out: &mut [u16],
     k: usize,
 ) -> usize
-    requires { ⌜ Branching (now t) (now a) (now rows) n s re (now cur) (now vis) ncols v base (length (now out)) k ⌝ }
-    ensures { λ u. ⌜ ((g : Branching (now (t .entry)) (now (a .entry)) (now (rows .entry)) n s re (now (cur .entry)) (now (vis .entry)) ncols v base (length (now (out .entry))) k) → (dft fuel : ℕ) → length (now (out .entry)) ≤ fuel → Wrote (branch-of g dft fuel) base u (now (out .entry)) (now (out .exit))) × (now (cur .exit) ≡ now (cur .entry)) × Kept n (now (cur .entry)) (now (vis .entry)) (now (vis .exit)) ⌝ }
+    requires { ⌜ Branching (now t) (now a) (now rows) n (now s) (now re) (now cur) (now vis) ncols v base (length (now out)) k ⌝ }
+    ensures { λ u. ⌜ ((g : Branching (now (t .entry)) (now (a .entry)) (now (rows .entry)) n (now (s .entry)) (now (re .entry)) (now (cur .entry)) (now (vis .entry)) ncols v base (length (now (out .entry))) k) → (dft fuel : ℕ) → length (now (out .entry)) ≤ fuel → Wrote (branch-of g dft fuel) base u (now (out .entry)) (now (out .exit))) × (now (cur .exit) ≡ now (cur .entry)) × Kept n (now (cur .entry)) (now (vis .entry)) (now (vis .exit)) × (length (now (vis .exit)) ≡ length (now (vis .entry))) ⌝ }
 {
     let f = first_of(t, k);
     let m = count_of(t, k);
@@ -172,7 +176,7 @@ fn branch(
             a,
             rows,
             n,
-            x,
+            &x,
             cur,
             vis,
             w,
