@@ -497,8 +497,46 @@ fn limits(c: &mut Compare, r: &mut Random) {
     for n in [0, 1, 4288, 4289, 4290] {
         c.empty(&mut vec![7; n]);
     }
+    tables_at_limits(c);
     case_t(c);
     let _ = r;
+}
+
+/// Tables by hand: 63 to 66 rules that take nothing; 64 rules that weigh 255 to 257 in all; numbers up to 1,000; a table that is full to its last word.
+fn tables_at_limits(c: &mut Compare) {
+    let mut wide = vec![67u16, 0, 2, 1, 2, 1, 4, 1, 1, 1, 1, 1, 0];
+    wide.extend([2, 0].repeat(64));
+    let stored = |rules: &[(u16, Vec<u16>)]| {
+        let mut t = vec![rules.len() as u16];
+        for (n, p) in rules {
+            t.extend([*n, 5, p.len() as u16]);
+            t.extend(p);
+        }
+        t.resize(TABLE.max(t.len()), 0);
+        t
+    };
+    let mut tables = vec![];
+    for n in 63..=66u16 {
+        tables.push(stored(&(1..=n).map(|i| (i, vec![259])).collect::<Vec<_>>()));
+    }
+    for more in 0..=2 {
+        // weights of 4, one of them 3, 4 or 5
+        let weighs = |i: u16| (0..if i == 9 { 2 + more } else { 3 }).flat_map(|_| [257, 2]).chain([258]).collect::<Vec<u16>>();
+        tables.push(stored(&(0..64).map(|i| (1 + i, [vec![0], weighs(i), vec![3 + i]].concat())).collect::<Vec<_>>()));
+    }
+    for n in [998, 999, 1000] {
+        tables.push(stored(&[(n, vec![258])]));
+    }
+    for n in [63, 64, 65] {
+        let long = |i: u16, n: usize| [vec![0], vec![260; n - 3], vec![258, 3 + i]].concat();
+        tables.push(stored(&(0..64).map(|i| (1 + i, long(i, if i == 63 { n } else { 64 }))).collect::<Vec<_>>()));
+    }
+    for table in tables {
+        c.decide(&wide, &table, &[0, 2, 3]);
+        c.withdraw(&wide, 1, &mut table.clone());
+        c.compile(&wide, &table, &[0; 3000]).ok();
+        c.enter(&wide, 997, 1, &[259], &mut table.clone(), 4096);
+    }
 }
 
 /// A value of exactly n words.
