@@ -14,7 +14,7 @@ pub const SET_WORDS: usize = 4;
 
 const WORD: usize = 64;
 
-pub fn has(s: [u64; SET_WORDS], r: usize) -> bool
+pub(crate) fn has(s: [u64; SET_WORDS], r: usize) -> bool
     requires { ⌜ r < row-limit ⌝ }
     ensures { λ b. ⌜ b ≡ member s r ⌝ }
 {

@@ -81,7 +81,7 @@ fn bind(rule: u16, plan: u16, count: usize, pairs: &[u16], visits: &[u16]) -> Ra
 }
 
 // A hit leaf, with no booking left.
-pub fn hit(t: &[u16], visits: &[u16]) -> Ran
+pub(crate) fn hit(t: &[u16], visits: &[u16]) -> Ran
     ensures { λ r. ⌜ outcome r ≡ run-at (hit-at (now (t .entry)) (now (visits .entry))) ⌝ }
 {
     if t.len() < HIT_WORDS {

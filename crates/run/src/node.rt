@@ -60,7 +60,7 @@ fn follow(table: &[u16], t: &[u16], node: usize, c: usize) -> usize
     d
 }
 
-pub fn at_node(table: &[u16], t: &[u16], node: usize, b: &[u16]) -> Step
+pub(crate) fn at_node(table: &[u16], t: &[u16], node: usize, b: &[u16]) -> Step
     requires { ⌜ Parts (now table) (now b) ⌝ }
     ensures { λ r. ⌜ ((p : Parts (now (table .entry)) (now (b .entry))) → r ≡ step-at (p .known .sig) (now (t .entry)) node (p .values)) ⌝ }
 {
