@@ -79,7 +79,7 @@ fn own_set(w: Word, plus: bool) -> u64
         Word::Wild => 0,
         Word::Absurd => 0,
         Word::Not => 0,
-        Word::Var(x) => signature::set::with(0, x as u32),
+        Word::Var(x) => sets::set::with(0, x as u32),
         Word::Other => 0,
     }
 }
@@ -89,7 +89,7 @@ fn goes_with(joint: Joint, j: u16, set: u64, m: u64) -> bool
     ensures { λ r. ⌜ ((xs ys : List ℕ) → Holds set xs → Holds m ys → r ≡ joins joint j xs ys) ⌝ }
 {
     match joint {
-        Joint::Apart => signature::set::meet(set, m) == 0,
+        Joint::Apart => sets::set::meet(set, m) == 0,
         Joint::Alike => {
             if j == 0 {
                 return true;
@@ -119,7 +119,7 @@ fn linear_at(t: &[u16], p: &[u16], plus: bool) -> Part
         if !goes_with(joint, i, set, m) {
             return Part::NotLinear;
         }
-        set = signature::set::join(set, m);
+        set = sets::set::join(set, m);
         at += used;
         i += 1;
     }

@@ -1,10 +1,10 @@
 // Least values.
 use cell::cell::KIND_TAG;
+use sets::set::lowest;
 use signature::decoded::argument_of;
 use signature::decoded::arity_of;
 use signature::decoded::first_of;
 use signature::decoded::least_head_of;
-use signature::set::lowest;
 ghost use mathlib.Core.Path.{_≡_};
 ghost use mathlib.Core.List.{_∷_};
 ghost use Prim.Native.Nat.{_<_, _≤_, _-_};

@@ -6,7 +6,7 @@ ghost use Rattle.tree.specs.Answer.{no-rule};
 ghost use Rattle.tree.specs.Limits.{default-plan};
 ghost use Rattle.tree.specs.RunCall.{refusal, run-at};
 ghost use Rattle.run.specs.Outcome.{outcome};
-ghost use Rattle.run.specs.Step.{hit-at, hit-binds};
+ghost use Rattle.run.specs.Hit.{hit-at, hit-binds};
 
 // The tree is broken.
 pub const TREE_BROKEN: u16 = 15;

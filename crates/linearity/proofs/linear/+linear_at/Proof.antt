@@ -21,7 +21,7 @@ use Rattle.linearity.proofs.linear.own_set.Reads as own-set-reads
 use Rattle.pattern.proofs.token.side_behind.Reads as side-behind-reads
 use Rattle.pattern.proofs.token.classify.Reads as classify-reads
 use Rattle.pattern.proofs.token.parts.Reads as parts-reads
-use Rattle.signature.proofs.set.join.Reads as join-reads
+use Rattle.sets.proofs.set.join.Reads as join-reads
 use Rattle.linearity.proofs.linear.+linear_at.{statement}
 use Rattle.linearity.proofs.linear.+linear_at.Tie.{close}
 
