@@ -1,4 +1,4 @@
--- The rows of a sound table's rules: their lines in the matrix, how many, how long, and that they can be written.
+-- The rows of a sound table's rules: their lines in the matrix, how many, and that they can be written.
 use mathlib.Core.Path.{_≡_, refl, sym, ap, ap₂, subst, _∙_}
 use mathlib.Core.List.{List, [], _∷_, _++_, map, map-append}
 use mathlib.Core.Option.{Option, none, some}
@@ -31,25 +31,20 @@ use Rattle.table.specs.Matrix.{lines, lines-by}
 use Rattle.table.specs.Rule.{Rule, total-weight}
 use Rattle.table.specs.Sound.{no-shared}
 use Rattle.path.specs.Standing.{Good}
-use Rattle.writer.specs.Write.{RuleRow, line-of, rows-code, Fit}
+use Rattle.writer.specs.Write.{RuleRow, line-of, Fit}
 use Rattle.writer.proofs.RowsFit.{rows-fit}
 use Rattle.loading.specs.Lists.{rows-by, rows-for, lists-for, list-for}
 use Rattle.loading.specs.Load.{patterns, tests}
-use Rattle.flattening.specs.Flat.{rule-rows, rows-all}
-use Rattle.flattening.proofs.RuleRows.{each-append, each-map}
-
--- a row of a rule
-abbrev row-of : Rule → Row → RuleRow
-row-of r w = record { rule = r .number; plan = r .plan; row = w }
+use Rattle.indexing.specs.Indexing.{row-of, rule-rows, rows-all}
 
 module _ (sig : Signature) where
-  rule-lines : (r : Rule) (o : Option Pattern) → map line-of (map (row-of r) (rows-by sig o)) ≡ lines-by sig r o
+  rule-lines : (r : Rule) (o : Option Pattern) → map line-of (map (row-of (r .number) (r .plan)) (rows-by sig o)) ≡ lines-by sig r o
   rule-lines r none = refl
   rule-lines r (some p) = go (rows-plus sig 0 p)
     where
-      go : (ws : List Row) → map line-of (map (row-of r) ws) ≡ map (λ w. record { rule = r .number; plan = r .plan; binds = []; cells = rcons w rnil }) ws
+      go : (ws : List Row) → map line-of (map (row-of (r .number) (r .plan)) ws) ≡ map (λ w. record { rule = r .number; plan = r .plan; binds = []; cells = rcons w rnil }) ws
       go [] = refl
-      go (w ∷ ws) = ap (λ (z : List Line). line-of (row-of r w) ∷ z) (go ws)
+      go (w ∷ ws) = ap (λ (z : List Line). line-of (row-of (r .number) (r .plan) w) ∷ z) (go ws)
 
   -- their lines in the matrix, in the order of the table
   pub lines-are : (rs : List Rule) → map line-of (rows-all sig rs) ≡ lines sig rs
@@ -59,21 +54,11 @@ module _ (sig : Signature) where
   -- no more rows than the rules weigh
   pub few-rows : (rs : List Rule) → length (rows-all sig rs) ≤ total-weight sig rs
   few-rows [] = omega arith
-  few-rows (r ∷ rs) = omega (arith, length-append (rule-rows sig r) (rows-all sig rs), length-map (rows-for sig (r .pattern)) (row-of r), go (read-pattern sig (r .pattern)), few-rows rs)
+  few-rows (r ∷ rs) = omega (arith, length-append (rule-rows sig r) (rows-all sig rs), length-map (rows-for sig (r .pattern)) (row-of (r .number) (r .plan)), go (read-pattern sig (r .pattern)), few-rows rs)
     where
       go : (o : Option Pattern) → length (rows-by sig o) ≤ weight-by o
       go none = omega arith
       go (some p) = plus-count sig p 0
-
-  -- the lists have an end and a number of words more for each rule
-  pub words-less : (rs : List Rule) → length (rows-code sig (rows-all sig rs)) + 2 * length rs ≡ length (lists-for sig (patterns rs))
-  words-less [] = refl
-  words-less (r ∷ rs) =
-      let E = entries (kinds-of sig) 0 (rows-for sig (r .pattern)) in
-      let e : rows-code sig (rows-all sig (r ∷ rs)) ≡ E ++ rows-code sig (rows-all sig rs) =
-      each-append (λ (x : RuleRow). code (kinds-of sig) (x .row) 0) (rule-rows sig r) (rows-all sig rs)
-      ∙ ap (λ (z : List ℕ). z ++ rows-code sig (rows-all sig rs)) (each-map (row-of r) (λ (x : RuleRow). code (kinds-of sig) (x .row) 0) (rows-for sig (r .pattern))) in
-      omega (arith, ap length e, length-append E (rows-code sig (rows-all sig rs)), length-append E (0 ∷ []), length-append (list-for sig (r .pattern)) (lists-for sig (patterns rs)), words-less rs)
 
 first-of : (a b c : Bool) → (a && b && c) ≡ true → a ≡ true
 first-of true b c e = refl
@@ -85,8 +70,8 @@ module _ {t : List ℕ} (g : Known t) where
   passed-fit r h =
       let w = pattern-words (g .sig) (r .pattern) (h .pat) (h .read) in
       let n : length (pattern-code (h .pat)) ≤ pattern-limit = omega (arith, ap length (w .is-code), w .at-most) in
-      subst (λ (o : Option Pattern). All (Fit (g .sig) t) (map (row-of r) (rows-by (g .sig) o))) (sym (h .read))
-      (all-map (row-of r) (λ (x : Row) (k : Good (g .sig) t x 0 × (length (code (kinds-of (g .sig)) x 0) ≤ 3 * pattern-limit)). record { good = k .0; short = k .1 }) (rows-fit g (h .pat) (w .well-formed) (first-kind g) (h .linear) n))
+      subst (λ (o : Option Pattern). All (Fit (g .sig) t) (map (row-of (r .number) (r .plan)) (rows-by (g .sig) o))) (sym (h .read))
+      (all-map (row-of (r .number) (r .plan)) (λ (x : Row) (k : Good (g .sig) t x 0 × (length (code (kinds-of (g .sig)) x 0) ≤ 3 * pattern-limit)). record { good = k .0; short = k .1 }) (rows-fit g (h .pat) (w .well-formed) (first-kind g) (h .linear) n))
 
   all-fit : (rs : List Rule) → all (λ r. eqb (refusal-of-pattern (g .sig) (r .pattern)) 0) rs ≡ true → All (Fit (g .sig) t) (rows-all (g .sig) rs)
   all-fit [] e = none-left

@@ -5,7 +5,7 @@ use mathlib.Core.Bool.{Bool, true, false, not, cond, _&&_}
 use Prim.Native.Nat.{ℕ, _*_, _≤_, _<_}
 use native.Mathlib.Omega.{arith}
 use lib.Dec.{leb, ltb}
-use lib.ListN.{length, drop, take-append-drop}
+use lib.ListN.{length, drop}
 use Rattle.signature.specs.Lists.{_or-else_}
 use Rattle.signature.proofs.Tests.{le-of, lt-of-not, ltb-yes, ltb-no}
 use Rattle.tree.specs.Limits.{tree-limit, default-plan}
@@ -18,15 +18,16 @@ use Rattle.table.specs.Matrix.{tree, tree-words}
 use Rattle.table.specs.Rule.{total-weight}
 use Rattle.store.specs.Laid.{Holds}
 use Rattle.path.specs.Alive.{row-limit}
-use Rattle.writer.specs.Write.{GivenRows, rows-code, fits, answer, space-after, tree-of-rows, line-of}
+use Rattle.path.specs.State.{row-stride}
+use Rattle.writer.specs.Write.{GivenRows, fits, answer, space-after, tree-of-rows, line-of}
 use Rattle.writer.specs.declared.write.Written.{Written}
 use Rattle.writer.specs.declared.write.Written.the-variants.{Done, TooLarge}
 use Rattle.loading.specs.Load.{tests}
 use Rattle.loading.proofs.Loads.{sound-holds}
 use Rattle.loading.proofs.Tested.{tests-light}
-use Rattle.flattening.specs.Flat.{rows-all, GivenFlat, Flat}
-use Rattle.compiling.specs.Compile.{InTable, TreeIn, words-room}
-use Rattle.compiling.proofs.RowsOf.{lines-are, few-rows, words-less, rows-are-fit}
+use Rattle.indexing.specs.Indexing.{rows-all, GivenRules, RulesIndexed}
+use Rattle.compiling.specs.Compile.{InTable, TreeIn}
+use Rattle.compiling.proofs.RowsOf.{lines-are, few-rows, rows-are-fit}
 
 -- ---- the answer of the writer as the call's
 
@@ -92,48 +93,41 @@ module _ {t table lists : List ℕ} (g : InTable t table lists) where
   pub few : length (rows-all (g .known .sig) (g .rs)) ≤ row-limit
   few = omega (arith, few-rows (g .known .sig) (g .rs), light)
 
-  short : length (rows-code (g .known .sig) (rows-all (g .known .sig) (g .rs))) ≤ words-room
-  short = omega (arith, words-less (g .known .sig) (g .rs), g .ready .used-is, g .ready .total-is, g .ready .small, light)
-
-  pub given-flat : (na nh : ℕ) → words-room ≤ na → 2 * row-limit ≤ nh → GivenFlat table lists na nh
-  given-flat na nh x y = record {
-    sig = g .known .sig;
+  pub given-rules : (room : ℕ) → row-stride * row-limit ≤ room → GivenRules t table lists room
+  given-rules room x = record {
+    known = g .known;
     rs = g .rs;
     holds = holds;
     rest = g .ready .rest;
     code-is = g .ready .code-is;
-    room = omega (arith, short, x);
-    held-room = omega (arith, few, y);
+    near = omega (arith, g .ready .used-is, g .ready .total-is, g .ready .small, light, holds .few);
+    fit = rows-are-fit (g .known) (g .rs) good;
+    room-is = omega (arith, few, x);
   }
 
-  module _ (na nh : ℕ) (x : words-room ≤ na) (y : 2 * row-limit ≤ nh) (n : ℕ) (a held : List ℕ) (gave : (q : GivenFlat table lists na nh) → Flat (q .sig) (q .rs) n a held) where
-    flat : Flat (g .known .sig) (g .rs) n a held
-    unfolding given-flat
-    flat = gave (given-flat na nh x y)
+  module _ (room : ℕ) (x : row-stride * row-limit ≤ room) (n : ℕ) (tab : List ℕ) (gave : (q : GivenRules t table lists room) → RulesIndexed (q .known .sig) t lists (q .rs) n tab) where
+    indexed : RulesIndexed (g .known .sig) t lists (g .rs) n tab
+    unfolding given-rules
+    indexed = gave (given-rules room x)
 
     pub many : n ≤ row-limit
-    many = omega (arith, flat .many, few)
+    many = omega (arith, indexed .many, few)
 
-    pub given-rows : GivenRows t a held n
-    given-rows =
-        let C = rows-code (g .known .sig) (rows-all (g .known .sig) (g .rs)) in
-        record {
-          known = g .known;
-          rows = rows-all (g .known .sig) (g .rs);
-          count = flat .many;
-          few = many;
-          rest = drop (length C) a;
-          code-is = sym (take-append-drop (length C) a) ∙ ap (λ (z : List ℕ). z ++ drop (length C) a) (flat .code-is);
-          rest-held = drop (2 * n) held;
-          held-is = sym (take-append-drop (2 * n) held) ∙ ap (λ (z : List ℕ). z ++ drop (2 * n) held) (flat .held-is);
-          fit = rows-are-fit (g .known) (g .rs) good;
-        }
+    pub given-rows : GivenRows t lists tab n
+    given-rows = record {
+      known = g .known;
+      rows = rows-all (g .known .sig) (g .rs);
+      count = indexed .many;
+      few = many;
+      fit = rows-are-fit (g .known) (g .rs) good;
+      placed = indexed .placed;
+    }
 
     tree-is : layout (compile default-plan visit-bound (g .known .sig) (0 ∷ []) (map line-of (rows-all (g .known .sig) (g .rs))) 0) 0 ≡ tree-words default-plan (g .known .sig) (g .rs)
     unfolding tree-words tree
     tree-is = ap (λ (ls : List Line). layout (compile default-plan visit-bound (g .known .sig) (0 ∷ []) ls 0) 0) (lines-are (g .known .sig) (g .rs))
 
-    pub written : (w : Written) (space space′ : List ℕ) → ((q : GivenRows t a held n) (dft fuel : ℕ) → tree-limit < fuel → (w ≡ answer (tree-of-rows q dft fuel) space) × (space′ ≡ space-after (tree-of-rows q dft fuel) space)) → (v : Written) → w ≡ v → TreeIn (tree-words default-plan (g .known .sig) (g .rs)) space (number-by v) (length-by v) space′
+    pub written : (w : Written) (space space′ : List ℕ) → ((q : GivenRows t lists tab n) (dft fuel : ℕ) → tree-limit < fuel → (w ≡ answer (tree-of-rows q dft fuel) space) × (space′ ≡ space-after (tree-of-rows q dft fuel) space)) → (v : Written) → w ≡ v → TreeIn (tree-words default-plan (g .known .sig) (g .rs)) space (number-by v) (length-by v) space′
     unfolding given-rows
     written w space space′ h v e =
         let z = h given-rows default-plan visit-bound (omega arith) in

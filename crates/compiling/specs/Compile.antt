@@ -3,19 +3,13 @@ use mathlib.Core.Path.{_≡_}
 use mathlib.Core.List.{List, _++_}
 use mathlib.Core.Option.{some}
 use mathlib.Core.Bool.{cond}
-use Prim.Native.Nat.{ℕ, _*_}
+use Prim.Native.Nat.{ℕ}
 use lib.ListN.{length, drop}
 use Rattle.signature.specs.Decoded.{Known}
 use Rattle.table.specs.Calls.{too-large}
-use Rattle.table.specs.Limits.{weight-limit}
 use Rattle.table.specs.Rule.{Rule}
 use Rattle.table.specs.Sound.{sound}
-use Rattle.loading.specs.Add.{row-words}
 use Rattle.loading.specs.Load.{Ready}
-
--- words of the rows of all rules of a table
-abbrev pub words-room : ℕ
-words-room = weight-limit * row-words
 
 -- a sound table under the signature whose table is t, and the lists of its rules' rows
 pub record InTable (t table lists : List ℕ) : Type 0 where

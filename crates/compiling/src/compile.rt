@@ -1,5 +1,4 @@
 // The call compile (1 to 3, 14).
-use crate::rules::Compiled;
 use crate::rules::write_rules;
 use builder::build::ROW_ROOM;
 use loading::add::ROWS_ROOM;
@@ -9,54 +8,75 @@ use signature::decoded::DECODED;
 use store::layout::TABLE;
 use writer::write::TREE_LIMIT;
 ghost use mathlib.Core.Path.{_≡_};
-ghost use Prim.Native.Nat.{_*_, _≤_};
+ghost use Prim.Native.Nat.{_≤_};
 ghost use lib.ListN.{length};
 ghost use Rattle.signature.specs.Decoded.{decoded-length};
-ghost use Rattle.pattern.specs.Limits.{pattern-limit};
-ghost use Rattle.builder.specs.Build.{row-room};
 ghost use Rattle.loading.specs.Add.{rows-room};
-ghost use Rattle.tree.specs.Limits.{tree-limit};
-ghost use Rattle.path.specs.Alive.{row-limit};
-ghost use Rattle.path.specs.State.{row-stride};
-ghost use Rattle.table.specs.Calls.{Compile};
-ghost use Rattle.compiling.specs.Compile.{words-room};
+ghost use Rattle.opening.specs.Open.{OpenedAs};
+ghost use Rattle.tree.specs.Limits.{default-plan};
+ghost use Rattle.table.specs.Calls.{Compile, long-table};
+ghost use Rattle.table.specs.Matrix.{tree-words};
+ghost use Rattle.compiling.specs.Compile.{InTable, TreeIn};
 
-// At most 256 rows: their words, of 193 each; number and plan of their rules; the writer's table of rows, cursors and visits.
-pub const WORDS_ROOM: usize = 49408;
+// The call's number, and the tree's length in words.
+pub struct Compiled {
+    pub number: u16,
+    pub len: usize,
+}
 
-pub const HELD_ROOM: usize = 512;
-
+// For at most 256 rows: their table, cursors and visits.
 pub const INDEX_ROOM: usize = 18432;
 
 pub const CURSORS: usize = 256;
 
 pub const VISITS: usize = 16384;
 
-// The call over lent workspaces.
+// Opens the table. The workspace is free again behind it, so that it does not add to the writer's.
+fn open_table(ss: &[u16], table: &[u16], t: &mut [u16], lists: &mut [u64]) -> Opened
+    requires { ⌜ (length (now t) ≡ decoded-length) × (rows-room ≤ length (now lists)) ⌝ }
+    ensures { λ o. ⌜ OpenedAs (now (ss .entry)) (long-table (now (table .entry))) (now (table .entry)) o (now (t .exit)) (now (lists .exit)) ⌝ }
+{
+    let mut work = [0u64; ROW_ROOM];
+    let long = table.len() >= TABLE;
+    open(ss, long, table, t, lists, &mut work)
+}
+
+// The tree of the table's rules, with the writer's workspaces.
+fn write_tree(t: &[u16], table: &[u16], lists: &[u64], space: &mut [u16]) -> Compiled
+    requires { ⌜ InTable (now t) (now table) (now lists) ⌝ }
+    ensures { λ r. ⌜ ((g : InTable (now (t .entry)) (now (table .entry)) (now (lists .entry))) → TreeIn (tree-words default-plan (g .known .sig) (g .rs)) (now (space .entry)) (r .number) (r .len) (now (space .exit))) ⌝ }
+{
+    let mut rows = [0u16; INDEX_ROOM];
+    let mut cur = [0u8; CURSORS];
+    let mut vis = [0u16; VISITS];
+    let mut tree = [0u16; TREE_LIMIT];
+    write_rules(
+        t,
+        table,
+        lists,
+        &mut rows,
+        &mut cur,
+        &mut vis,
+        &mut tree,
+        space,
+    )
+}
+
+// The call over a lent signature's table and lists of rows.
 fn compile_in(
     ss: &[u16],
     table: &[u16],
     space: &mut [u16],
     t: &mut [u16],
     lists: &mut [u64],
-    work: &mut [u64],
-    a: &mut [u64],
-    held: &mut [u16],
-    rows: &mut [u16],
-    cur: &mut [u8],
-    vis: &mut [u16],
-    tree: &mut [u16],
 ) -> Compiled
-    requires { ⌜ (length (now t) ≡ decoded-length) × (rows-room ≤ length (now lists)) × (row-room ≤ length (now work)) × (words-room ≤ length (now a)) × (2 * row-limit ≤ length (now held)) × (row-stride * row-limit ≤ length (now rows)) × (row-limit ≤ length (now cur)) × (pattern-limit * row-limit ≤ length (now vis)) × (tree-limit ≤ length (now tree)) ⌝ }
+    requires { ⌜ (length (now t) ≡ decoded-length) × (rows-room ≤ length (now lists)) ⌝ }
     ensures { λ r. ⌜ Compile (now (ss .entry)) (now (table .entry)) (now (space .entry)) (r .number) (r .len) (now (space .exit)) ⌝ }
 {
-    let long = table.len() >= TABLE;
-    let o = open(ss, long, table, t, lists, work);
+    let o = open_table(ss, table, t, lists);
     match o {
         Opened::Refused(n) => Compiled { number: n, len: 0 },
-        Opened::Begun(_used, _total) => {
-            write_rules(t, table, lists, a, held, rows, cur, vis, tree, space)
-        }
+        Opened::Begun(_used, _total) => write_tree(t, table, lists, space),
     }
 }
 
@@ -65,25 +85,5 @@ pub fn compile(ss: &[u16], table: &[u16], space: &mut [u16]) -> Compiled
 {
     let mut t = [0u16; DECODED];
     let mut lists = [0u64; ROWS_ROOM];
-    let mut work = [0u64; ROW_ROOM];
-    let mut a = [0u64; WORDS_ROOM];
-    let mut held = [0u16; HELD_ROOM];
-    let mut rows = [0u16; INDEX_ROOM];
-    let mut cur = [0u8; CURSORS];
-    let mut vis = [0u16; VISITS];
-    let mut tree = [0u16; TREE_LIMIT];
-    compile_in(
-        ss,
-        table,
-        space,
-        &mut t,
-        &mut lists,
-        &mut work,
-        &mut a,
-        &mut held,
-        &mut rows,
-        &mut cur,
-        &mut vis,
-        &mut tree,
-    )
+    compile_in(ss, table, space, &mut t, &mut lists)
 }

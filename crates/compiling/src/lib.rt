@@ -1,3 +1,3 @@
 // The call compile: the tree of the rules in force, written in the lent space.
 pub mod compile;
-pub mod rules;
+mod rules;

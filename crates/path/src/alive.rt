@@ -14,9 +14,9 @@ pub const SET_WORDS: usize = 4;
 
 const WORD: usize = 64;
 
-pub(crate) fn has(s: [u64; SET_WORDS], r: usize) -> bool
+pub(crate) fn has(s: &[u64; SET_WORDS], r: usize) -> bool
     requires { ⌜ r < row-limit ⌝ }
-    ensures { λ b. ⌜ b ≡ member s r ⌝ }
+    ensures { λ b. ⌜ b ≡ member (now (s .entry)) r ⌝ }
 {
     has_bit(s[r / WORD], (r % WORD) as u32)
 }
@@ -46,9 +46,9 @@ fn lesser(a: usize, b: usize) -> usize
 }
 
 // The first row of n that is in the set, or n.
-pub fn first_alive(s: [u64; SET_WORDS], n: usize) -> usize
+pub fn first_alive(s: &[u64; SET_WORDS], n: usize) -> usize
     requires { ⌜ n ≤ row-limit ⌝ }
-    ensures { λ r. ⌜ FirstAlive s n r ⌝ }
+    ensures { λ r. ⌜ FirstAlive (now (s .entry)) n r ⌝ }
 {
     let mut i = 0;
     while i < SET_WORDS {

@@ -63,12 +63,12 @@ fn row_kind(
     a: &[u64],
     rows: &[u16],
     n: usize,
-    re: [u64; SET_WORDS],
+    re: &[u64; SET_WORDS],
     cur: &[u8],
     r: usize,
 ) -> usize
-    requires { ⌜ Looking (now t) (now a) (now rows) n re (now cur) × (r < n) ⌝ }
-    ensures { λ x. ⌜ ((g : Looking (now (t .entry)) (now (a .entry)) (now (rows .entry)) n re (now (cur .entry))) → RowSaw (member re r) (g .known .sig) (g .k) (tag-at (now (a .entry)) (now (rows .entry)) (now (cur .entry)) r) (allowed-at (now (a .entry)) (now (rows .entry)) (now (cur .entry)) r) x) ⌝ }
+    requires { ⌜ Looking (now t) (now a) (now rows) n (now re) (now cur) × (r < n) ⌝ }
+    ensures { λ x. ⌜ ((g : Looking (now (t .entry)) (now (a .entry)) (now (rows .entry)) n (now (re .entry)) (now (cur .entry))) → RowSaw (member (now (re .entry)) r) (g .known .sig) (g .k) (tag-at (now (a .entry)) (now (rows .entry)) (now (cur .entry)) r) (allowed-at (now (a .entry)) (now (rows .entry)) (now (cur .entry)) r) x) ⌝ }
 {
     if has(re, r) {
         let at = start_of(rows, r) as usize + CELL * cur[r] as usize;
@@ -83,11 +83,11 @@ pub fn column(
     a: &[u64],
     rows: &[u16],
     n: usize,
-    re: [u64; SET_WORDS],
+    re: &[u64; SET_WORDS],
     cur: &[u8],
 ) -> usize
-    requires { ⌜ Looking (now t) (now a) (now rows) n re (now cur) ⌝ }
-    ensures { λ x. ⌜ ((g : Looking (now (t .entry)) (now (a .entry)) (now (rows .entry)) n re (now (cur .entry))) → Column (g .known .sig) (now (a .entry)) (now (rows .entry)) n re (now (cur .entry)) (g .k) x) ⌝ }
+    requires { ⌜ Looking (now t) (now a) (now rows) n (now re) (now cur) ⌝ }
+    ensures { λ x. ⌜ ((g : Looking (now (t .entry)) (now (a .entry)) (now (rows .entry)) n (now (re .entry)) (now (cur .entry))) → Column (g .known .sig) (now (a .entry)) (now (rows .entry)) n (now (re .entry)) (now (cur .entry)) (g .k) x) ⌝ }
 {
     let mut r = 0;
     while r < n {
@@ -104,14 +104,14 @@ pub fn column(
 fn stays(
     a: &[u64],
     rows: &[u16],
-    s: [u64; SET_WORDS],
-    re: [u64; SET_WORDS],
+    s: &[u64; SET_WORDS],
+    re: &[u64; SET_WORDS],
     cur: &[u8],
     j: usize,
     r: usize,
 ) -> bool
-    requires { ⌜ (r < row-limit) × (r < length (now cur)) × (row-stride * r + row-stride ≤ length (now rows)) × (j < set-limit) × (member re r ≡ true → (0 < getD (now cur) r 0) × (cell-of (now rows) r (getD (now cur) r 0 - 1) + 3 ≤ length (now a))) ⌝ }
-    ensures { λ b. ⌜ b ≡ kept-of (now (a .entry)) (now (rows .entry)) (member s) (member re) (now (cur .entry)) j r ⌝ }
+    requires { ⌜ (r < row-limit) × (r < length (now cur)) × (row-stride * r + row-stride ≤ length (now rows)) × (j < set-limit) × (member (now re) r ≡ true → (0 < getD (now cur) r 0) × (cell-of (now rows) r (getD (now cur) r 0 - 1) + 3 ≤ length (now a))) ⌝ }
+    ensures { λ b. ⌜ b ≡ kept-of (now (a .entry)) (now (rows .entry)) (member (now (s .entry))) (member (now (re .entry))) (now (cur .entry)) j r ⌝ }
 {
     if has(re, r) {
         let at = start_of(rows, r) as usize + CELL * (cur[r] as usize - 1);
@@ -128,14 +128,14 @@ pub fn keep(
     a: &[u64],
     rows: &[u16],
     n: usize,
-    s: [u64; SET_WORDS],
-    re: [u64; SET_WORDS],
+    s: &[u64; SET_WORDS],
+    re: &[u64; SET_WORDS],
     cur: &[u8],
     j: usize,
     next: &mut [u64],
 )
-    requires { ⌜ Keeping (now a) (now rows) n re (now cur) j × (length (now next) ≡ set-words) ⌝ }
-    ensures { λ _. ⌜ ((r : ℕ) → r < n → member (now (next .exit)) r ≡ kept-of (now (a .entry)) (now (rows .entry)) (member s) (member re) (now (cur .entry)) j r) ⌝ }
+    requires { ⌜ Keeping (now a) (now rows) n (now re) (now cur) j × (length (now next) ≡ set-words) ⌝ }
+    ensures { λ _. ⌜ ((r : ℕ) → r < n → member (now (next .exit)) r ≡ kept-of (now (a .entry)) (now (rows .entry)) (member (now (s .entry))) (member (now (re .entry))) (now (cur .entry)) j r) ⌝ }
 {
     let mut r = 0;
     while r < n {

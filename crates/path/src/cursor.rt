@@ -18,9 +18,9 @@ ghost use Rattle.path.specs.Wrote.{word-limit};
 pub const CELLS: usize = 64;
 
 // How many columns are row r's own, 0 where it is not alive.
-fn own(rows: &[u16], s: [u64; SET_WORDS], cur: &[u8], r: usize) -> usize
-    requires { ⌜ (r < row-limit) × (r < length (now cur)) × (row-stride * r + row-stride ≤ length (now rows)) × (member s r ≡ true → getD (now cur) r 0 ≤ pattern-limit) ⌝ }
-    ensures { λ m. ⌜ m ≡ own-if (now (rows .entry)) (member s r) r (getD (now (cur .entry)) r 0) ⌝ }
+fn own(rows: &[u16], s: &[u64; SET_WORDS], cur: &[u8], r: usize) -> usize
+    requires { ⌜ (r < row-limit) × (r < length (now cur)) × (row-stride * r + row-stride ≤ length (now rows)) × (member (now s) r ≡ true → getD (now cur) r 0 ≤ pattern-limit) ⌝ }
+    ensures { λ m. ⌜ m ≡ own-if (now (rows .entry)) (member (now (s .entry)) r) r (getD (now (cur .entry)) r 0) ⌝ }
 {
     if has(s, r) {
         let q = cur[r] as usize;
@@ -29,9 +29,9 @@ fn own(rows: &[u16], s: [u64; SET_WORDS], cur: &[u8], r: usize) -> usize
     0
 }
 
-fn is_real(rows: &[u16], s: [u64; SET_WORDS], cur: &[u8], ncols: usize, r: usize) -> bool
-    requires { ⌜ (r < row-limit) × (r < length (now cur)) × (row-stride * r + row-stride ≤ length (now rows)) × (member s r ≡ true → getD (now cur) r 0 ≤ pattern-limit) ⌝ }
-    ensures { λ b. ⌜ b ≡ real-of (now (rows .entry)) (member s) (now (cur .entry)) ncols r ⌝ }
+fn is_real(rows: &[u16], s: &[u64; SET_WORDS], cur: &[u8], ncols: usize, r: usize) -> bool
+    requires { ⌜ (r < row-limit) × (r < length (now cur)) × (row-stride * r + row-stride ≤ length (now rows)) × (member (now s) r ≡ true → getD (now cur) r 0 ≤ pattern-limit) ⌝ }
+    ensures { λ b. ⌜ b ≡ real-of (now (rows .entry)) (member (now (s .entry))) (now (cur .entry)) ncols r ⌝ }
 {
     if has(s, r) {
         let q = cur[r] as usize;
@@ -41,9 +41,9 @@ fn is_real(rows: &[u16], s: [u64; SET_WORDS], cur: &[u8], ncols: usize, r: usize
 }
 
 // In re from now on: the rows alive whose own cell stands in the first of ncols columns.
-pub fn real(rows: &[u16], n: usize, s: [u64; SET_WORDS], cur: &[u8], ncols: usize, re: &mut [u64])
-    requires { ⌜ (n ≤ row-limit) × (n ≤ length (now cur)) × (row-stride * n ≤ length (now rows)) × ((r : ℕ) → r < n → member s r ≡ true → getD (now cur) r 0 ≤ pattern-limit) × (length (now re) ≡ set-words) ⌝ }
-    ensures { λ _. ⌜ ((r : ℕ) → r < n → member (now (re .exit)) r ≡ real-of (now (rows .entry)) (member s) (now (cur .entry)) ncols r) ⌝ }
+pub fn real(rows: &[u16], n: usize, s: &[u64; SET_WORDS], cur: &[u8], ncols: usize, re: &mut [u64])
+    requires { ⌜ (n ≤ row-limit) × (n ≤ length (now cur)) × (row-stride * n ≤ length (now rows)) × ((r : ℕ) → r < n → member (now s) r ≡ true → getD (now cur) r 0 ≤ pattern-limit) × (length (now re) ≡ set-words) ⌝ }
+    ensures { λ _. ⌜ ((r : ℕ) → r < n → member (now (re .exit)) r ≡ real-of (now (rows .entry)) (member (now (s .entry))) (now (cur .entry)) ncols r) ⌝ }
 {
     let mut r = 0;
     while r < n {
@@ -63,9 +63,9 @@ fn larger(a: usize, b: usize) -> usize
 }
 
 // How many columns come before the first in which some row alive has a cell; none where no row is alive.
-pub fn blank(rows: &[u16], n: usize, s: [u64; SET_WORDS], cur: &[u8], ncols: usize) -> usize
-    requires { ⌜ (n ≤ row-limit) × (n ≤ length (now cur)) × (row-stride * n ≤ length (now rows)) × ((r : ℕ) → r < n → member s r ≡ true → (getD (now cur) r 0 ≤ pattern-limit) × (own-of (now rows) r (getD (now cur) r 0) ≤ ncols)) ⌝ }
-    ensures { λ b. ⌜ Blank (now (rows .entry)) n s (now (cur .entry)) ncols b ⌝ }
+pub fn blank(rows: &[u16], n: usize, s: &[u64; SET_WORDS], cur: &[u8], ncols: usize) -> usize
+    requires { ⌜ (n ≤ row-limit) × (n ≤ length (now cur)) × (row-stride * n ≤ length (now rows)) × ((r : ℕ) → r < n → member (now s) r ≡ true → (getD (now cur) r 0 ≤ pattern-limit) × (own-of (now rows) r (getD (now cur) r 0) ≤ ncols)) ⌝ }
+    ensures { λ b. ⌜ Blank (now (rows .entry)) n (now (s .entry)) (now (cur .entry)) ncols b ⌝ }
 {
     let mut r = first_alive(s, n);
     if r == n {
@@ -81,9 +81,9 @@ pub fn blank(rows: &[u16], n: usize, s: [u64; SET_WORDS], cur: &[u8], ncols: usi
 }
 
 // Row r past its cell, at visit v, where it is in the set.
-fn lift(cur: &mut [u8], vis: &mut [u16], re: [u64; SET_WORDS], v: usize, r: usize)
-    requires { ⌜ (r < row-limit) × (r < length (now cur)) × (pattern-limit * r + pattern-limit ≤ length (now vis)) × (v < word-limit) × (member re r ≡ true → getD (now cur) r 0 < pattern-limit) ⌝ }
-    ensures { λ _. ⌜ Lifted (member re r) v r (now (cur .entry)) (now (vis .entry)) (now (cur .exit)) (now (vis .exit)) ⌝ }
+fn lift(cur: &mut [u8], vis: &mut [u16], re: &[u64; SET_WORDS], v: usize, r: usize)
+    requires { ⌜ (r < row-limit) × (r < length (now cur)) × (pattern-limit * r + pattern-limit ≤ length (now vis)) × (v < word-limit) × (member (now re) r ≡ true → getD (now cur) r 0 < pattern-limit) ⌝ }
+    ensures { λ _. ⌜ Lifted (member (now (re .entry)) r) v r (now (cur .entry)) (now (vis .entry)) (now (cur .exit)) (now (vis .exit)) ⌝ }
 {
     if has(re, r) {
         let q = cur[r];
@@ -93,9 +93,9 @@ fn lift(cur: &mut [u8], vis: &mut [u16], re: [u64; SET_WORDS], v: usize, r: usiz
 }
 
 // The rows of the set past their cells, at visit v.
-pub fn raise(cur: &mut [u8], vis: &mut [u16], n: usize, re: [u64; SET_WORDS], v: usize)
-    requires { ⌜ (n ≤ row-limit) × (n ≤ length (now cur)) × (pattern-limit * n ≤ length (now vis)) × (v < word-limit) × ((r : ℕ) → r < n → getD (now cur) r 0 ≤ pattern-limit) × ((r : ℕ) → r < n → member re r ≡ true → getD (now cur) r 0 < pattern-limit) ⌝ }
-    ensures { λ _. ⌜ Raised n (member re) v (now (cur .entry)) (now (vis .entry)) (now (cur .exit)) (now (vis .exit)) ⌝ }
+pub fn raise(cur: &mut [u8], vis: &mut [u16], n: usize, re: &[u64; SET_WORDS], v: usize)
+    requires { ⌜ (n ≤ row-limit) × (n ≤ length (now cur)) × (pattern-limit * n ≤ length (now vis)) × (v < word-limit) × ((r : ℕ) → r < n → getD (now cur) r 0 ≤ pattern-limit) × ((r : ℕ) → r < n → member (now re) r ≡ true → getD (now cur) r 0 < pattern-limit) ⌝ }
+    ensures { λ _. ⌜ Raised n (member (now (re .entry))) v (now (cur .entry)) (now (vis .entry)) (now (cur .exit)) (now (vis .exit)) ⌝ }
 {
     let mut r = 0;
     while r < n {
@@ -104,9 +104,9 @@ pub fn raise(cur: &mut [u8], vis: &mut [u16], n: usize, re: [u64; SET_WORDS], v:
     }
 }
 
-fn drop(cur: &mut [u8], re: [u64; SET_WORDS], r: usize)
-    requires { ⌜ (r < row-limit) × (r < length (now cur)) × (member re r ≡ true → 0 < getD (now cur) r 0) ⌝ }
-    ensures { λ _. ⌜ Dropped (member re r) r (now (cur .entry)) (now (cur .exit)) ⌝ }
+fn drop(cur: &mut [u8], re: &[u64; SET_WORDS], r: usize)
+    requires { ⌜ (r < row-limit) × (r < length (now cur)) × (member (now re) r ≡ true → 0 < getD (now cur) r 0) ⌝ }
+    ensures { λ _. ⌜ Dropped (member (now (re .entry)) r) r (now (cur .entry)) (now (cur .exit)) ⌝ }
 {
     if has(re, r) {
         cur[r] = cur[r] - 1;
@@ -114,9 +114,9 @@ fn drop(cur: &mut [u8], re: [u64; SET_WORDS], r: usize)
 }
 
 // The rows of the set back at their cells.
-pub fn lower(cur: &mut [u8], n: usize, re: [u64; SET_WORDS])
-    requires { ⌜ (n ≤ row-limit) × (n ≤ length (now cur)) × ((r : ℕ) → r < n → member re r ≡ true → 0 < getD (now cur) r 0) ⌝ }
-    ensures { λ _. ⌜ Lowered n (member re) (now (cur .entry)) (now (cur .exit)) ⌝ }
+pub fn lower(cur: &mut [u8], n: usize, re: &[u64; SET_WORDS])
+    requires { ⌜ (n ≤ row-limit) × (n ≤ length (now cur)) × ((r : ℕ) → r < n → member (now re) r ≡ true → 0 < getD (now cur) r 0) ⌝ }
+    ensures { λ _. ⌜ Lowered n (member (now (re .entry))) (now (cur .entry)) (now (cur .exit)) ⌝ }
 {
     let mut r = 0;
     while r < n {

@@ -8,7 +8,6 @@ pub mod KindLaws
 pub mod LoopLaws
 pub mod NodeLaws
 pub mod Options
-pub mod PlacedLaws
 pub mod RowsFit
 pub mod StandingLaws
 pub mod StartLaws

@@ -21,7 +21,7 @@ use Rattle.tree.specs.Tree.{Line, Tree, compile}
 use Rattle.path.specs.Alive.{member}
 use Rattle.path.specs.Standing.{At}
 use Rattle.path.specs.State.{row-stride, options, Indexed, LineAt, RowIs, State, cell-of, own-of, stop-of, start-of}
-use Rattle.writer.specs.Write.{RuleRow, line-of, GivenRows, Placed, AllPlaced, Fit, tree-of-rows}
+use Rattle.writer.specs.Write.{RuleRow, line-of, GivenRows, Placed, Fit, tree-of-rows}
 use Rattle.path.specs.Wrote.{Wrote}
 use Rattle.writer.specs.Writer.{Given, tree-of}
 use Rattle.writer.proofs.IndexLaws.{one-column}
@@ -37,7 +37,7 @@ module _ {A B : Type 0} where
   listed h [] = refl
   listed h (x ∷ xs) = ap (λ (l : List B). h x ∷ l) (ap somes (options-on (λ r. at (x ∷ xs) r >>= λ a. some (h a)) 0 (length xs)) ∙ listed h xs)
 
-module _ {t a held : List ℕ} {n : ℕ} (g : GivenRows t a held n) (tab : List ℕ) (placed : AllPlaced (g .known .sig) t a tab (g .rows)) where
+module _ {t a tab : List ℕ} {n : ℕ} (g : GivenRows t a tab n) where
   -- row r, and its place
   record RowAt (r : ℕ) : Type 0 where
     e : RuleRow
@@ -46,7 +46,7 @@ module _ {t a held : List ℕ} {n : ℕ} (g : GivenRows t a held n) (tab : List 
     place : Placed (g .known .sig) t a tab r e
 
   row-at : (r : ℕ) → r < n → RowAt r
-  row-at r l = let (e, h) = at-some (g .rows) r (omega (arith, g .count)) in record { e = e; there = h; fit = all-at (g .fit) r e h; place = placed r e h }
+  row-at r l = let (e, h) = at-some (g .rows) r (omega (arith, g .count)) in record { e = e; there = h; fit = all-at (g .fit) r e h; place = g .placed r e h }
 
   ends : (r : ℕ) (w : RowAt r) → w .place .start + length (code (kinds-of (g .known .sig)) (w .e .row) 0) ≤ length a
   ends r w = omega (arith, w .place .within, length-drop (w .place .start) a, ap length (w .place .code-is), length-append (code (kinds-of (g .known .sig)) (w .e .row) 0) (w .place .rest))

@@ -33,47 +33,10 @@ pub record RuleRow : Type 0 where
 abbrev pub line-of : RuleRow → Line
 line-of e = record { rule = e .rule; plan = e .plan; binds = []; cells = rcons (e .row) rnil }
 
--- rule and plan of each row
-abbrev pub rules-of : List RuleRow → List ℕ
-rules-of [] = []
-rules-of (e ∷ es) = e .rule ∷ (e .plan ∷ rules-of es)
-
--- each row's words behind their number
-abbrev pub rows-code : Signature → List RuleRow → List ℕ
-rows-code sig es = each-with (λ e. code (kinds-of sig) (e .row) 0) es
-
 -- a row of kind 0, of at most 64 cells
 pub record Fit (sig : Signature) (t : List ℕ) (e : RuleRow) : Type 0 where
   pub good : Good sig t (e .row) 0
   pub short : length (code (kinds-of sig) (e .row) 0) ≤ 3 * pattern-limit
-
--- n rows of rules under the signature whose table is t: their words first in a, their rules and plans first in held
-pub record GivenRows (t a held : List ℕ) (n : ℕ) : Type 0 where
-  pub known : Known t
-  pub rows : List RuleRow
-  pub count : n ≡ length rows
-  pub few : n ≤ row-limit
-  pub rest : List ℕ
-  pub code-is : a ≡ rows-code (known .sig) rows ++ rest
-  pub rest-held : List ℕ
-  pub held-is : held ≡ rules-of rows ++ rest-held
-  pub fit : All (Fit (known .sig) t) rows
-
--- their tree, whatever the default's plan and the bound on visits
-abbrev pub tree-of-rows : {t a held : List ℕ} {n : ℕ} → GivenRows t a held n → ℕ → ℕ → Tree
-tree-of-rows g dft fuel = compile dft fuel (g .known .sig) (0 ∷ []) (map line-of (g .rows)) 0
-
--- 14: "The tree exceeds the lent slice or 32,768 words."
-abbrev pub fits : Tree → List ℕ → Bool
-fits T space = leb (words T) (length space) && leb (words T) tree-limit
-
--- the tree's length, or that it is too large
-abbrev pub answer : Tree → List ℕ → Written
-answer T space = cond (fits T space) (Done (words T)) TooLarge
-
--- the tree "from index 0 of the lent space, whose other words stay untouched"; nothing where it is too large
-abbrev pub space-after : Tree → List ℕ → List ℕ
-space-after T space = cond (fits T space) (layout T 0 ++ drop (words T) space) space
 
 -- ---- one row in the table of rows
 
@@ -115,3 +78,30 @@ pub record Placed (sig : Signature) (t a rows : List ℕ) (r : ℕ) (e : RuleRow
 
 abbrev pub AllPlaced : Signature → List ℕ → List ℕ → List ℕ → List RuleRow → Type 0
 AllPlaced sig t a rows es = (r : ℕ) (e : RuleRow) → at es r ≡ some e → Placed sig t a rows r e
+
+-- ---- all rows
+
+-- n rows of rules under the signature whose table is t: their words in a, each in the table of rows
+pub record GivenRows (t a tab : List ℕ) (n : ℕ) : Type 0 where
+  pub known : Known t
+  pub rows : List RuleRow
+  pub count : n ≡ length rows
+  pub few : n ≤ row-limit
+  pub fit : All (Fit (known .sig) t) rows
+  pub placed : AllPlaced (known .sig) t a tab rows
+
+-- their tree, whatever the default's plan and the bound on visits
+abbrev pub tree-of-rows : {t a tab : List ℕ} {n : ℕ} → GivenRows t a tab n → ℕ → ℕ → Tree
+tree-of-rows g dft fuel = compile dft fuel (g .known .sig) (0 ∷ []) (map line-of (g .rows)) 0
+
+-- 14: "The tree exceeds the lent slice or 32,768 words."
+abbrev pub fits : Tree → List ℕ → Bool
+fits T space = leb (words T) (length space) && leb (words T) tree-limit
+
+-- the tree's length, or that it is too large
+abbrev pub answer : Tree → List ℕ → Written
+answer T space = cond (fits T space) (Done (words T)) TooLarge
+
+-- the tree "from index 0 of the lent space, whose other words stay untouched"; nothing where it is too large
+abbrev pub space-after : Tree → List ℕ → List ℕ
+space-after T space = cond (fits T space) (layout T 0 ++ drop (words T) space) space

@@ -1,4 +1,3 @@
 // The tree of rows: from the rows of rules to the words of their tree.
-pub mod index;
 pub mod node;
 pub mod write;

@@ -47,7 +47,7 @@ pub fn node(
     a: &[u64],
     rows: &[u16],
     n: usize,
-    s: [u64; SET_WORDS],
+    s: &[u64; SET_WORDS],
     cur: &mut [u8],
     vis: &mut [u16],
     ncols: usize,
@@ -55,8 +55,8 @@ pub fn node(
     base: usize,
     out: &mut [u16],
 ) -> usize
-    requires { ⌜ Given (now t) (now a) (now rows) n s (now cur) (now vis) ncols v base (length (now out)) ⌝ }
-    ensures { λ u. ⌜ ((g : Given (now (t .entry)) (now (a .entry)) (now (rows .entry)) n s (now (cur .entry)) (now (vis .entry)) ncols v base (length (now (out .entry)))) → (dft fuel : ℕ) → length (now (out .entry)) < fuel → Wrote (tree-of g dft fuel) base u (now (out .entry)) (now (out .exit))) × (now (cur .exit) ≡ now (cur .entry)) × Kept n (now (cur .entry)) (now (vis .entry)) (now (vis .exit)) ⌝ }
+    requires { ⌜ Given (now t) (now a) (now rows) n (now s) (now cur) (now vis) ncols v base (length (now out)) ⌝ }
+    ensures { λ u. ⌜ ((g : Given (now (t .entry)) (now (a .entry)) (now (rows .entry)) n (now (s .entry)) (now (cur .entry)) (now (vis .entry)) ncols v base (length (now (out .entry)))) → (dft fuel : ℕ) → length (now (out .entry)) < fuel → Wrote (tree-of g dft fuel) base u (now (out .entry)) (now (out .exit))) × (now (cur .exit) ≡ now (cur .entry)) × Kept n (now (cur .entry)) (now (vis .entry)) (now (vis .exit)) ⌝ }
 {
     let b = blank(rows, n, s, cur, ncols);
     if out.len() < b {
@@ -85,7 +85,7 @@ fn visit(
     a: &[u64],
     rows: &[u16],
     n: usize,
-    s: [u64; SET_WORDS],
+    s: &[u64; SET_WORDS],
     cur: &mut [u8],
     vis: &mut [u16],
     ncols: usize,
@@ -93,8 +93,8 @@ fn visit(
     base: usize,
     out: &mut [u16],
 ) -> usize
-    requires { ⌜ Given (now t) (now a) (now rows) n s (now cur) (now vis) ncols v base (length (now out)) ⌝ }
-    ensures { λ u. ⌜ ((g : Given (now (t .entry)) (now (a .entry)) (now (rows .entry)) n s (now (cur .entry)) (now (vis .entry)) ncols v base (length (now (out .entry)))) → (dft fuel : ℕ) → length (now (out .entry)) < fuel → Wrote (tree-of g dft fuel) base u (now (out .entry)) (now (out .exit))) × (now (cur .exit) ≡ now (cur .entry)) × Kept n (now (cur .entry)) (now (vis .entry)) (now (vis .exit)) ⌝ }
+    requires { ⌜ Given (now t) (now a) (now rows) n (now s) (now cur) (now vis) ncols v base (length (now out)) ⌝ }
+    ensures { λ u. ⌜ ((g : Given (now (t .entry)) (now (a .entry)) (now (rows .entry)) n (now (s .entry)) (now (cur .entry)) (now (vis .entry)) ncols v base (length (now (out .entry)))) → (dft fuel : ℕ) → length (now (out .entry)) < fuel → Wrote (tree-of g dft fuel) base u (now (out .entry)) (now (out .exit))) × (now (cur .exit) ≡ now (cur .entry)) × Kept n (now (cur .entry)) (now (vis .entry)) (now (vis .exit)) ⌝ }
 {
     if out.len() == 0 {
         return 1;
@@ -109,8 +109,8 @@ fn visit(
     }
     let mut re = [0; SET_WORDS];
     real(rows, n, s, cur, ncols, &mut re);
-    let k = column(t, a, rows, n, re, cur);
-    raise(cur, vis, n, re, v);
+    let k = column(t, a, rows, n, &re, cur);
+    raise(cur, vis, n, &re, v);
     if k == NO_KIND {
         out[0] = SKIP;
         let u = node(
@@ -126,11 +126,11 @@ fn visit(
             base + 1,
             &mut out[1..],
         );
-        lower(cur, n, re);
+        lower(cur, n, &re);
         return u + 1;
     }
-    let u = branch(t, a, rows, n, s, re, cur, vis, ncols, v, base, out, k);
-    lower(cur, n, re);
+    let u = branch(t, a, rows, n, s, &re, cur, vis, ncols, v, base, out, k);
+    lower(cur, n, &re);
     u
 }
 
@@ -140,8 +140,8 @@ fn branch(
     a: &[u64],
     rows: &[u16],
     n: usize,
-    s: [u64; SET_WORDS],
-    re: [u64; SET_WORDS],
+    s: &[u64; SET_WORDS],
+    re: &[u64; SET_WORDS],
     cur: &mut [u8],
     vis: &mut [u16],
     ncols: usize,
@@ -150,8 +150,8 @@ fn branch(
     out: &mut [u16],
     k: usize,
 ) -> usize
-    requires { ⌜ Branching (now t) (now a) (now rows) n s re (now cur) (now vis) ncols v base (length (now out)) k ⌝ }
-    ensures { λ u. ⌜ ((g : Branching (now (t .entry)) (now (a .entry)) (now (rows .entry)) n s re (now (cur .entry)) (now (vis .entry)) ncols v base (length (now (out .entry))) k) → (dft fuel : ℕ) → length (now (out .entry)) ≤ fuel → Wrote (branch-of g dft fuel) base u (now (out .entry)) (now (out .exit))) × (now (cur .exit) ≡ now (cur .entry)) × Kept n (now (cur .entry)) (now (vis .entry)) (now (vis .exit)) ⌝ }
+    requires { ⌜ Branching (now t) (now a) (now rows) n (now s) (now re) (now cur) (now vis) ncols v base (length (now out)) k ⌝ }
+    ensures { λ u. ⌜ ((g : Branching (now (t .entry)) (now (a .entry)) (now (rows .entry)) n (now (s .entry)) (now (re .entry)) (now (cur .entry)) (now (vis .entry)) ncols v base (length (now (out .entry))) k) → (dft fuel : ℕ) → length (now (out .entry)) ≤ fuel → Wrote (branch-of g dft fuel) base u (now (out .entry)) (now (out .exit))) × (now (cur .exit) ≡ now (cur .entry)) × Kept n (now (cur .entry)) (now (vis .entry)) (now (vis .exit)) ⌝ }
 {
     let f = first_of(t, k);
     let m = count_of(t, k);
@@ -172,7 +172,7 @@ fn branch(
             a,
             rows,
             n,
-            x,
+            &x,
             cur,
             vis,
             w,

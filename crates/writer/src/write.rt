@@ -1,5 +1,4 @@
 // The tree of the rows of a set of rules.
-use crate::index::index;
 use crate::node::node;
 use path::alive::SET_WORDS;
 use path::alive::put;
@@ -70,27 +69,24 @@ fn limit(n: usize) -> usize
     TREE_LIMIT
 }
 
-// Writes the tree of n rows first in out, or nothing where it is too large. The words of the rows stand one row behind the other in a, each row's behind their number,
-// and their rules and plans in held. The other slices are working space.
+// Writes the tree of n rows first in out, or nothing where it is too large. The words of the rows stand in a, and the table of rows says where. The slices before out are working space.
 pub fn write(
     t: &[u16],
     a: &[u64],
-    held: &[u16],
+    rows: &[u16],
     n: usize,
-    rows: &mut [u16],
     cur: &mut [u8],
     vis: &mut [u16],
     tree: &mut [u16],
     out: &mut [u16],
 ) -> Written
-    requires { ⌜ GivenRows (now t) (now a) (now held) n × (row-stride * n ≤ length (now rows)) × (n ≤ length (now cur)) × (pattern-limit * n ≤ length (now vis)) × (tree-limit ≤ length (now tree)) ⌝ }
-    ensures { λ w. ⌜ ((g : GivenRows (now (t .entry)) (now (a .entry)) (now (held .entry)) n) (dft fuel : ℕ) → tree-limit < fuel → (w ≡ answer (tree-of-rows g dft fuel) (now (out .entry))) × (now (out .exit) ≡ space-after (tree-of-rows g dft fuel) (now (out .entry)))) ⌝ }
+    requires { ⌜ GivenRows (now t) (now a) (now rows) n × (row-stride * n ≤ length (now rows)) × (n ≤ length (now cur)) × (pattern-limit * n ≤ length (now vis)) × (tree-limit ≤ length (now tree)) ⌝ }
+    ensures { λ w. ⌜ ((g : GivenRows (now (t .entry)) (now (a .entry)) (now (rows .entry)) n) (dft fuel : ℕ) → tree-limit < fuel → (w ≡ answer (tree-of-rows g dft fuel) (now (out .entry))) × (now (out .exit) ≡ space-after (tree-of-rows g dft fuel) (now (out .entry)))) ⌝ }
 {
-    index(t, a, held, n, rows);
     clear(cur, n);
     let s = all_rows(n);
     let most = limit(out.len());
-    let u = node(t, a, rows, n, s, cur, vis, 1, 0, 0, &mut tree[..most]);
+    let u = node(t, a, rows, n, &s, cur, vis, 1, 0, 0, &mut tree[..most]);
     if u > most {
         return Written::TooLarge;
     }

@@ -8,10 +8,10 @@ use Rattle.path.proofs.alive.first_alive.Statement.{statement}
 use Rattle.path.proofs.alive.first_alive.Tie as tie
 
 abbrev Inv-loop : tie.InvT-loop
-Inv-loop n s i₀ i = (i ≤ 4) × NoneIn s i
+Inv-loop s n i₀ i = (i ≤ 4) × NoneIn s i
 
 abbrev μ-loop : tie.MeasureT-loop
-μ-loop n s i₀ i = 4 - i
+μ-loop s n i₀ i = 4 - i
 
 pub first-alive-spec : {M : Type 1} → statement M
 first-alive-spec =
@@ -27,8 +27,8 @@ first-alive-spec =
     (λ c. search needs)
     (λ c. omega (arith, c .lowest .ensures .small))
     (λ c κs. tt)
-    (λ c. rw (c .lesser .ensures) (word-first (c .before .before .before .before .before .args .t1) (c .before .before .before .before .loop .i) (c .before .lowest .result) (c .before .before .before .before .before .args .n) (c .before .before .before .before .loop .inv .1) (c .before .lowest .ensures)))
+    (λ c. rw (c .lesser .ensures) (word-first _ (c .before .before .before .before .before .loop .i) (c .before .lowest .result) _ (c .before .before .before .before .before .loop .inv .1) (c .before .lowest .ensures)))
     (λ c. omega arith)
     (λ c. omega arith)
-    (λ c. (omega arith, word-none (c .before .before .before .args .t1) (c .before .before .loop .i) (c .before .before .loop .inv .1) (omega (arith, c .if1 .left))))
+    (λ c. (omega arith, word-none _ (c .before .before .before .loop .i) (c .before .before .before .loop .inv .1) (omega (arith, c .if1 .left))))
     (λ c. record { most = omega arith; before = λ q l. c .before .loop .inv .1 q (omega (arith, c .loop-test .left)); there = λ l. absurd (omega arith) }))

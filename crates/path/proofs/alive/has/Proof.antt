@@ -14,4 +14,4 @@ has-spec =
     (λ c. omega arith)
     (λ c. omega arith)
     (λ c κs. omega arith)
-    (λ c. c .has .ensures ∙ member-is (c .before .args .t1) (c .before .args .r)))
+    (λ c. c .has .ensures ∙ member-is _ _))

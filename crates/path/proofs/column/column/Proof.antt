@@ -24,5 +24,5 @@ column-spec =
     (λ c. λ g. column-some _ _ _ _ _ _ _ (c .before .before .before .loop .r) _ (omega (arith, c .before .before .loop-test .taken)) (c .before .row-kind .ensures g) (c .if1 .taken))
     (λ c. omega arith)
     (λ c. omega arith)
-    (λ c. (omega arith, λ g. none-next (g .known .sig) (c .before .before .before .before .before .before .before .before .args .a .now) (c .before .before .before .before .before .before .before .before .args .rows .now) (c .before .before .before .before .before .before .before .before .args .re) (c .before .before .before .before .before .before .before .before .args .cur .now) (g .k) (c .before .before .before .loop .r) _ (c .before .before .before .loop .inv .1 g) (c .before .row-kind .ensures g) (c .if1 .left)))
+    (λ c. (omega arith, λ g. none-next (g .known .sig) (c .before .before .before .before .before .before .before .before .args .a .now) (c .before .before .before .before .before .before .before .before .args .rows .now) (c .before .before .before .before .before .before .before .before .args .re .now) (c .before .before .before .before .before .before .before .before .args .cur .now) (g .k) (c .before .before .before .loop .r) _ (c .before .before .before .loop .inv .1 g) (c .before .row-kind .ensures g) (c .if1 .left)))
     (λ c. λ g. column-none _ _ _ _ _ _ _ _ (c .loop-test .left) (c .before .loop .inv .1 g)))

@@ -1,3 +1,0 @@
-pub mod RuleRows
-pub mod Moving
-pub mod Flattening

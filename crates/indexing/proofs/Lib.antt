@@ -1,0 +1,3 @@
+pub mod RuleRows
+pub mod ListLaws
+pub mod RulesLaws

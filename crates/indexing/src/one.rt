@@ -1,0 +1,47 @@
+// A row in the table of rows.
+use cell::cell::opens;
+use path::rows::OWN;
+use path::rows::ROW;
+ghost use Prim.Native.Nat.{_+_, _*_, _≤_, _<_};
+ghost use lib.ListN.{length};
+ghost use Rattle.path.specs.State.{row-stride};
+ghost use Rattle.writer.specs.Write.{GivenRow, RowCounted, RowIndexed, Before};
+ghost use Rattle.path.specs.Wrote.{word-limit};
+
+const CELL: usize = 3;
+
+// How many columns are row r's own at each of its cells.
+fn count_columns(t: &[u16], a: &[u64], start: usize, len: usize, r: usize, rows: &mut [u16])
+    requires { ⌜ GivenRow (now t) (now a) start len × (row-stride * r + row-stride ≤ length (now rows)) ⌝ }
+    ensures { λ _. ⌜ RowCounted (now (t .entry)) (now (a .entry)) (now (rows .exit)) r start len × Before (row-stride * r + 4) (now (rows .entry)) (now (rows .exit)) ⌝ }
+{
+    let mut left = 1;
+    let mut i = 0;
+    while left > 0 {
+        rows[ROW * r + OWN + i] = left as u16;
+        left = left - 1 + opens(t, a[start + CELL * i]);
+        i += 1;
+    }
+    rows[ROW * r + OWN + i] = 0;
+}
+
+// Row r of the table: of so many words from a word on.
+pub fn index_row(
+    t: &[u16],
+    a: &[u64],
+    start: usize,
+    len: usize,
+    rule: u16,
+    plan: u16,
+    r: usize,
+    rows: &mut [u16],
+)
+    requires { ⌜ GivenRow (now t) (now a) start len × (row-stride * r + row-stride ≤ length (now rows)) × (start + len < word-limit) ⌝ }
+    ensures { λ _. ⌜ RowIndexed (now (t .entry)) (now (a .entry)) (now (rows .exit)) r start len rule plan × Before (row-stride * r) (now (rows .entry)) (now (rows .exit)) ⌝ }
+{
+    rows[ROW * r] = start as u16;
+    rows[ROW * r + 1] = (start + len) as u16;
+    rows[ROW * r + 2] = rule;
+    rows[ROW * r + 3] = plan;
+    count_columns(t, a, start, len, r, rows);
+}

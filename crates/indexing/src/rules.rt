@@ -1,0 +1,26 @@
+// The rows of all rules.
+use crate::list::index_list;
+use store::layout::LENGTH;
+use store::layout::PLAN;
+use store::layout::RULE_HEAD;
+ghost use lib.ListN.{length};
+ghost use Rattle.indexing.specs.Indexing.{GivenRules, RulesIndexed};
+
+// The table of the rows of all rules, in the order of their table. How many rows.
+pub fn index_rules(t: &[u16], table: &[u16], lists: &[u64], rows: &mut [u16]) -> usize
+    requires { ⌜ GivenRules (now t) (now table) (now lists) (length (now rows)) ⌝ }
+    ensures { λ n. ⌜ ((g : GivenRules (now (t .entry)) (now (table .entry)) (now (lists .entry)) (length (now (rows .entry)))) → RulesIndexed (g .known .sig) (now (t .entry)) (now (lists .entry)) (g .rs) n (now (rows .exit))) ⌝ }
+{
+    let n = table[0];
+    let mut at = 1;
+    let mut from = 0;
+    let mut r = 0;
+    let mut i = 0;
+    while i < n {
+        r = index_list(t, lists, from + 1, table[at], table[at + PLAN], r, rows);
+        from = from + 1 + lists[from] as usize;
+        at = at + RULE_HEAD + table[at + LENGTH] as usize;
+        i += 1;
+    }
+    r
+}
