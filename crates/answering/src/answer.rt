@@ -1,4 +1,5 @@
 // The whole text: its format, its signature, its rules, its booking.
+use crate::rules::FORMAT_BROKEN;
 use crate::rules::enter_rules;
 use booking::part::SIGNATURE_UNLAWFUL;
 use decoding::decode::decode;
@@ -20,8 +21,6 @@ ghost use Rattle.table.specs.Limits.{table-length, witness-length};
 ghost use Rattle.text.specs.Limits.{list-limit};
 ghost use Rattle.text.specs.Print.{printed};
 ghost use Rattle.printing.specs.Printed.{print-limit, Printed};
-
-pub const FORMAT_BROKEN: u16 = 17;
 
 // The program over lent workspaces.
 fn answer_in(

@@ -21,9 +21,9 @@ ghost use Rattle.printing.specs.Printed.{print-limit, Printed};
 ghost use Rattle.answering.specs.Ready.{Ready};
 
 // 12: the pattern shares a booking with a held rule.
-pub const SHARED: u16 = 12;
+const SHARED: u16 = 12;
 
-// The format is checked before: no line is broken.
+// 17; behind the check of the whole text no line is broken.
 pub const FORMAT_BROKEN: u16 = 17;
 
 fn entry_number(e: Entry) -> u16
@@ -36,7 +36,7 @@ fn entry_number(e: Entry) -> u16
     }
 }
 
-// book= stands at an index, and all rules are in: 13, or the answer.
+// book= stands at an index, and all rules are in: 13 or the answer is printed.
 fn decide_booking(
     text: &[u8],
     at: usize,
@@ -59,7 +59,7 @@ fn decide_booking(
     print::answer(a.rule, a.plan, &places, out)
 }
 
-// The lines from an index on: "the first refusal n prints refused=n only".
+// Rules from an index on, in order; the first refusal is all that is printed. Then the booking.
 pub fn enter_rules(
     text: &[u8],
     from: usize,

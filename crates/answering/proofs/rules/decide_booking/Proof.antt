@@ -30,7 +30,7 @@ decide-booking-spec =
     (λ c κs. search needs)
     (λ c. search needs)
     (λ c. search needs)
-    (λ c. as-printed (c .before .before .before .before .before .before .before .before .before .before .before .before .before .before .before .before .before .before .before .before .before .before .args .text .now) (book-refused (c .before .before .before .before .before .before .before .before .before .before .before .before .before .before .before .before .before .before .before .before .before .before .pre .0) (c .before .before .before .before .before .before .before .before .before .before .before .before .before .before .before .before .before .before .before .before .before .before .pre .1) (c .before .before .before .before .before .before .before .before .before .before .before .before .before .list-line .result) (c .before .before .before .before .before .before .before .before .before .before .before .before .before .list-line .ensures .0) (c .before .before .before .before .before .before .before .before .before .n .given .0 .0) (c .before .before .before .before .before .before .before .before .before .n .given .0 .1 .0) (c .before .before .before .before .before .before .before .before .before .n .given .1) (c .before .before .before .before .before .before .before .before .before .before .before .before .before .before .before .before .before .before .before .before .before .before .args .space .now) (c .before .before .before .before .before .before .before .before .before .before .before .before .before .list-line .last .1 .1 .0) (c .before .before .before .before .before .before .before .before .before .before .before .before .before .list-line .ensures .1) (c .before .before .before .before .before .before .decide .result .number) _ (c .before .before .before .before .before .before .decide .ensures) (c .before .before .before .before .if1 .taken)) refl (c .before .before .refused2 .ensures))
+    (λ c. as-printed (c .before .before .before .before .before .before .before .before .before .before .before .before .before .before .before .before .before .before .before .before .before .before .args .text .now) (book-refused (c .before .before .before .before .before .before .before .before .before .before .before .before .before .before .before .before .before .before .before .before .before .before .pre .0) (c .before .before .before .before .before .before .before .before .before .before .before .before .before .before .before .before .before .before .before .before .before .before .pre .1) (c .before .before .before .before .before .before .before .before .before .before .before .before .before .list-line .result) (c .before .before .before .before .before .before .before .before .before .before .before .before .before .list-line .ensures .0) (c .before .before .before .before .before .before .before .before .before .n .given .0 .0) (c .before .before .before .before .before .before .before .before .before .n .given .0 .1 .0) (c .before .before .before .before .before .before .before .before .before .n .given .1) (c .before .before .before .before .before .before .before .before .before .before .before .before .before .before .before .before .before .before .before .before .before .before .args .space .now) (c .before .before .before .before .before .before .before .before .before .before .before .before .before .list-line .last .1 .1 .0) (c .before .before .before .before .before .before .before .before .before .before .before .before .before .list-line .ensures .1) (c .before .before .before .before .before .before .decide .result .number) _ (c .before .before .before .before .before .before .decide .ensures) (omega (arith, c .before .before .before .before .if1 .taken))) refl (c .before .before .refused2 .ensures))
     (λ c. search needs)
     (λ c κs. (let z : length (c .before .before .before .before .before .decide .result .places) ≡ variable-count = search needs in omega (arith, z), c .before .before .before .before .before .before .before .before .before .before .before .before .before .before .before .before .before .before .before .before .before .pre .3))
     (λ c. search needs)
