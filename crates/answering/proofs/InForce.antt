@@ -1,8 +1,8 @@
 -- The calls on a table whose rules are known.
-use mathlib.Core.Path.{_≡_, refl, ap, ap₂, _∙_, sym}
+use mathlib.Core.Path.{_≡_, ap, ap₂, _∙_, sym}
 use mathlib.Core.List.{List, []}
 use mathlib.Core.Option.{Option, some, none}
-use mathlib.Core.Bool.{true, cond, _&&_}
+use mathlib.Core.Bool.{cond, _&&_}
 use Prim.Native.Nat.{ℕ, _≤_}
 use native.Mathlib.Omega.{arith}
 use lib.Dec.{eqb}
@@ -13,7 +13,7 @@ use Rattle.signature.specs.Value.{Value}
 use Rattle.signature.proofs.Tests.{leb-yes, pair-first, pair-second}
 use Rattle.row.proofs.Symmetric.{shares-sym}
 use Rattle.tree.specs.Answer.{Answer}
-use Rattle.table.specs.Calls.{Entered, Empty, Enter, DecideCall, start, begin, enter-start, enter-number, enter-table, long-table, long-witness, decide-from, decide-booking}
+use Rattle.table.specs.Calls.{Entered, Empty, Enter, DecideCall, start, begin, enter-start, enter-number, enter-table, decide-from, decide-booking}
 use Rattle.table.specs.Limits.{table-length, witness-length}
 use Rattle.table.specs.Refusals.{entry-refusal}
 use Rattle.table.specs.Rule.{Rule, stored, add-rule}

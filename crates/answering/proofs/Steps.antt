@@ -2,7 +2,7 @@
 use mathlib.Core.Path.{_≡_, refl, ap, ap₂, _∙_, sym, subst}
 use mathlib.Core.Logic.{_⊎_, ⊎-elim}
 use mathlib.Core.List.{List, []}
-use mathlib.Core.Option.{Option, some, none}
+use mathlib.Core.Option.{some}
 use mathlib.Core.Bool.{true, false}
 use Prim.Native.Nat.{ℕ, _+_, _-_, _≤_}
 use native.Mathlib.Omega.{arith}
@@ -10,15 +10,13 @@ use lib.ListN.{length, take, drop, length-append, length-drop}
 use lib.Seq.{drop-drop}
 use denote.Enum.Declared.{tagOf}
 use Rattle.signature.specs.Lists.{is-some}
-use Rattle.signature.specs.Read.{read-signature, read-booking}
-use Rattle.signature.specs.Signature.{Signature}
+use Rattle.signature.specs.Read.{read-signature}
 use Rattle.booking.proofs.PartLaws.{missing, there as found}
 use Rattle.tree.specs.Answer.{Answer}
 use Rattle.table.specs.Calls.{Empty, Enter, DecideCall}
 use Rattle.table.specs.Limits.{table-length, witness-length}
 use Rattle.table.specs.Refusals.{entry-refusal}
 use Rattle.table.specs.Rule.{Rule, add-rule}
-use Rattle.table.specs.Sound.{sound}
 use Rattle.entry.specs.Entry.{answer-of, Numbered}
 use Rattle.entry.specs.declared.sound.Entry.{Entry}
 use Rattle.entry.specs.declared.sound.Entry.the-variants as entry
