@@ -1,4 +1,4 @@
--- What the answers say where the lines are known: for the proof of the text program.
+-- What the functions over lines say where the lines are known.
 use mathlib.Core.Path.{_≡_, ap, _∙_}
 use mathlib.Core.List.{List}
 use mathlib.Core.Option.{some}

@@ -1,4 +1,4 @@
--- What a program over the lines prints, step by step: for the proof of the text program.
+-- What the text program prints, line by line.
 use mathlib.Core.Path.{_≡_, refl, ap, ap₂, _∙_, sym}
 use mathlib.Core.List.{List, [], _∷_}
 use mathlib.Core.Option.{Option, some, none}
@@ -14,10 +14,11 @@ use Rattle.table.specs.Refusals.{entry-refusal}
 use Rattle.table.specs.Rule.{Rule, add-rule}
 use Rattle.text.specs.Format.{Text, read-text, after-key, key-rule}
 use Rattle.text.specs.Print.{printed, print-read, print-text, print-entered, print-decided, print-refused, enter-all, stopped}
 use Rattle.format.specs.Laws.{SigFirst, RuleNext, BookLast}
 use Rattle.lines.specs.Lines.{rest-text}
 use Rattle.lines.proofs.LineLaws.{missing}
 use Rattle.format.proofs.Laws.{laws}
+use Rattle.answering.specs.Ready.{Going}
 
 -- 17
 pub broken : (text : List ℕ) → false ≡ is-some (read-text text) → printed text ≡ print-refused 17
@@ -29,13 +30,6 @@ there text e = go (read-text text) refl e
     go : (o : Option Text) → read-text text ≡ o → true ≡ is-some o → (t : Text) × (read-text text ≡ some t)
     go none q z = true≢false z
     go (some t) q z = (t, q)
-
--- these rules are in, and the bytes t are still to be read
-pub record Going (text : List ℕ) (sig : Signature) (t : List ℕ) (held : List Rule) : Type 0 where
-  pub due : List Rule
-  pub book : List ℕ
-  pub left : rest-text t ≡ some (due, book)
-  pub prints : printed text ≡ print-entered sig book (enter-all sig due held)
 
 -- 1, or the first line is done
 module _ (text : List ℕ) (t : Text) (read : read-text text ≡ some t) where
