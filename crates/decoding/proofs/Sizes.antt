@@ -51,6 +51,22 @@ pub sizes-more : (d : ℕ) (sig : Signature) (a b : List ℕ) → a ≡ sizes-af
 unfolding sizes-after next-sizes
 sizes-more d sig a b e f = rw add-one (f ∙ ap (λ z. map (λ k. min over-small (best sig z k)) (count-up 0 kind-limit)) e)
 
+least-still : (m d : ℕ) (sig : Signature) → least (suc d) sig kind-limit ≡ least d sig kind-limit → (e : ℕ) → e ≡ d + m → least e sig kind-limit ≡ least d sig kind-limit
+least-still zero d sig f e q = let p : e ≡ d = omega (arith, q) in ap (λ x. least x sig kind-limit) p
+least-still (suc m) d sig f e q =
+    let p : e ≡ suc (d + m) = omega (arith, q) in
+    ap (λ x. least x sig kind-limit) p ∙ ap (λ z. map (λ k. min over-small (best sig z k)) (count-up 0 kind-limit)) (least-still m d sig f (d + m) refl) ∙ f
+
+-- a round that changes nothing is the last that is needed
+pub sizes-still : (d : ℕ) (sig : Signature) (a b : List ℕ) → a ≡ sizes-after d sig → b ≡ next-sizes sig a → a ≡ b → (m : ℕ) → d ≤ m → a ≡ sizes-after m sig
+unfolding sizes-after next-sizes
+sizes-still d sig a b e f same m l =
+    let again : least (suc d) sig kind-limit ≡ least d sig kind-limit = ap (λ z. map (λ k. min over-small (best sig z k)) (count-up 0 kind-limit)) (sym e) ∙ sym f ∙ sym same ∙ e in
+    e ∙ sym (least-still (m - d) d sig again m (omega arith))
+
+pub equal-sizes : (a b : List ℕ) → length a ≡ kind-limit → length b ≡ kind-limit → ((k : ℕ) → k < kind-limit → getD a k 0 ≡ getD b k 0) → a ≡ b
+equal-sizes a b p q h = ext-getD 0 a b (p ∙ sym q) (λ i l. h i (omega arith))
+
 least-length : (d : ℕ) (sig : Signature) (m : ℕ) → length (least d sig m) ≡ m
 least-length zero sig m = counted-length (λ k. over-small) 0 m
 least-length (suc d) sig m = counted-length (λ k. min over-small (best sig (least d sig m) k)) 0 m

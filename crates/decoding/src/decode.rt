@@ -8,6 +8,7 @@ use signature::decoded::arity_of;
 use signature::decoded::count_of;
 use signature::decoded::kind_of;
 ghost use mathlib.Core.Path.{_≡_};
+ghost use mathlib.Core.Bool.{true};
 ghost use mathlib.Core.Option.{some};
 ghost use Prim.Native.Nat.{ℕ, suc, _+_, _*_, _≤_, _<_, min};
 ghost use lib.Dec.{leb, ltb};
@@ -223,7 +224,21 @@ fn round(t: &[u16], n: usize, old: &[u16; KIND_LIMIT]) -> [u16; KIND_LIMIT]
     sizes
 }
 
-// A value of at most 6 words is nested at most 6 deep, so 6 rounds find it.
+fn same_sizes(a: &[u16; KIND_LIMIT], b: &[u16; KIND_LIMIT]) -> bool
+    requires { ⌜ Sizes (now a) × Sizes (now b) ⌝ }
+    ensures { λ r. ⌜ (r ≡ true → now (a .entry) ≡ now (b .entry)) ⌝ }
+{
+    let mut k = 0;
+    while k < KIND_LIMIT {
+        if a[k] != b[k] {
+            return false;
+        }
+        k += 1;
+    }
+    true
+}
+
+// A value of at most 6 words is nested at most 6 deep, so 6 rounds find it. After a round that changes nothing no later one does.
 fn least_sizes(t: &[u16], n: usize) -> [u16; KIND_LIMIT]
     requires { ⌜ Fit (now t) n ⌝ }
     ensures { λ r. ⌜ r ≡ sizes-after small-size (rows (now (t .entry)) 0 n) ⌝ }
@@ -232,6 +247,9 @@ fn least_sizes(t: &[u16], n: usize) -> [u16; KIND_LIMIT]
     let mut d = 0;
     while d < SMALL_SIZE {
         let next = round(t, n, &sizes);
+        if same_sizes(&sizes, &next) {
+            return sizes;
+        }
         sizes = next;
         d += 1;
     }

@@ -1,0 +1,147 @@
+// The calls for a host in C or Rust: a slice goes over as a pointer and a length, an answer as a struct of numbers.
+use compiling::compile::compile;
+use deciding::decide::decide;
+use emptying::empty::empty;
+use entering::enter::enter;
+use entry::sound::Entry;
+use run::leaf::VARIABLES;
+use run::run;
+ghost use mathlib.Core.Path.{_≡_};
+ghost use Rattle.signature.specs.Part.{part-call};
+ghost use Rattle.tree.specs.RunCall.{RunCall};
+ghost use Rattle.table.specs.Calls.{Empty, Enter, Withdraw, Compile, DecideCall};
+ghost use Rattle.bellgantlet.specs.Answers.{entered-of, answer-of, PartCall};
+
+// On 12 the rule that shares a booking and the length of the booking.
+#[repr(C)]
+pub struct Entered {
+    pub number: u16,
+    pub rule: u16,
+    pub length: usize,
+}
+
+#[repr(C)]
+pub struct Tree {
+    pub number: u16,
+    pub length: usize,
+}
+
+#[repr(C)]
+pub struct Answer {
+    pub number: u16,
+    pub rule: u16,
+    pub plan: u16,
+    pub places: [u16; VARIABLES],
+}
+
+// The part of a booking: where it begins, and its length.
+#[repr(C)]
+pub struct Part {
+    pub number: u16,
+    pub start: usize,
+    pub length: usize,
+}
+
+#[no_mangle]
+pub extern "C" fn bellgantlet_empty(table: &mut [u16]) -> u16
+    ensures { λ r. ⌜ Empty (now (table .entry)) r (now (table .exit)) ⌝ }
+{
+    empty(table)
+}
+
+#[no_mangle]
+pub extern "C" fn bellgantlet_enter(
+    signature: &[u16],
+    number: u16,
+    plan: u16,
+    pattern: &[u16],
+    table: &mut [u16],
+    witness: &mut [u16],
+) -> Entered
+    ensures { λ r. ⌜ Enter (now (signature .entry)) number plan (now (pattern .entry)) (now (table .entry)) (now (witness .entry)) (entered-of r) (now (table .exit)) (now (witness .exit)) ⌝ }
+{
+    let e = enter(signature, number, plan, pattern, table, witness);
+    match e {
+        Entry::Entered => Entered {
+            number: 0,
+            rule: 0,
+            length: 0,
+        },
+        Entry::Refused(n) => Entered {
+            number: n,
+            rule: 0,
+            length: 0,
+        },
+        Entry::Shares(rule, words) => Entered {
+            number: 12,
+            rule: rule,
+            length: words,
+        },
+    }
+}
+
+#[no_mangle]
+pub extern "C" fn bellgantlet_withdraw(signature: &[u16], number: u16, table: &mut [u16]) -> u16
+    ensures { λ r. ⌜ Withdraw (now (signature .entry)) number (now (table .entry)) r (now (table .exit)) ⌝ }
+{
+    withdrawing::withdraw(signature, number, table)
+}
+
+#[no_mangle]
+pub extern "C" fn bellgantlet_compile(signature: &[u16], table: &[u16], space: &mut [u16]) -> Tree
+    ensures { λ r. ⌜ Compile (now (signature .entry)) (now (table .entry)) (now (space .entry)) (r .number) (r .length) (now (space .exit)) ⌝ }
+{
+    let c = compile(signature, table, space);
+    Tree {
+        number: c.number,
+        length: c.len,
+    }
+}
+
+#[no_mangle]
+pub extern "C" fn bellgantlet_decide(signature: &[u16], table: &[u16], booking: &[u16]) -> Answer
+    ensures { λ r. ⌜ DecideCall (now (signature .entry)) (now (table .entry)) (now (booking .entry)) (r .number) (answer-of r) ⌝ }
+{
+    let a = decide(signature, table, booking);
+    let places = a.places;
+    Answer {
+        number: a.number,
+        rule: a.rule,
+        plan: a.plan,
+        places: places,
+    }
+}
+
+#[no_mangle]
+pub extern "C" fn bellgantlet_run(signature: &[u16], tree: &[u16], booking: &[u16]) -> Answer
+    ensures { λ r. ⌜ RunCall (now (signature .entry)) (now (tree .entry)) (now (booking .entry)) (r .number) (answer-of r) ⌝ }
+{
+    let r = run(signature, tree, booking);
+    let places = r.places;
+    Answer {
+        number: r.number,
+        rule: r.rule,
+        plan: r.plan,
+        places: places,
+    }
+}
+
+#[no_mangle]
+pub extern "C" fn bellgantlet_part(signature: &[u16], booking: &[u16], place: usize) -> Part
+    ensures { λ r. ⌜ PartCall (now (signature .entry)) (now (booking .entry)) place (r .number) (r .start) (r .length) ⌝ }
+{
+    let p = booking::part::part(signature, booking, place);
+    if p.len() == 0 {
+        let n = booking::part::part_number(signature, booking, place);
+        return Part {
+            number: n,
+            start: 0,
+            length: 0,
+        };
+    }
+    Part {
+        number: 0,
+        start: place,
+        length: p.len(),
+    }
+}

@@ -1,0 +1,272 @@
+//! Which charging plan does a booking get? A safe wrapper of the proved library.
+//!
+//! A [`Signature`] is checked once; a [`Table`] is always sound under its signature; a [`Tree`] keeps the signature that it
+//! was compiled under. So of the refusals of 01 a call can give only those that its arguments can still cause.
+//!
+//! The calls need no heap. Entering, withdrawing and deciding take up to 0.7 MB of the caller's stack, compiling up to
+//! [`COMPILE_STACK`]: a thread that compiles must have been started with at least that.
+
+pub mod raw;
+mod refusal;
+
+pub use refusal::Refusal;
+use std::fmt;
+use std::num::NonZeroU16;
+use std::sync::Arc;
+
+/// Words of a table.
+pub const TABLE: usize = 4289;
+/// Words of a witness buffer.
+pub const WITNESS: usize = 4096;
+/// The most words of a tree.
+pub const TREE: usize = 32768;
+/// What compiling takes of the stack at most, in bytes.
+pub const COMPILE_STACK: usize = 4 << 20;
+/// The place of a variable that is not bound.
+const UNBOUND: u16 = 65535;
+
+/// A lawful signature.
+#[derive(Clone, Debug, PartialEq, Eq)]
+pub struct Signature(Arc<[u16]>);
+
+impl Signature {
+    /// Refused with [`Refusal::SignatureUnlawful`] alone.
+    pub fn new(words: &[u16]) -> Result<Signature, Refusal> {
+        // The empty booking is unlawful under every signature, so anything but 1 says that the signature is lawful.
+        match raw::part(words, &[], 0).number {
+            1 => Err(Refusal::SignatureUnlawful),
+            _ => Ok(Signature(words.into())),
+        }
+    }
+
+    pub fn words(&self) -> &[u16] {
+        &self.0
+    }
+
+    /// A booking that is lawful under this signature.
+    pub fn booking<'a>(&self, words: &'a [u16]) -> Result<Booking<'a>, Refusal> {
+        match raw::part(&self.0, words, 0).number {
+            0 => Ok(Booking { signature: self.clone(), words }),
+            n => Err(Refusal::of(n)),
+        }
+    }
+}
+
+/// A lawful booking of a signature.
+#[derive(Clone, Debug)]
+pub struct Booking<'a> {
+    signature: Signature,
+    words: &'a [u16],
+}
+
+impl<'a> Booking<'a> {
+    pub fn words(&self) -> &'a [u16] {
+        self.words
+    }
+
+    /// The part that begins at a place; refused with [`Refusal::PlaceOutside`] alone.
+    pub fn part(&self, place: usize) -> Result<&'a [u16], Refusal> {
+        let p = raw::part(&self.signature.0, self.words, place);
+        if p.number != 0 {
+            return Err(Refusal::of(p.number));
+        }
+        Ok(&self.words[p.start..p.start + p.length])
+    }
+}
+
+/// The number of a rule, 1 to 999.
+#[derive(Clone, Copy, Debug, PartialEq, Eq, PartialOrd, Ord, Hash)]
+pub struct RuleNumber(NonZeroU16);
+
+impl RuleNumber {
+    pub fn new(number: u16) -> Result<RuleNumber, Refusal> {
+        match NonZeroU16::new(number) {
+            Some(n) if number <= 999 => Ok(RuleNumber(n)),
+            _ => Err(Refusal::NumberOutside),
+        }
+    }
+
+    pub fn get(self) -> u16 {
+        self.0.get()
+    }
+}
+
+/// Why a rule was not entered.
+#[derive(Clone, Debug, PartialEq, Eq)]
+pub enum NotEntered {
+    /// 5 and 7 to 11.
+    Refused(Refusal),
+    /// 12, with the lowest rule that shares a booking, and such a booking.
+    Shares { rule: RuleNumber, booking: Vec<u16> },
+}
+
+impl NotEntered {
+    pub fn refusal(&self) -> Refusal {
+        match self {
+            NotEntered::Refused(r) => *r,
+            NotEntered::Shares { .. } => Refusal::SharesBooking,
+        }
+    }
+}
+
+impl fmt::Display for NotEntered {
+    fn fmt(&self, f: &mut fmt::Formatter) -> fmt::Result {
+        match self {
+            NotEntered::Refused(r) => r.fmt(f),
+            NotEntered::Shares { rule, booking } => write!(f, "{}: rule {}, booking {:?}", Refusal::SharesBooking, rule.get(), booking),
+        }
+    }
+}
+
+impl std::error::Error for NotEntered {}
+
+/// The rules in force: always sound under its signature.
+#[derive(Clone, Debug, PartialEq, Eq)]
+pub struct Table {
+    signature: Signature,
+    words: Box<[u16]>,
+}
+
+impl Table {
+    /// A table without rules.
+    pub fn new(signature: &Signature) -> Table {
+        let mut words = vec![0; TABLE].into_boxed_slice();
+        let number = raw::empty(&mut words);
+        debug_assert_eq!(number, 0);
+        Table { signature: signature.clone(), words }
+    }
+
+    /// A table as [`Table::words`] gave it, say from a disk; refused with 2 or 3.
+    pub fn from_words(signature: &Signature, words: &[u16]) -> Result<Table, Refusal> {
+        let mut words: Box<[u16]> = words.into();
+        // 0 is no rule's number: a sound table refuses it with 4 and stays as it is.
+        match raw::withdraw(&signature.0, 0, &mut words) {
+            4 => Ok(Table { signature: signature.clone(), words }),
+            n => Err(Refusal::of(n)),
+        }
+    }
+
+    pub fn words(&self) -> &[u16] {
+        &self.words
+    }
+
+    pub fn signature(&self) -> &Signature {
+        &self.signature
+    }
+
+    /// The rules, rising by number: number, plan and pattern of each.
+    pub fn rules(&self) -> impl Iterator<Item = (RuleNumber, u16, &[u16])> {
+        let mut at = 1;
+        (0..self.words[0]).map(move |_| {
+            let (number, plan, n) = (self.words[at], self.words[at + 1], self.words[at + 2] as usize);
+            let pattern = &self.words[at + 3..at + 3 + n];
+            at += 3 + n;
+            (RuleNumber(NonZeroU16::new(number).expect("a sound table")), plan, pattern)
+        })
+    }
+
+    /// Enters a rule; on an error the table is as it was.
+    pub fn enter(&mut self, number: RuleNumber, plan: u16, pattern: &[u16]) -> Result<(), NotEntered> {
+        let mut witness = [0u16; WITNESS];
+        let e = raw::enter(&self.signature.0, number.get(), plan, pattern, &mut self.words, &mut witness);
+        match e.number {
+            0 => Ok(()),
+            12 => Err(NotEntered::Shares {
+                rule: RuleNumber(NonZeroU16::new(e.rule).expect("a held rule")),
+                booking: witness[..e.length].to_vec(),
+            }),
+            n => Err(NotEntered::Refused(Refusal::of(n))),
+        }
+    }
+
+    /// Withdraws a rule; refused with [`Refusal::NotHeld`] alone.
+    pub fn withdraw(&mut self, number: RuleNumber) -> Result<(), Refusal> {
+        match raw::withdraw(&self.signature.0, number.get(), &mut self.words) {
+            0 => Ok(()),
+            n => Err(Refusal::of(n)),
+        }
+    }
+
+    /// The tree of the rules in force; refused with [`Refusal::TreeTooLarge`] alone. Takes up to [`COMPILE_STACK`] bytes of stack.
+    pub fn compile(&self) -> Result<Tree, Refusal> {
+        let mut space = vec![0; TREE];
+        let t = raw::compile(&self.signature.0, &self.words, &mut space);
+        if t.number != 0 {
+            return Err(Refusal::of(t.number));
+        }
+        space.truncate(t.length);
+        Ok(Tree { signature: self.signature.clone(), words: space.into() })
+    }
+
+    /// The answer directly from the table; refused with [`Refusal::BookingUnlawful`] alone.
+    pub fn decide(&self, booking: &[u16]) -> Result<Answer, Refusal> {
+        Answer::of(raw::decide(&self.signature.0, &self.words, booking))
+    }
+}
+
+/// A tree with the signature that it was compiled under.
+#[derive(Clone, Debug, PartialEq, Eq)]
+pub struct Tree {
+    signature: Signature,
+    words: Arc<[u16]>,
+}
+
+impl Tree {
+    /// A tree as [`Tree::words`] gave it. What is broken shows when a run walks there, as [`Refusal::TreeBroken`].
+    pub fn from_words(signature: &Signature, words: &[u16]) -> Tree {
+        Tree { signature: signature.clone(), words: words.into() }
+    }
+
+    pub fn words(&self) -> &[u16] {
+        &self.words
+    }
+
+    /// The answer by the rules that the tree was compiled from. A tree of [`Table::compile`] refuses with
+    /// [`Refusal::BookingUnlawful`] alone.
+    pub fn run(&self, booking: &[u16]) -> Result<Answer, Refusal> {
+        Answer::of(raw::run(&self.signature.0, &self.words, booking))
+    }
+}
+
+/// What a booking gets.
+#[derive(Clone, Copy, Debug, PartialEq, Eq)]
+pub enum Answer {
+    /// No rule takes the booking.
+    Default,
+    Rule { number: RuleNumber, plan: u16, places: Places },
+}
+
+impl Answer {
+    fn of(a: raw::Answer) -> Result<Answer, Refusal> {
+        if a.number != 0 {
+            return Err(Refusal::of(a.number));
+        }
+        Ok(match NonZeroU16::new(a.rule) {
+            None => Answer::Default,
+            Some(n) => Answer::Rule { number: RuleNumber(n), plan: a.plan, places: Places(a.places) },
+        })
+    }
+
+    /// The plan's number; the default is plan 0.
+    pub fn plan(&self) -> u16 {
+        match self {
+            Answer::Default => 0,
+            Answer::Rule { plan, .. } => *plan,
+        }
+    }
+}
+
+/// The places that variables 0 to 15 are bound to.
+#[derive(Clone, Copy, Debug, PartialEq, Eq)]
+pub struct Places([u16; 16]);
+
+impl Places {
+    /// The place of a variable, none where it is unbound or there is no such variable.
+    pub fn of(&self, variable: u8) -> Option<usize> {
+        self.0.get(variable as usize).filter(|p| **p != UNBOUND).map(|p| *p as usize)
+    }
+
+    pub fn iter(&self) -> impl Iterator<Item = (u8, usize)> + '_ {
+        (0..16).filter_map(|x| self.of(x).map(|p| (x, p)))
+    }
+}

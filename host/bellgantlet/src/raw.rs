@@ -1,0 +1,130 @@
+//! The calls as they are, over slices and numbers. Every one is defined on every input.
+
+/// On 12 the lowest rule that shares a booking and the booking's length; else 0 and 0.
+#[repr(C)]
+#[derive(Clone, Copy, Debug, PartialEq, Eq)]
+pub struct Entered {
+    pub number: u16,
+    pub rule: u16,
+    pub length: usize,
+}
+
+/// The tree's length in words, 0 on a refusal.
+#[repr(C)]
+#[derive(Clone, Copy, Debug, PartialEq, Eq)]
+pub struct Tree {
+    pub number: u16,
+    pub length: usize,
+}
+
+/// Rule, plan and a place for each variable, 65,535 where it is unbound; all 0 on a refusal.
+#[repr(C)]
+#[derive(Clone, Copy, Debug, PartialEq, Eq)]
+pub struct Answer {
+    pub number: u16,
+    pub rule: u16,
+    pub plan: u16,
+    pub places: [u16; 16],
+}
+
+/// Where the part begins and its length, 0 and 0 on a refusal.
+#[repr(C)]
+#[derive(Clone, Copy, Debug, PartialEq, Eq)]
+pub struct Part {
+    pub number: u16,
+    pub start: usize,
+    pub length: usize,
+}
+
+mod link {
+    use super::*;
+    extern "C" {
+        pub fn bellgantlet_empty(table: *mut u16, table_n: usize) -> u16;
+        pub fn bellgantlet_enter(
+            signature: *const u16,
+            signature_n: usize,
+            number: u16,
+            plan: u16,
+            pattern: *const u16,
+            pattern_n: usize,
+            table: *mut u16,
+            table_n: usize,
+            witness: *mut u16,
+            witness_n: usize,
+        ) -> Entered;
+        pub fn bellgantlet_withdraw(signature: *const u16, signature_n: usize, number: u16, table: *mut u16, table_n: usize) -> u16;
+        pub fn bellgantlet_compile(
+            signature: *const u16,
+            signature_n: usize,
+            table: *const u16,
+            table_n: usize,
+            space: *mut u16,
+            space_n: usize,
+        ) -> Tree;
+        pub fn bellgantlet_decide(
+            signature: *const u16,
+            signature_n: usize,
+            table: *const u16,
+            table_n: usize,
+            booking: *const u16,
+            booking_n: usize,
+        ) -> Answer;
+        pub fn bellgantlet_run(
+            signature: *const u16,
+            signature_n: usize,
+            tree: *const u16,
+            tree_n: usize,
+            booking: *const u16,
+            booking_n: usize,
+        ) -> Answer;
+        pub fn bellgantlet_part(signature: *const u16, signature_n: usize, booking: *const u16, booking_n: usize, place: usize) -> Part;
+    }
+}
+
+// SAFETY, of all calls: pointer and length come from one slice each; lent slices that are written are exclusive by their
+// type; the library keeps no pointer, and is proved to stay within what it is lent.
+
+pub fn empty(table: &mut [u16]) -> u16 {
+    unsafe { link::bellgantlet_empty(table.as_mut_ptr(), table.len()) }
+}
+
+pub fn enter(signature: &[u16], number: u16, plan: u16, pattern: &[u16], table: &mut [u16], witness: &mut [u16]) -> Entered {
+    unsafe {
+        link::bellgantlet_enter(
+            signature.as_ptr(),
+            signature.len(),
+            number,
+            plan,
+            pattern.as_ptr(),
+            pattern.len(),
+            table.as_mut_ptr(),
+            table.len(),
+            witness.as_mut_ptr(),
+            witness.len(),
+        )
+    }
+}
+
+pub fn withdraw(signature: &[u16], number: u16, table: &mut [u16]) -> u16 {
+    unsafe { link::bellgantlet_withdraw(signature.as_ptr(), signature.len(), number, table.as_mut_ptr(), table.len()) }
+}
+
+pub fn compile(signature: &[u16], table: &[u16], space: &mut [u16]) -> Tree {
+    unsafe {
+        link::bellgantlet_compile(signature.as_ptr(), signature.len(), table.as_ptr(), table.len(), space.as_mut_ptr(), space.len())
+    }
+}
+
+pub fn decide(signature: &[u16], table: &[u16], booking: &[u16]) -> Answer {
+    unsafe {
+        link::bellgantlet_decide(signature.as_ptr(), signature.len(), table.as_ptr(), table.len(), booking.as_ptr(), booking.len())
+    }
+}
+
+pub fn run(signature: &[u16], tree: &[u16], booking: &[u16]) -> Answer {
+    unsafe { link::bellgantlet_run(signature.as_ptr(), signature.len(), tree.as_ptr(), tree.len(), booking.as_ptr(), booking.len()) }
+}
+
+pub fn part(signature: &[u16], booking: &[u16], place: usize) -> Part {
+    unsafe { link::bellgantlet_part(signature.as_ptr(), signature.len(), booking.as_ptr(), booking.len(), place) }
+}

@@ -1,0 +1,59 @@
+use std::fmt;
+
+macro_rules! refusals {
+    ($($name:ident = $number:literal: $sentence:literal,)*) => {
+        /// Why a call was refused, by 01's numbers.
+        #[derive(Clone, Copy, Debug, PartialEq, Eq, PartialOrd, Ord, Hash)]
+        #[repr(u16)]
+        pub enum Refusal {
+            $(#[doc = $sentence] $name = $number,)*
+        }
+
+        impl Refusal {
+            pub const ALL: &'static [Refusal] = &[$(Refusal::$name),*];
+
+            /// The sentence for a planner.
+            pub fn sentence(self) -> &'static str {
+                match self { $(Refusal::$name => $sentence,)* }
+            }
+        }
+    };
+}
+
+refusals! {
+    SignatureUnlawful = 1: "The signature is unlawful.",
+    TooShort = 2: "A lent table is under 4,289 words or a witness buffer under 4,096.",
+    TableUnsound = 3: "The table is not sound.",
+    NumberOutside = 4: "The rule number is not 1 to 999.",
+    NumberHeld = 5: "The number to enter is held.",
+    NotHeld = 6: "The number to withdraw is not held.",
+    PatternMalformed = 7: "The pattern is malformed.",
+    NotLinear = 8: "The pattern is not linear-plus: some variable would be bound twice, or in one branch only.",
+    TooHeavy = 9: "Some part of the pattern weighs over 64.",
+    Ambiguous = 10: "The pattern is ambiguous: it could bind its variables in two ways.",
+    Full = 11: "64 rules are held, or weights would total over 256.",
+    SharesBooking = 12: "The rule shares a booking with a held rule.",
+    BookingUnlawful = 13: "The booking is unlawful.",
+    TreeTooLarge = 14: "The tree exceeds the lent slice or 32,768 words.",
+    TreeBroken = 15: "The tree is broken.",
+    PlaceOutside = 16: "The place is not below the booking's length.",
+}
+
+impl Refusal {
+    pub fn number(self) -> u16 {
+        self as u16
+    }
+
+    /// Of a number that a call gave: 1 to 16.
+    pub(crate) fn of(number: u16) -> Refusal {
+        Refusal::ALL[number as usize - 1]
+    }
+}
+
+impl fmt::Display for Refusal {
+    fn fmt(&self, f: &mut fmt::Formatter) -> fmt::Result {
+        write!(f, "{} ({})", self.sentence(), self.number())
+    }
+}
+
+impl std::error::Error for Refusal {}

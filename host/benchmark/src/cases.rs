@@ -1,0 +1,145 @@
+//! The tables that are measured.
+pub struct Case {
+    pub name: &'static str,
+    pub signature: Vec<u16>,
+    /// number, plan, pattern; rising by number
+    pub rules: Vec<(u16, u16, Vec<u16>)>,
+    /// Bookings that rules of the table take.
+    pub bookings: Vec<Vec<u16>>,
+}
+
+impl Case {
+    pub fn table(&self, rules: usize) -> Vec<u16> {
+        let mut w = vec![rules as u16];
+        for (number, plan, pattern) in &self.rules[..rules] {
+            w.extend([*number, *plan, pattern.len() as u16]);
+            w.extend(pattern);
+        }
+        w.resize(4289, 0);
+        w
+    }
+}
+
+/// The constructors of each kind, each by the kinds of its arguments.
+fn signature(kinds: &[&[&[u16]]]) -> Vec<u16> {
+    let mut w = vec![kinds.iter().map(|k| k.len()).sum::<usize>() as u16];
+    for (k, constructors) in kinds.iter().enumerate() {
+        for a in constructors.iter() {
+            w.extend([k as u16, a.len() as u16]);
+            w.extend(a.iter());
+        }
+    }
+    w
+}
+
+/// Bus, bay and energy: a rule for each bus and bay, which notes the energy unless it is the least.
+fn grid(name: &'static str, n: usize) -> Case {
+    let eight: Vec<&[u16]> = vec![&[]; 8];
+    // kind 0: 0; buses 1 to 8; bays 9 to 16; energies 17 (two parts), 18, 19
+    let signature = signature(&[&[&[1, 2, 3]], &eight, &eight, &[&[3, 3], &[], &[]]]);
+    let mut rules = vec![];
+    for i in 0..8u16 {
+        for j in 0..8u16 {
+            rules.push((1 + i * 8 + j, j, vec![0, 1 + i, 9 + j, 256, 261, 260, 18]));
+        }
+    }
+    rules.truncate(n);
+    // the same bookings for every number of rules: those that the first two rules take
+    let bookings = vec![vec![0, 1, 9, 17, 18, 19], vec![0, 1, 10, 19], vec![0, 1, 9, 19], vec![0, 1, 10, 17, 19, 17, 18, 18]];
+    Case { name, signature, rules, bookings }
+}
+
+/// A full tree of four-armed nodes with so many inner nodes.
+fn full_tree(k: usize, node: u16, leaf: u16, out: &mut Vec<u16>) {
+    if k == 0 {
+        return out.push(leaf);
+    }
+    out.push(node);
+    for i in 0..4 {
+        full_tree((k - 1) / 4 + (i < (k - 1) % 4) as usize, node, leaf, out);
+    }
+}
+
+/// 64 rules of 60 words and weight 4, alike but for the last place.
+fn heaviest() -> Case {
+    let sixty_four: Vec<&[u16]> = vec![&[]; 64];
+    // kind 0: 0; kind 1: 1 (four arguments), 2; kind 2: 3 to 66
+    let signature = signature(&[&[&[1, 2]], &[&[1, 1, 1, 1], &[]], &sixty_four]);
+    let mut body = vec![];
+    full_tree(13, 1, 2, &mut body);
+    let mut rules = vec![];
+    let mut bookings = vec![];
+    for i in 0..64u16 {
+        let mut pattern = vec![0];
+        // the last three leaves become an "or" of two wildcards, twice, and a not absurd
+        let leaves = body.iter().filter(|w| **w == 2).count();
+        let mut seen = 0;
+        for w in &body {
+            seen += (*w == 2) as usize;
+            match (*w == 2, leaves - seen) {
+                (true, 0 | 1) => pattern.extend([257, 258, 258]),
+                (true, 2) => pattern.extend([260, 259]),
+                _ => pattern.push(*w),
+            }
+        }
+        pattern.push(3 + i);
+        assert_eq!(pattern.len(), 60);
+        rules.push((1 + i, i, pattern));
+        if i % 16 == 7 {
+            bookings.push([vec![0], body.clone(), vec![3 + i]].concat());
+        }
+    }
+    Case { name: "heaviest", signature, rules, bookings }
+}
+
+/// The deepest path that was found: 64 rules of 63 words, each with a chain of its own. The tree is too large.
+fn deepest() -> Case {
+    let sixty_four: Vec<&[u16]> = vec![&[]; 64];
+    let signature = signature(&[
+        &[&[1, 6]],
+        &[&[2, 2, 2, 2], &[]],
+        &[&[3, 3, 3, 3], &[]],
+        &[&[4, 4, 4, 4], &[]],
+        &[&[4, 5, 5, 5], &[]],
+        &[&[], &[]],
+        &sixty_four,
+    ]);
+    let mut rules = vec![];
+    for i in 0..64u16 {
+        let mut part = [vec![7u16; 12], vec![258], vec![9u16; 36]].concat();
+        for (level, at) in [(2, i % 4), (1, i / 4 % 4), (0, i / 16)] {
+            let mut around = vec![1 + 2 * level];
+            for a in 0..4 {
+                if a == at {
+                    around.extend(&part);
+                } else {
+                    around.push(258);
+                }
+            }
+            part = around;
+        }
+        rules.push((1 + i, i, [vec![0], part, vec![11 + i]].concat()));
+    }
+    Case { name: "deepest", signature, rules, bookings: vec![] }
+}
+
+pub fn cases() -> Vec<Case> {
+    vec![grid("2 rules", 2), grid("10 rules", 10), grid("64 rules", 64), heaviest(), deepest()]
+}
+
+/// One rule that takes every booking, and a booking of 4,096 words, of a list with two elements a cell.
+pub fn long() -> Case {
+    fn exact(n: usize) -> Vec<u16> {
+        match n {
+            1 => vec![2],
+            2 => vec![0, 2],
+            _ => [vec![1], exact((n - 1) / 2), exact(n - 1 - (n - 1) / 2)].concat(),
+        }
+    }
+    Case {
+        name: "4,096 words",
+        signature: vec![3, 0, 1, 0, 0, 2, 0, 0, 0, 0],
+        rules: vec![(1, 1, vec![257, 1, 261, 258, 0, 261])],
+        bookings: vec![exact(4096)],
+    }
+}

@@ -1,0 +1,268 @@
+//! The calls side by side with the prototype, with a first-match list of the same rules, and a run with one pass over the
+//! booking. Times are the least of many rounds, in which the parties take turns.
+mod cases;
+mod first_match;
+mod stack;
+
+use bellgantlet::raw;
+use cases::{cases, long, Case};
+use std::hint::black_box;
+use std::time::Instant;
+
+type Party<'a> = (&'static str, Box<dyn FnMut() + 'a>);
+
+/// The least time of a call of each party, in nanoseconds.
+fn turns(parties: &mut [Party], rounds: usize) -> Vec<f64> {
+    let each: Vec<usize> = parties
+        .iter_mut()
+        .map(|(_, f)| {
+            f();
+            let t = Instant::now();
+            f();
+            (2_000_000 / (t.elapsed().as_nanos() as usize + 1)).clamp(1, 20_000)
+        })
+        .collect();
+    let mut least = vec![f64::MAX; parties.len()];
+    for _ in 0..rounds {
+        for (i, (_, f)) in parties.iter_mut().enumerate() {
+            let t = Instant::now();
+            for _ in 0..each[i] {
+                f();
+            }
+            least[i] = least[i].min(t.elapsed().as_nanos() as f64 / each[i] as f64);
+        }
+    }
+    least
+}
+
+fn time(ns: f64) -> String {
+    match ns {
+        n if n < 1e3 => format!("{n:.0} ns"),
+        n if n < 1e6 => format!("{:.2} µs", n / 1e3),
+        n => format!("{:.2} ms", n / 1e6),
+    }
+}
+
+fn line(call: &str, case: &str, parties: &mut [Party], rounds: usize) {
+    let t = turns(parties, rounds);
+    let mut cells = vec![call.to_string(), case.to_string(), time(t[0])];
+    for name in ["prototype", "list", "sum"] {
+        match parties.iter().position(|(n, _)| *n == name) {
+            Some(i) => cells.extend([time(t[i]), format!("{:.2}", t[0] / t[i])]),
+            None => cells.extend(["".into(), "".into()]),
+        }
+    }
+    println!("| {} |", cells.join(" | "));
+}
+
+fn times(rounds: usize) {
+    println!("| call | table | library | prototype | ratio | first-match list | ratio | sum of words | ratio |");
+    println!("|---|---|---|---|---|---|---|---|---|");
+    let all = cases();
+    for c in all.iter().filter(|c| !c.bookings.is_empty()) {
+        run(c, rounds);
+    }
+    run(&long(), rounds);
+    part(&all[0], rounds);
+    part(&long(), rounds);
+    for c in all.iter().filter(|c| !c.bookings.is_empty()) {
+        decide(c, rounds);
+    }
+    for c in &all {
+        enter(c, rounds);
+    }
+    for c in &all {
+        withdraw(c, rounds);
+    }
+    for c in &all {
+        compile(c, rounds);
+    }
+}
+
+fn compiled(c: &Case) -> Vec<u16> {
+    let mut space = vec![0; 32768];
+    let t = raw::compile(&c.signature, &c.table(c.rules.len()), &mut space);
+    assert_eq!(t.number, 0, "{}", c.name);
+    space.truncate(t.length);
+    space
+}
+
+fn run(c: &Case, rounds: usize) {
+    let (sig, table, tree) = (&c.signature, c.table(c.rules.len()), compiled(c));
+    for b in &c.bookings {
+        let (a, p, l) = (raw::run(sig, &tree, b), prototype::run::run(sig, &tree, b), first_match::answer(sig, &table, b));
+        assert!(a.number == 0 && a.rule != 0 && (a.rule, a.places) == (p.rule, p.places) && (a.rule, a.places) == (l.rule, l.places));
+    }
+    let words: usize = c.bookings.iter().map(|b| b.len()).sum();
+    let name = format!("{}, {} words a booking", c.name, words / c.bookings.len());
+    let mut i = 0;
+    let mut next = move || {
+        i = (i + 1) % c.bookings.len();
+        &c.bookings[i][..]
+    };
+    let mut next2 = next.clone();
+    let mut next3 = next.clone();
+    let mut next4 = next.clone();
+    let mut parties: Vec<Party> = vec![
+        ("library", Box::new(|| { black_box(raw::run(sig, &tree, next())); })),
+        ("prototype", Box::new(|| { black_box(prototype::run::run(sig, &tree, next2())); })),
+        ("list", Box::new(|| { black_box(first_match::answer(sig, &table, next3())); })),
+        ("sum", Box::new(|| { black_box(next4().iter().map(|w| *w as u64).sum::<u64>()); })),
+    ];
+    line("run", &name, &mut parties, rounds);
+}
+
+fn part(c: &Case, rounds: usize) {
+    let (sig, b) = (&c.signature, &c.bookings[0]);
+    let p = raw::part(sig, b, 1);
+    assert!(p.number == 0 && &b[p.start..p.start + p.length] == prototype::booking::part_at(sig, b, 1));
+    let mut parties: Vec<Party> = vec![
+        ("library", Box::new(|| { black_box(raw::part(sig, b, 1)); })),
+        ("prototype", Box::new(|| { black_box(prototype::booking::part_at(sig, b, 1)); })),
+        ("sum", Box::new(|| { black_box(b.iter().map(|w| *w as u64).sum::<u64>()); })),
+    ];
+    line("part", &format!("a booking of {} words", b.len()), &mut parties, rounds);
+}
+
+fn decide(c: &Case, rounds: usize) {
+    let (sig, table) = (&c.signature, c.table(c.rules.len()));
+    let b = &c.bookings[0];
+    let (a, p) = (raw::decide(sig, &table, b), prototype::decide::decide(sig, &table, b));
+    assert!(a.number == 0 && a.rule != 0 && (a.rule, a.places) == (p.rule, p.places));
+    let mut parties: Vec<Party> = vec![
+        ("library", Box::new(|| { black_box(raw::decide(sig, &table, b)); })),
+        ("prototype", Box::new(|| { black_box(prototype::decide::decide(sig, &table, b)); })),
+        ("list", Box::new(|| { black_box(first_match::answer(sig, &table, b)); })),
+    ];
+    line("decide", c.name, &mut parties, rounds);
+}
+
+/// The last rule entered into a table that has all others.
+fn enter(c: &Case, rounds: usize) {
+    let (sig, before) = (&c.signature, c.table(c.rules.len() - 1));
+    let (number, plan, pattern) = c.rules.last().unwrap();
+    let (mut t1, mut t2, mut t3) = (before.clone(), before.clone(), before.clone());
+    let (mut w1, mut w2) = (vec![0; 4096], vec![0; 4096]);
+    let mut parties: Vec<Party> = vec![
+        ("library", Box::new(|| {
+            t1.copy_from_slice(&before);
+            assert_eq!(raw::enter(sig, *number, *plan, pattern, &mut t1, &mut w1).number, 0);
+        })),
+        ("prototype", Box::new(|| {
+            t2.copy_from_slice(&before);
+            assert_eq!(prototype::table::enter(sig, &mut t2, &mut w2, *number, *plan, pattern).refusal, 0);
+        })),
+        ("list", Box::new(|| {
+            t3.copy_from_slice(&before);
+            assert_eq!(first_match::enter(sig, &mut t3, *number, *plan, pattern), 0);
+        })),
+    ];
+    line("enter", c.name, &mut parties, rounds);
+    drop(parties);
+    assert!(t1 == t2 && t1 == t3 && t1 == c.table(c.rules.len()));
+}
+
+/// The first rule taken out: all others move.
+fn withdraw(c: &Case, rounds: usize) {
+    let (sig, before) = (&c.signature, c.table(c.rules.len()));
+    let number = c.rules[0].0;
+    let (mut t1, mut t2, mut t3) = (before.clone(), before.clone(), before.clone());
+    let mut parties: Vec<Party> = vec![
+        ("library", Box::new(|| {
+            t1.copy_from_slice(&before);
+            assert_eq!(raw::withdraw(sig, number, &mut t1), 0);
+        })),
+        ("prototype", Box::new(|| {
+            t2.copy_from_slice(&before);
+            assert_eq!(prototype::table::withdraw(sig, &mut t2, number), 0);
+        })),
+        ("list", Box::new(|| {
+            t3.copy_from_slice(&before);
+            assert_eq!(first_match::withdraw(&mut t3, number), 0);
+        })),
+    ];
+    line("withdraw", c.name, &mut parties, rounds);
+    drop(parties);
+    assert!(t1 == t2 && t1 == t3);
+}
+
+fn compile(c: &Case, rounds: usize) {
+    let (sig, table) = (&c.signature, c.table(c.rules.len()));
+    let (mut s1, mut s2) = (vec![0; 32768], vec![0; 32768]);
+    let (a, p) = (raw::compile(sig, &table, &mut s1), prototype::compile::compile(sig, &table, &mut s2));
+    assert!((a.number, a.length) == (p.refusal, p.len) && s1 == s2);
+    let name = match a.number {
+        0 => format!("{}, tree of {} words", c.name, a.length),
+        n => format!("{}, refused with {n}", c.name),
+    };
+    let mut parties: Vec<Party> = vec![
+        ("library", Box::new(|| { black_box(raw::compile(sig, &table, &mut s1)); })),
+        ("prototype", Box::new(|| { black_box(prototype::compile::compile(sig, &table, &mut s2)); })),
+    ];
+    line("compile", &name, &mut parties, rounds);
+}
+
+fn stacks() {
+    println!("| table | part | run | empty | decide | enter | withdraw | compile | compile of the prototype |");
+    println!("|---|---|---|---|---|---|---|---|---|");
+    for c in cases() {
+        let (sig, table, n) = (&c.signature, c.table(c.rules.len()), c.rules.len());
+        let fewer = c.table(n - 1);
+        let (number, plan, pattern) = c.rules.last().unwrap();
+        let b = c.bookings.first().cloned().unwrap_or(vec![0]);
+        let mut space = vec![0; 32768];
+        let mut witness = vec![0; 4096];
+        let tree = if c.bookings.is_empty() { vec![0] } else { compiled(&c) };
+        let mut lent = fewer.clone();
+        let mut out = table.clone();
+        let mut fresh = table.clone();
+        let all = [
+            stack::peak(|| { black_box(raw::part(sig, &b, 0)); }),
+            stack::peak(|| { black_box(raw::run(sig, &tree, &b)); }),
+            stack::peak(|| { black_box(raw::empty(&mut fresh)); }),
+            stack::peak(|| { black_box(raw::decide(sig, &table, &b)); }),
+            stack::peak(|| { black_box(raw::enter(sig, *number, *plan, pattern, &mut lent, &mut witness)); }),
+            stack::peak(|| { black_box(raw::withdraw(sig, *number, &mut out)); }),
+            stack::peak(|| { black_box(raw::compile(sig, &table, &mut space)); }),
+            stack::peak(|| { black_box(prototype::compile::compile(sig, &table, &mut space)); }),
+        ];
+        let shown: Vec<String> = all.iter().map(|b| format!("{} KB", (b + 512) / 1024)).collect();
+        println!("| {} | {} |", c.name, shown.join(" | "));
+    }
+}
+
+/// One call again and again, for a profiler: `benchmark only run "64 rules" 1000`.
+fn only(call: &str, case: &str, times: usize) {
+    let c = cases().into_iter().find(|c| c.name == case).expect("a case");
+    let (sig, table, n) = (&c.signature, c.table(c.rules.len()), c.rules.len());
+    let (number, plan, pattern) = c.rules.last().unwrap();
+    let mut space = vec![0; 32768];
+    let mut witness = vec![0; 4096];
+    let tree = if call == "run" { compiled(&c) } else { vec![] };
+    for _ in 0..times {
+        match call {
+            "run" => drop(black_box(raw::run(sig, &tree, &c.bookings[0]))),
+            "decide" => drop(black_box(raw::decide(sig, &table, &c.bookings[0]))),
+            "enter" => drop(black_box(raw::enter(sig, *number, *plan, pattern, &mut c.table(n - 1), &mut witness))),
+            "withdraw" => drop(black_box(raw::withdraw(sig, *number, &mut table.clone()))),
+            "compile" => drop(black_box(raw::compile(sig, &table, &mut space))),
+            "prototype-run" => drop(black_box(prototype::run::run(sig, &tree, &c.bookings[0]))),
+            _ => panic!("run, decide, enter, withdraw or compile"),
+        }
+    }
+}
+
+fn main() {
+    let arguments: Vec<String> = std::env::args().collect();
+    if arguments.get(1).is_some_and(|a| a == "only") {
+        return only(&arguments[2], &arguments[3], arguments[4].parse().unwrap());
+    }
+    let rounds = arguments.get(1).map_or(60, |r| r.parse().unwrap());
+    let work = move || {
+        times(rounds);
+        println!();
+        stacks();
+    };
+    // the calls' own stack, and the prototype's
+    std::thread::Builder::new().stack_size(64 << 20).spawn(work).unwrap().join().unwrap();
+}

@@ -1,0 +1,62 @@
+/* A host in C: Case T of 01, every call once, and what was refused. Prints nothing but what it was answered. */
+#include "bellgantlet.h"
+#include <stdio.h>
+
+#define N(a) (sizeof(a) / sizeof((a)[0]))
+
+static const uint16_t signature[] = {6, 0, 2, 1, 2, 1, 0, 1, 0, 1, 0, 2, 0, 2, 0};
+static uint16_t table[BELLGANTLET_TABLE];
+static uint16_t witness[BELLGANTLET_WITNESS];
+static uint16_t space[BELLGANTLET_TREE];
+
+static void enter(uint16_t number, uint16_t plan, const uint16_t *pattern, size_t n)
+{
+    bellgantlet_entered e = bellgantlet_enter(signature, N(signature), number, plan, pattern, n, table, N(table), witness, N(witness));
+    printf("enter %u: %u", number, e.number);
+    if (e.number == BELLGANTLET_SHARES_BOOKING) {
+        printf(", shares with rule %u:", e.rule);
+        for (size_t i = 0; i < e.length; i++)
+            printf(" %u", witness[i]);
+    }
+    printf("\n");
+}
+
+static void show(const char *call, bellgantlet_answer a)
+{
+    printf("%s: %u, rule %u, plan %u", call, a.number, a.rule, a.plan);
+    for (int x = 0; x < BELLGANTLET_VARIABLES; x++)
+        if (a.number == 0 && a.places[x] != BELLGANTLET_UNBOUND)
+            printf(", variable %d at %u", x, a.places[x]);
+    printf("\n");
+}
+
+int main(void)
+{
+    static const uint16_t seven[] = {0, 1, 261}, nine[] = {0, 260, 1, 5}, other[] = {0, 258, 4};
+    static const uint16_t bookings[][3] = {{0, 1, 5}, {0, 2, 5}, {0, 3, 4}, {0, 1, 1}};
+    bellgantlet_tree t;
+    bellgantlet_part_at p;
+
+    printf("empty: %u\n", bellgantlet_empty(table, N(table)));
+    printf("empty, too short: %u\n", bellgantlet_empty(table, N(table) - 1));
+    enter(7, 40, seven, N(seven));
+    enter(9, 41, nine, N(nine));
+    enter(8, 42, other, N(other));
+    enter(1000, 42, other, N(other));
+    t = bellgantlet_compile(signature, N(signature), table, N(table), space, 36);
+    printf("compile into 36 words: %u, %zu\n", t.number, t.length);
+    t = bellgantlet_compile(signature, N(signature), table, N(table), space, N(space));
+    printf("compile: %u, %zu\n", t.number, t.length);
+    for (size_t i = 0; i < N(bookings); i++) {
+        show("run", bellgantlet_run(signature, N(signature), space, t.length, bookings[i], 3));
+        show("decide", bellgantlet_decide(signature, N(signature), table, N(table), bookings[i], 3));
+    }
+    printf("withdraw 7: %u\n", bellgantlet_withdraw(signature, N(signature), 7, table, N(table)));
+    printf("withdraw 7: %u\n", bellgantlet_withdraw(signature, N(signature), 7, table, N(table)));
+    enter(8, 42, other, N(other));
+    p = bellgantlet_part(signature, N(signature), bookings[0], 3, 1);
+    printf("part at 1: %u, %zu from %zu\n", p.number, p.length, p.start);
+    p = bellgantlet_part(signature, N(signature), bookings[0], 3, 3);
+    printf("part at 3: %u, %zu from %zu\n", p.number, p.length, p.start);
+    return 0;
+}

@@ -1,0 +1,155 @@
+//! A depot: planners enter and withdraw rules while bookings are answered. A new tree is compiled beside the old one, which
+//! answers until the new one is there.
+mod names;
+
+use bellgantlet::*;
+use names::Names;
+use std::collections::BTreeMap;
+use std::thread::{Builder, JoinHandle};
+
+struct Depot {
+    names: Names,
+    table: Table,
+    tree: Tree,
+    /// How often rules have changed, and at which change the tree was compiled.
+    change: u32,
+    compiled: u32,
+    /// The names of each rule's variables: of the rules in the table, and of those in the tree.
+    variables: Variables,
+    compiled_variables: Variables,
+}
+
+type Variables = BTreeMap<u16, Vec<String>>;
+
+type Compiling = (u32, Variables, JoinHandle<Result<Tree, Refusal>>);
+
+impl Depot {
+    fn new(names: Names) -> Result<Depot, Refusal> {
+        let table = Table::new(&names.signature()?);
+        let tree = table.compile()?;
+        Ok(Depot { names, table, tree, change: 0, compiled: 0, variables: Variables::new(), compiled_variables: Variables::new() })
+    }
+
+    fn enter(&mut self, planner: &str, number: u16, plan: u16, text: &str) {
+        println!("{planner} enters rule {number}, plan {plan}: {text}");
+        let (number, written) = match (RuleNumber::new(number), self.names.pattern(text)) {
+            (Ok(n), Ok(w)) => (n, w),
+            (Err(r), _) => return println!("    refused: {r}"),
+            (_, Err(e)) => return println!("    not understood: {e}"),
+        };
+        match self.table.enter(number, plan, &written.words) {
+            Ok(()) => {
+                self.change += 1;
+                self.variables.insert(number.get(), written.variables);
+                println!("    entered");
+            }
+            Err(NotEntered::Refused(r)) => println!("    refused: {r}"),
+            Err(NotEntered::Shares { rule, booking }) => {
+                println!("    refused: rule {} takes it too, for instance {}", rule.get(), self.names.show(&booking));
+            }
+        }
+    }
+
+    fn withdraw(&mut self, planner: &str, number: u16) {
+        println!("{planner} withdraws rule {number}");
+        match RuleNumber::new(number).and_then(|n| self.table.withdraw(n)) {
+            Ok(()) => {
+                self.change += 1;
+                println!("    withdrawn");
+            }
+            Err(r) => println!("    refused: {r}"),
+        }
+    }
+
+    /// Compiles a copy of the table on a thread of its own, which has the stack for it.
+    fn compile(&self) -> Compiling {
+        println!("-- compiling begins; bookings go on by the tree of change {}", self.compiled);
+        let table = self.table.clone();
+        (self.change, self.variables.clone(), Builder::new().stack_size(COMPILE_STACK).spawn(move || table.compile()).unwrap())
+    }
+
+    fn adopt(&mut self, (change, variables, handle): Compiling) {
+        match handle.join().unwrap() {
+            Ok(tree) => {
+                println!("-- the tree of change {change} is there: {} words", tree.words().len());
+                (self.tree, self.compiled, self.compiled_variables) = (tree, change, variables);
+            }
+            Err(r) => println!("-- no new tree: {r}"),
+        }
+    }
+
+    fn answer(&self, text: &str) {
+        let words = match self.names.booking(text) {
+            Ok(w) => w,
+            Err(e) => return println!("{text}: not understood: {e}"),
+        };
+        match self.tree.run(&words) {
+            Err(r) => println!("{text}: {r}"),
+            Ok(Answer::Default) => println!("{text}: no rule, the default plan"),
+            Ok(Answer::Rule { number, plan, places }) => {
+                let booking = self.table.signature().booking(&words).unwrap();
+                let bound: Vec<String> = places
+                    .iter()
+                    .map(|(x, place)| {
+                        let part = booking.part(place).unwrap();
+                        format!(", {} is {}", self.compiled_variables[&number.get()][x as usize], self.names.show(part))
+                    })
+                    .collect();
+                println!("{text}: rule {}, plan {plan}{}", number.get(), bound.concat());
+            }
+        }
+        if self.compiled == self.change {
+            assert_eq!(self.tree.run(&words), self.table.decide(&words));
+        }
+    }
+}
+
+fn main() -> Result<(), Refusal> {
+    let names = Names::new(&[
+        "booking: booking(bus,bay,energy)",
+        "bus: articulated midi solo trolley",
+        "bay: hall(slot) yard(slot) street",
+        "slot: one two three four",
+        "energy: low half high by(hour,energy)",
+        "hour: five six seven",
+    ]);
+    let mut depot = Depot::new(names)?;
+    let asked = ["booking(midi, hall(two), by(five, high))", "booking(articulated, yard(one), high)", "booking(solo, street, low)"];
+
+    depot.enter("Ada", 10, 3, "booking(articulated, ?bay, high | by(_, high))");
+    depot.enter("Ada", 11, 4, "booking(midi | solo, hall(?slot), by(?hour, !low))");
+    let first = depot.compile();
+    asked.iter().for_each(|b| depot.answer(b));
+    depot.adopt(first);
+    asked.iter().for_each(|b| depot.answer(b));
+
+    depot.enter("Bo", 20, 7, "booking(_, yard(_), high)");
+    depot.enter("Bo", 20, 7, "booking(!articulated, yard(_), high)");
+    depot.enter("Bo", 21, 8, "booking(?bus, ?bus, _)");
+    depot.enter("Bo", 22, 8, "booking(trolley, _, ?e | ?e)");
+    depot.enter("Bo", 1000, 8, "booking(trolley, _, _)");
+    depot.enter("Bo", 11, 8, "booking(trolley, _, _)");
+    depot.enter("Bo", 23, 9, "booking(trolley, !street, _) & !booking(_, yard(_), high)");
+    depot.withdraw("Ada", 10);
+    depot.withdraw("Ada", 10);
+    let second = depot.compile();
+    println!("-- rule 10 is withdrawn, and still answers until then:");
+    asked.iter().for_each(|b| depot.answer(b));
+    depot.adopt(second);
+    asked.iter().for_each(|b| depot.answer(b));
+    depot.answer("booking(solo, yard(three), high)");
+    depot.answer("booking(trolley, hall(four), by(six, by(seven, half)))");
+    depot.answer("booking(trolley, seven, low)");
+
+    println!("-- rules in force:");
+    for (number, plan, pattern) in depot.table.rules() {
+        println!("    rule {}, plan {plan}: {} words", number.get(), pattern.len());
+    }
+    let stored = depot.table.words().to_vec();
+    let again = Table::from_words(depot.table.signature(), &stored)?;
+    println!("-- the table stored and read again is the same: {}", again == depot.table);
+    let mut bad = stored.clone();
+    bad[1] = bad[4 + bad[3] as usize];
+    println!("-- with a word changed: {}", Table::from_words(depot.table.signature(), &bad).unwrap_err());
+    Ok(())
+}

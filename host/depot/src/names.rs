@@ -1,0 +1,146 @@
+//! Readable names for constructors, and rules and bookings written with them.
+//!
+//! A pattern: `booking(midi | solo, !yard(_), ?energy & high)`, where `_` takes everything, `never` nothing, and `?energy`
+//! notes where the part stands. A booking is the same without the signs.
+use bellgantlet::{Refusal, Signature};
+
+pub struct Names {
+    /// For each kind its constructors: a name and the kinds of the arguments.
+    constructors: Vec<(String, Vec<usize>)>,
+    words: Vec<u16>,
+}
+
+/// A rule's pattern in words, and its variables' names in the order of their numbers.
+#[derive(Debug)]
+pub struct Written {
+    pub words: Vec<u16>,
+    pub variables: Vec<String>,
+}
+
+impl Names {
+    /// A line for each kind: `bay: hall(slot) yard(slot) street`. The first kind is that of bookings.
+    pub fn new(lines: &[&str]) -> Names {
+        let kinds: Vec<&str> = lines.iter().map(|l| l.split(':').next().unwrap().trim()).collect();
+        let mut constructors = vec![];
+        let mut words = vec![];
+        for (k, line) in lines.iter().enumerate() {
+            for c in line.split_once(':').unwrap().1.split_whitespace() {
+                let (name, arguments) = c.trim_end_matches(')').split_once('(').unwrap_or((c, ""));
+                let arguments: Vec<usize> = arguments
+                    .split(',')
+                    .filter(|a| !a.is_empty())
+                    .map(|a| kinds.iter().position(|n| *n == a).expect("a kind"))
+                    .collect();
+                words.push(k as u16);
+                words.push(arguments.len() as u16);
+                words.extend(arguments.iter().map(|a| *a as u16));
+                constructors.push((name.to_string(), arguments));
+            }
+        }
+        words.insert(0, constructors.len() as u16);
+        Names { constructors, words }
+    }
+
+    pub fn signature(&self) -> Result<Signature, Refusal> {
+        Signature::new(&self.words)
+    }
+
+    pub fn pattern(&self, text: &str) -> Result<Written, String> {
+        let spaced: String = text.chars().map(|c| if "(),|&!?".contains(c) { format!(" {c} ") } else { c.to_string() }).collect();
+        let mut reader = Reader { names: self, tokens: spaced.split_whitespace().collect(), at: 0, variables: vec![] };
+        let words = reader.either()?;
+        if reader.at < reader.tokens.len() {
+            return Err(format!("'{}' is left over", reader.tokens[reader.at]));
+        }
+        Ok(Written { words, variables: reader.variables })
+    }
+
+    pub fn booking(&self, text: &str) -> Result<Vec<u16>, String> {
+        Ok(self.pattern(text)?.words)
+    }
+
+    /// The words of a value by names.
+    pub fn show(&self, words: &[u16]) -> String {
+        let mut at = 0;
+        self.show_from(words, &mut at)
+    }
+
+    fn show_from(&self, words: &[u16], at: &mut usize) -> String {
+        let (name, arguments) = &self.constructors[words[*at] as usize];
+        *at += 1;
+        if arguments.is_empty() {
+            return name.clone();
+        }
+        let shown: Vec<String> = arguments.iter().map(|_| self.show_from(words, at)).collect();
+        format!("{name}({})", shown.join(", "))
+    }
+}
+
+struct Reader<'a> {
+    names: &'a Names,
+    tokens: Vec<&'a str>,
+    at: usize,
+    variables: Vec<String>,
+}
+
+impl<'a> Reader<'a> {
+    fn next_is(&mut self, token: &str) -> bool {
+        let is = self.tokens.get(self.at) == Some(&token);
+        self.at += is as usize;
+        is
+    }
+
+    fn two(&mut self, sign: &str, word: u16, part: fn(&mut Self) -> Result<Vec<u16>, String>) -> Result<Vec<u16>, String> {
+        let mut words = part(self)?;
+        while self.next_is(sign) {
+            words = [vec![word], words, part(self)?].concat();
+        }
+        Ok(words)
+    }
+
+    fn either(&mut self) -> Result<Vec<u16>, String> {
+        self.two("|", 257, Reader::both)
+    }
+
+    fn both(&mut self) -> Result<Vec<u16>, String> {
+        self.two("&", 256, Reader::one)
+    }
+
+    fn one(&mut self) -> Result<Vec<u16>, String> {
+        let token = *self.tokens.get(self.at).ok_or("the end came too early")?;
+        self.at += 1;
+        match token {
+            "_" => Ok(vec![258]),
+            "never" => Ok(vec![259]),
+            "!" => Ok([vec![260], self.one()?].concat()),
+            "(" => {
+                let words = self.either()?;
+                if self.next_is(")") { Ok(words) } else { Err("')' is missing".into()) }
+            }
+            "?" => self.variable(),
+            name => self.constructor(name),
+        }
+    }
+
+    fn variable(&mut self) -> Result<Vec<u16>, String> {
+        let name = self.tokens.get(self.at).ok_or("a name is missing")?.to_string();
+        self.at += 1;
+        let i = self.variables.iter().position(|v| *v == name).unwrap_or(self.variables.len());
+        if i == self.variables.len() {
+            self.variables.push(name);
+        }
+        if i < 16 { Ok(vec![261 + i as u16]) } else { Err("over 16 variables".into()) }
+    }
+
+    fn constructor(&mut self, name: &str) -> Result<Vec<u16>, String> {
+        let c = self.names.constructors.iter().position(|(n, _)| n == name).ok_or(format!("nothing is called '{name}'"))?;
+        let mut words = vec![c as u16];
+        for i in 0..self.names.constructors[c].1.len() {
+            if !self.next_is(if i == 0 { "(" } else { "," }) {
+                return Err(format!("an argument of '{name}' is missing"));
+            }
+            words.extend(self.either()?);
+        }
+        if self.names.constructors[c].1.is_empty() || self.next_is(")") { Ok(words) } else { Err("')' is missing".into()) }
+    }
+}

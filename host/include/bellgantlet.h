@@ -1,0 +1,132 @@
+/* Bellgantlet: which charging plan a booking gets.
+ *
+ * Link target/staticlib/libbellgantlet.a, which `rt staticlib bellgantlet` writes (x86-64 Linux).
+ *
+ * Words are 16 bits. A slice is a pointer and a number of words; the pointer is not null, also where the number is 0.
+ * What a call writes (table, witness, space) must not overlap another slice of the same call. No call keeps a pointer,
+ * allocates, or fails otherwise than by its number; each is defined on every content of its slices. A call may run at
+ * the same time as any other that does not write what it is lent.
+ *
+ * Every answer has a number: 0, or that of the first refusal that applies, in the order given. On a refusal all other
+ * results are 0 and nothing is written, except on 12.
+ *
+ * Stack: enter, withdraw and decide take up to 0.7 MB, compile up to 4 MB, run and part 16 KB.
+ */
+#ifndef BELLGANTLET_H
+#define BELLGANTLET_H
+
+#include <stddef.h>
+#include <stdint.h>
+
+#ifdef __cplusplus
+extern "C" {
+#endif
+
+enum {
+    BELLGANTLET_TABLE = 4289,       /* the words of a table */
+    BELLGANTLET_WITNESS = 4096,     /* the words of a witness buffer */
+    BELLGANTLET_TREE = 32768,       /* the most words of a tree */
+    BELLGANTLET_BOOKING = 4096,     /* the most words of a booking */
+    BELLGANTLET_PATTERN = 64,       /* the most words of a pattern */
+    BELLGANTLET_LAST_RULE = 999,    /* rules are numbered from 1 */
+    BELLGANTLET_VARIABLES = 16,
+    BELLGANTLET_UNBOUND = 65535     /* the place of a variable that is not bound */
+};
+
+/* The numbers. */
+enum {
+    BELLGANTLET_DONE = 0,
+    BELLGANTLET_SIGNATURE_UNLAWFUL = 1,  /* the signature is unlawful */
+    BELLGANTLET_TOO_SHORT = 2,           /* a lent table is under 4,289 words or a witness buffer under 4,096 */
+    BELLGANTLET_TABLE_UNSOUND = 3,       /* the table is not sound under this signature */
+    BELLGANTLET_NUMBER_OUTSIDE = 4,      /* the rule number is not 1 to 999 */
+    BELLGANTLET_NUMBER_HELD = 5,         /* the number to enter is held */
+    BELLGANTLET_NOT_HELD = 6,            /* the number to withdraw is not held */
+    BELLGANTLET_PATTERN_MALFORMED = 7,   /* the pattern is malformed */
+    BELLGANTLET_NOT_LINEAR = 8,          /* it is not linear-plus: a variable would be bound twice, or in one branch only */
+    BELLGANTLET_TOO_HEAVY = 9,           /* some part of it weighs over 64 */
+    BELLGANTLET_AMBIGUOUS = 10,          /* it is ambiguous: it could bind its variables in two ways */
+    BELLGANTLET_FULL = 11,               /* 64 rules are held, or weights would total over 256 */
+    BELLGANTLET_SHARES_BOOKING = 12,     /* it shares a booking with a held rule */
+    BELLGANTLET_BOOKING_UNLAWFUL = 13,   /* the booking is unlawful */
+    BELLGANTLET_TREE_TOO_LARGE = 14,     /* the tree exceeds the lent slice or 32,768 words */
+    BELLGANTLET_TREE_BROKEN = 15,        /* the tree is broken where the booking walks it */
+    BELLGANTLET_PLACE_OUTSIDE = 16       /* the place is not below the booking's length */
+};
+
+/* What enter answers: on 12 the lowest rule that shares a booking and the booking's length, else 0 and 0. */
+typedef struct {
+    uint16_t number;
+    uint16_t rule;
+    size_t length;
+} bellgantlet_entered;
+
+/* What compile answers: the tree's length in words, 0 on a refusal. */
+typedef struct {
+    uint16_t number;
+    size_t length;
+} bellgantlet_tree;
+
+/* What run and decide answer: the default is rule 0, plan 0 and 16 unbound places; on a refusal the places are 0. */
+typedef struct {
+    uint16_t number;
+    uint16_t rule;
+    uint16_t plan;
+    uint16_t places[BELLGANTLET_VARIABLES];
+} bellgantlet_answer;
+
+/* What part answers: where in the booking the part begins and its words; 0 and 0 on a refusal. */
+typedef struct {
+    uint16_t number;
+    size_t start;
+    size_t length;
+} bellgantlet_part_at;
+
+/* Makes a table without rules: 4,289 words become 0, those behind stay. Refusals: 2. */
+uint16_t bellgantlet_empty(uint16_t *table, size_t table_words);
+
+/* Enters a rule. On 12 a booking that both rules take stands first in the witness buffer, whose rest stays; on every
+ * refusal the table stays. Refusals: 1, 2, 3, 4, 5, 7, 8, 9, 10, 11, 12. */
+bellgantlet_entered bellgantlet_enter(
+    const uint16_t *signature, size_t signature_words,
+    uint16_t number, uint16_t plan,
+    const uint16_t *pattern, size_t pattern_words,
+    uint16_t *table, size_t table_words,
+    uint16_t *witness, size_t witness_words);
+
+/* Withdraws a rule; its space is free again. Refusals: 1, 2, 3, 4, 6. */
+uint16_t bellgantlet_withdraw(
+    const uint16_t *signature, size_t signature_words,
+    uint16_t number,
+    uint16_t *table, size_t table_words);
+
+/* Writes the tree of the rules in force from index 0 of the space, whose other words stay. Refusals: 1, 2, 3, 14. */
+bellgantlet_tree bellgantlet_compile(
+    const uint16_t *signature, size_t signature_words,
+    const uint16_t *table, size_t table_words,
+    uint16_t *space, size_t space_words);
+
+/* Answers a booking directly from the table. Refusals: 1, 2, 3, 13. */
+bellgantlet_answer bellgantlet_decide(
+    const uint16_t *signature, size_t signature_words,
+    const uint16_t *table, size_t table_words,
+    const uint16_t *booking, size_t booking_words);
+
+/* Answers a booking over a tree, by the rules that it was compiled from. The slice may be longer than the tree.
+ * Refusals: 1, 13, 15. */
+bellgantlet_answer bellgantlet_run(
+    const uint16_t *signature, size_t signature_words,
+    const uint16_t *tree, size_t tree_words,
+    const uint16_t *booking, size_t booking_words);
+
+/* The part of a booking that begins at a place. Refusals: 1, 13, 16. */
+bellgantlet_part_at bellgantlet_part(
+    const uint16_t *signature, size_t signature_words,
+    const uint16_t *booking, size_t booking_words,
+    size_t place);
+
+#ifdef __cplusplus
+}
+#endif
+
+#endif

@@ -1,0 +1,155 @@
+//! Each call made of the library and of the reference, with every lent word compared, and the words around what is lent.
+use crate::calls::{Answer, Model, WITNESS};
+use crate::pattern;
+use crate::signature::Signature;
+use bellgantlet::raw;
+use std::collections::BTreeMap;
+
+const GUARD: usize = 4;
+const GUARDS: [u16; GUARD] = [51966, 47806, 57005, 48879];
+
+/// Words lent with guards around them.
+struct Lent(Vec<u16>);
+
+impl Lent {
+    fn of(words: &[u16]) -> Lent {
+        Lent([&GUARDS, words, &GUARDS].concat())
+    }
+
+    fn words(&mut self) -> &mut [u16] {
+        let n = self.0.len();
+        &mut self.0[GUARD..n - GUARD]
+    }
+
+    fn after(&self) -> &[u16] {
+        let n = self.0.len();
+        assert!(self.0[..GUARD] == GUARDS && self.0[n - GUARD..] == GUARDS, "a word around a lent slice was written");
+        &self.0[GUARD..n - GUARD]
+    }
+}
+
+pub struct Compare {
+    pub model: Model,
+    /// How often each call gave each number.
+    pub given: BTreeMap<(&'static str, u16), u64>,
+}
+
+macro_rules! same {
+    ($call:expr, $what:expr, $library:expr, $reference:expr, $($input:expr),*) => {
+        if $library != $reference {
+            eprintln!("difference in {}, {}:\n  library   {:?}\n  reference {:?}", $call, $what, $library, $reference);
+            $(eprintln!("  {} = {:?}", stringify!($input), $input);)*
+            std::process::exit(1);
+        }
+    };
+}
+
+fn form(a: raw::Answer) -> Answer {
+    (a.number, a.rule, a.plan, a.places)
+}
+
+impl Compare {
+    pub fn new() -> Compare {
+        Compare { model: Model::default(), given: BTreeMap::new() }
+    }
+
+    pub fn calls(&self) -> u64 {
+        self.given.values().sum()
+    }
+
+    fn count(&mut self, call: &'static str, number: u16) {
+        *self.given.entry((call, number)).or_insert(0) += 1;
+    }
+
+    pub fn empty(&mut self, table: &mut Vec<u16>) -> u16 {
+        let mut lent = Lent::of(table);
+        let number = raw::empty(lent.words());
+        let expected = self.model.empty(table);
+        same!("empty", "number", number, expected.0, table);
+        same!("empty", "table", lent.after(), &expected.1[..], table);
+        *table = expected.1;
+        self.count("empty", number);
+        number
+    }
+
+    pub fn enter(&mut self, sig: &[u16], number: u16, plan: u16, pattern: &[u16], table: &mut Vec<u16>, witness: usize) -> u16 {
+        let mut lent = Lent::of(table);
+        let before: Vec<u16> = (0..witness).map(|i| (i * 7 + 40000) as u16).collect();
+        let mut shown = Lent::of(&before);
+        let e = raw::enter(sig, number, plan, pattern, lent.words(), shown.words());
+        let expected = self.model.enter(sig, number, plan, pattern, table, witness);
+        same!("enter", "number", e.number, expected.0, sig, number, plan, pattern, table, witness);
+        same!("enter", "rule", e.rule, expected.1, sig, number, plan, pattern, table, witness);
+        same!("enter", "table", lent.after(), &expected.2[..], sig, number, plan, pattern, table, witness);
+        if e.number == 12 {
+            let lawful = e.length <= WITNESS && both_take(sig, pattern, table, e.rule, &shown.after()[..e.length]);
+            same!("enter", "booking lawful and taken by both", lawful, true, sig, number, pattern, table, e);
+        } else {
+            same!("enter", "length", e.length, 0, sig, number, plan, pattern, table, witness);
+        }
+        same!("enter", "rest of the witness buffer", &shown.after()[e.length..], &before[e.length..], sig, number, pattern, table, e);
+        *table = expected.2;
+        self.count("enter", e.number);
+        e.number
+    }
+
+    pub fn withdraw(&mut self, sig: &[u16], number: u16, table: &mut Vec<u16>) -> u16 {
+        let mut lent = Lent::of(table);
+        let got = raw::withdraw(sig, number, lent.words());
+        let expected = self.model.withdraw(sig, number, table);
+        same!("withdraw", "number", got, expected.0, sig, number, table);
+        same!("withdraw", "table", lent.after(), &expected.1[..], sig, number, table);
+        *table = expected.1;
+        self.count("withdraw", got);
+        got
+    }
+
+    /// The tree, or the number of the refusal.
+    pub fn compile(&mut self, sig: &[u16], table: &[u16], space: &[u16]) -> Result<Vec<u16>, u16> {
+        let mut lent = Lent::of(space);
+        let t = raw::compile(sig, table, lent.words());
+        let expected = self.model.compile(sig, table, space);
+        same!("compile", "number", t.number, expected.0, sig, table, space.len());
+        same!("compile", "length", t.length, expected.1, sig, table, space.len());
+        same!("compile", "space", lent.after(), &expected.2[..], sig, table, space.len());
+        self.count("compile", t.number);
+        if t.number == 0 { Ok(expected.2[..t.length].to_vec()) } else { Err(t.number) }
+    }
+
+    pub fn decide(&mut self, sig: &[u16], table: &[u16], booking: &[u16]) -> Answer {
+        let got = form(raw::decide(sig, table, booking));
+        let expected = self.model.decide(sig, table, booking);
+        same!("decide", "answer", got, expected, sig, table, booking);
+        self.count("decide", got.0);
+        got
+    }
+
+    pub fn run(&mut self, sig: &[u16], tree: &[u16], booking: &[u16]) -> Answer {
+        let got = form(raw::run(sig, tree, booking));
+        let expected = self.model.run(sig, tree, booking);
+        same!("run", "answer", got, expected, sig, tree, booking);
+        self.count("run", got.0);
+        got
+    }
+
+    pub fn part(&mut self, sig: &[u16], booking: &[u16], place: usize) -> u16 {
+        let p = raw::part(sig, booking, place);
+        let expected = self.model.part(sig, booking, place);
+        same!("part", "number", p.number, expected.0, sig, booking, place);
+        same!("part", "start", p.start, if p.number == 0 { place } else { 0 }, sig, booking, place);
+        same!("part", "words", &booking[p.start..p.start + p.length], &expected.1[..], sig, booking, place);
+        self.count("part", p.number);
+        p.number
+    }
+}
+
+/// What 01 says of the booking that is shown: lawful, and taken by the pattern and by the held rule.
+fn both_take(sig: &[u16], pattern: &[u16], table: &[u16], rule: u16, booking: &[u16]) -> bool {
+    let sig = Signature::read(sig).unwrap();
+    let Some(v) = sig.read_booking(booking) else {
+        return false;
+    };
+    let rules = crate::calls::sound(&sig, table).unwrap();
+    let held = rules.iter().find(|r| r.number == rule).unwrap();
+    held.pattern.fits(&v) && pattern::read(&sig, pattern).unwrap().fits(&v)
+}

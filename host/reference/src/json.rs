@@ -1,0 +1,88 @@
+//! As much of JSON as the vectors have.
+#[derive(Debug)]
+pub enum Json {
+    Number(usize),
+    Text(String),
+    List(Vec<Json>),
+    Record(Vec<(String, Json)>),
+}
+
+impl Json {
+    pub fn read(text: &str) -> Json {
+        let mut rest = text.as_bytes();
+        one(&mut rest)
+    }
+
+    pub fn get(&self, key: &str) -> &Json {
+        let Json::Record(fields) = self else { panic!("no record") };
+        &fields.iter().find(|(k, _)| k == key).expect(key).1
+    }
+
+    pub fn list(&self) -> &[Json] {
+        let Json::List(l) = self else { panic!("no list") };
+        l
+    }
+
+    pub fn number(&self) -> usize {
+        let Json::Number(n) = self else { panic!("no number") };
+        *n
+    }
+
+    pub fn text(&self) -> &str {
+        let Json::Text(t) = self else { panic!("no text") };
+        t
+    }
+
+    pub fn words(&self) -> Vec<u16> {
+        self.list().iter().map(|w| w.number() as u16).collect()
+    }
+}
+
+fn skip(rest: &mut &[u8]) {
+    while matches!(rest.first(), Some(b' ' | b'\n' | b',' | b':')) {
+        *rest = &rest[1..];
+    }
+}
+
+fn one(rest: &mut &[u8]) -> Json {
+    skip(rest);
+    match rest[0] {
+        b'[' => {
+            *rest = &rest[1..];
+            let mut l = vec![];
+            loop {
+                skip(rest);
+                if rest[0] == b']' {
+                    *rest = &rest[1..];
+                    return Json::List(l);
+                }
+                l.push(one(rest));
+            }
+        }
+        b'{' => {
+            *rest = &rest[1..];
+            let mut l = vec![];
+            loop {
+                skip(rest);
+                if rest[0] == b'}' {
+                    *rest = &rest[1..];
+                    return Json::Record(l);
+                }
+                let key = one(rest).text().to_string();
+                l.push((key, one(rest)));
+            }
+        }
+        b'"' => {
+            let n = rest[1..].iter().position(|b| *b == b'"').unwrap();
+            let t = String::from_utf8(rest[1..1 + n].to_vec()).unwrap();
+            *rest = &rest[n + 2..];
+            Json::Text(t)
+        }
+        _ => {
+            let n = rest.iter().position(|b| !b.is_ascii_digit()).unwrap_or(rest.len());
+            let v = std::str::from_utf8(&rest[..n]).unwrap().parse().unwrap();
+            *rest = &rest[n..];
+            Json::Number(v)
+        }
+    }
+}

@@ -1,0 +1,9 @@
+//! An independent implementation of document 01: trees on the heap, the relations as recursive functions, everything by its definition.
+pub mod calls;
+pub mod compare;
+pub mod json;
+pub mod pattern;
+pub mod random;
+pub mod rows;
+pub mod signature;
+pub mod tree;

@@ -1,0 +1,589 @@
+//! The differential test: the library against the reference, by fixed seeds and by the vectors.
+//!
+//!     differential [--vectors FOLDER] [--seed N] [--scale PERCENT]
+use reference::calls::{sound, TABLE};
+use reference::compare::Compare;
+use reference::json::Json;
+use reference::pattern::{self, admitted};
+use reference::random::*;
+use reference::rows::{rows_of, shared_value, Side};
+use reference::signature::{all_values, Signature};
+use std::time::Instant;
+
+const T: [u16; 15] = [6, 0, 2, 1, 2, 1, 0, 1, 0, 1, 0, 2, 0, 2, 0];
+
+fn main() {
+    // the reference recurses over trees as deep as a tree may be
+    let work = std::thread::Builder::new().stack_size(512 << 20).spawn(work).unwrap();
+    if work.join().is_err() {
+        std::process::exit(1);
+    }
+}
+
+fn option(name: &str) -> Option<String> {
+    let args: Vec<String> = std::env::args().collect();
+    args.iter().position(|a| a == name).map(|i| args[i + 1].clone())
+}
+
+fn work() {
+    let seed: u64 = option("--seed").map_or(1, |s| s.parse().unwrap());
+    let scale: usize = option("--scale").map_or(100, |s| s.parse().unwrap());
+    let mut c = Compare::new();
+    if let Some(folder) = option("--vectors") {
+        timed(&mut c, "vectors", |c| vectors(c, &folder));
+    }
+    let tests: [(&str, usize, fn(&mut Compare, &mut Random)); 9] = [
+        ("signatures", 12000, signatures),
+        ("bookings and parts", 12000, bookings),
+        ("patterns into an empty table", 60000, patterns),
+        ("brute force over small bookings", 10000, brute),
+        ("lists of calls", 5000, lists),
+        ("full tables", 60, full),
+        ("changed tables", 4000, tables),
+        ("changed trees", 2500, trees),
+        ("limits", 1, limits),
+    ];
+    for (i, (name, times, test)) in tests.into_iter().enumerate() {
+        timed(&mut c, name, |c| {
+            let mut r = Random::new(seed * 1000 + i as u64);
+            for _ in 0..(times * scale / 100).max(1) {
+                test(c, &mut r);
+            }
+        });
+    }
+    summary(&c, scale);
+}
+
+fn timed(c: &mut Compare, name: &str, f: impl FnOnce(&mut Compare)) {
+    let (before, start) = (c.calls(), Instant::now());
+    f(c);
+    println!("{name}: {} calls compared, {:.1} s", c.calls() - before, start.elapsed().as_secs_f64());
+}
+
+/// Each call's numbers: those that 01 lets it give, all of them reached.
+fn summary(c: &Compare, scale: usize) {
+    let known: [(&str, &[u16]); 7] = [
+        ("empty", &[0, 2]),
+        ("enter", &[0, 1, 2, 3, 4, 5, 7, 8, 9, 10, 11, 12]),
+        ("withdraw", &[0, 1, 2, 3, 4, 6]),
+        ("compile", &[0, 1, 2, 3, 14]),
+        ("decide", &[0, 1, 2, 3, 13]),
+        ("run", &[0, 1, 13, 15]),
+        ("part", &[0, 1, 13, 16]),
+    ];
+    for (call, numbers) in known {
+        let of = |n: &u16| c.given.get(&(call, *n)).copied().unwrap_or(0);
+        let line: Vec<String> = numbers.iter().map(|n| format!("{n}: {}", of(n))).collect();
+        println!("{call:9} {}", line.join(", "));
+        assert!(scale < 100 || numbers.iter().all(|n| of(n) > 0), "a number of {call} was not reached");
+    }
+    println!("{} calls compared, no difference", c.calls());
+    assert!(scale < 100 || c.calls() >= 100_000);
+}
+
+// ---- the tests
+
+fn fresh(r: &mut Random) -> Vec<u16> {
+    let n = *r.pick(&[TABLE, TABLE, TABLE + 1, 5000]);
+    (0..n).map(|_| r.next() as u16).collect()
+}
+
+fn emptied(c: &mut Compare, r: &mut Random) -> Vec<u16> {
+    let mut table = fresh(r);
+    assert_eq!(c.empty(&mut table), 0);
+    table
+}
+
+fn size(r: &mut Random) -> Size {
+    *r.pick(&[Size::Small, Size::Medium, Size::Medium, Size::Large])
+}
+
+/// Every call under a signature that may be damaged.
+fn signatures(c: &mut Compare, r: &mut Random) {
+    let of = size(r);
+    let (mut words, sig) = signature(r, of);
+    let b = booking(r, &sig);
+    let p = rule_pattern(r, &sig);
+    if !r.once_in(4) {
+        damage(r, &mut words);
+    }
+    if r.once_in(50) {
+        words = (0..r.below(30)).map(|_| r.below(4) as u16).collect();
+    }
+    c.part(&words, &b, r.below(b.len() + 1));
+    let tree = [*r.pick(&[0, 3]), 1, 5, 6, 0];
+    c.run(&words, &tree, &b);
+    if r.once_in(3) {
+        let mut table = emptied(c, r);
+        c.enter(&words, 5, 6, &p, &mut table, 4096);
+        c.decide(&words, &table, &b);
+        c.compile(&words, &table, &vec![9; 600]).ok();
+        c.withdraw(&words, 5, &mut table);
+    }
+}
+
+fn bookings(c: &mut Compare, r: &mut Random) {
+    let of = size(r);
+    let (words, sig) = signature(r, of);
+    let mut b = booking(r, &sig);
+    if r.once_in(3) {
+        damage(r, &mut b);
+    }
+    c.part(&words, &b, r.below(b.len() + 2));
+    c.part(&words, &b, if r.once_in(9) { usize::MAX } else { b.len().saturating_sub(1) });
+    let mut tree = vec![3, 1, 999, 65535, 1, 7, 0];
+    if r.once_in(4) {
+        damage(r, &mut tree);
+    }
+    c.run(&words, &tree, &b);
+}
+
+fn patterns(c: &mut Compare, r: &mut Random) {
+    let of = size(r);
+    let (words, sig) = if r.once_in(10) { (T.to_vec(), Signature::read(&T).unwrap()) } else { signature(r, of) };
+    let mut p = if r.once_in(8) { heavy_pattern(r, &sig) } else { rule_pattern(r, &sig) };
+    if r.once_in(4) {
+        damage(r, &mut p);
+    }
+    let mut table = vec![0; TABLE];
+    if c.enter(&words, r.between(1, 999) as u16, r.next() as u16, &p, &mut table, 4096) != 0 || r.once_in(2) {
+        return;
+    }
+    let tree = c.compile(&words, &table, &vec![7; 32768]);
+    let rule = &sound(&sig, &table).unwrap()[0];
+    for i in 0..2 {
+        let b = if rule.rows.is_empty() || i == 0 {
+            booking(r, &sig)
+        } else {
+            let row = r.pick(&rule.rows).clone();
+            value_in(r, &sig, 0, &row).words()
+        };
+        let direct = c.decide(&words, &table, &b);
+        if let Ok(t) = &tree {
+            assert_eq!(direct, c.run(&words, t, &b));
+        }
+    }
+}
+
+/// Overlap and ambiguity of small patterns, against all small bookings; the reference's own rows are judged by this too.
+fn brute(c: &mut Compare, r: &mut Random) {
+    let (words, sig) = signature(r, Size::Small);
+    let all = all_values(&sig, 0, 7, 300);
+    let (p, q) = (rule_pattern(r, &sig), rule_pattern(r, &sig));
+    let mut table = vec![0; TABLE];
+    if let Some(a) = pattern::read(&sig, &p) {
+        // a pattern is refused with 10 where some value is taken in two ways
+        if admitted(&sig, &p).is_ok() {
+            assert!(all.iter().all(|v| a.fits_with(v, 0).len() <= 1), "admitted, and taken in two ways: {words:?} {p:?}");
+            assert!(all.iter().all(|v| a.fits(v) != a.fails(v)));
+        }
+    }
+    let first = c.enter(&words, 1, 1, &p, &mut table, 4096);
+    let second = c.enter(&words, 2, 2, &q, &mut table, 4096);
+    if first != 0 || (second != 0 && second != 12) {
+        return;
+    }
+    let (a, b) = (admitted(&sig, &p).unwrap(), admitted(&sig, &q).unwrap());
+    let rows = (rows_of(&sig, &a, 0, Side::Plus), rows_of(&sig, &b, 0, Side::Plus));
+    for v in &all {
+        assert_eq!(a.fits(v), rows.0.iter().any(|row| row_takes(row, v)), "rows take what their pattern fits");
+        assert!(second == 12 || !(a.fits(v) && b.fits(v)), "both take {v:?}: {words:?} {p:?} {q:?}");
+    }
+    if let Some(v) = shared_value(&sig, 0, &rows.0, &rows.1) {
+        assert!(a.fits(&v) && b.fits(&v));
+        assert_eq!(second, 12);
+    } else {
+        assert_eq!(second, 0);
+    }
+    let tree = c.compile(&words, &table, &vec![7; 2000]);
+    for _ in 0..4 {
+        let b = r.pick(&all).words();
+        let direct = c.decide(&words, &table, &b);
+        if let Ok(t) = &tree {
+            assert_eq!(direct, c.run(&words, t, &b));
+        }
+    }
+}
+
+fn row_takes(row: &reference::rows::Row, v: &reference::signature::Value) -> bool {
+    use reference::rows::Test;
+    match &row.test {
+        Test::Named(c, parts) => *c == v.head && parts.iter().zip(&v.arguments).all(|(p, u)| row_takes(p, u)),
+        Test::Excluded(out) => !out.contains(&v.head),
+    }
+}
+
+/// Some patterns; each further one may exclude what earlier ones take, so that many of them stand side by side.
+fn family(r: &mut Random, sig: &Signature, n: usize) -> Vec<Vec<u16>> {
+    let mut all: Vec<Vec<u16>> = vec![];
+    while all.len() < n {
+        let mut p = rule_pattern(r, sig);
+        for _ in 0..r.below(4) {
+            if let (false, false) = (all.is_empty(), r.once_in(3)) {
+                let q = r.pick(&all).clone();
+                if p.len() + q.len() + 2 <= 64 {
+                    p = [vec![256], p, vec![260], q].concat();
+                }
+            }
+        }
+        all.push(p);
+    }
+    all
+}
+
+/// A list of calls from an emptied table; returns the table.
+fn list(c: &mut Compare, r: &mut Random, words: &[u16], sig: &Signature) -> Vec<u16> {
+    let mut table = emptied(c, r);
+    let n = r.between(2, 12);
+    let all = family(r, sig, n);
+    let numbers: Vec<u16> = (0..r.between(2, 14)).map(|_| r.between(1, 999) as u16).collect();
+    for _ in 0..r.between(3, 30) {
+        let number = if r.once_in(25) { *r.pick(&[0, 1000, 65535]) } else { *r.pick(&numbers) };
+        if r.once_in(4) {
+            c.withdraw(words, number, &mut table);
+            continue;
+        }
+        let mut p = r.pick(&all).clone();
+        if r.once_in(12) {
+            damage(r, &mut p);
+        }
+        let witness = if r.once_in(20) { *r.pick(&[0, 4095]) } else { *r.pick(&[4096, 4096, 4100]) };
+        c.enter(words, number, r.next() as u16, &p, &mut table, witness);
+    }
+    table
+}
+
+/// Bookings for a table: what its rules take, and others.
+fn asked(r: &mut Random, sig: &Signature, table: &[u16]) -> Vec<u16> {
+    if let (Some(rules), true) = (sound(sig, table), r.once_in(2)) {
+        let with: Vec<_> = rules.iter().filter(|x| !x.rows.is_empty()).collect();
+        if !with.is_empty() {
+            let rule = r.pick(&with);
+            let row = r.pick(&rule.rows).clone();
+            return value_in(r, sig, 0, &row).words();
+        }
+    }
+    let mut b = booking(r, sig);
+    if r.once_in(10) {
+        damage(r, &mut b);
+    }
+    b
+}
+
+fn compiled(c: &mut Compare, r: &mut Random, words: &[u16], table: &[u16]) -> Option<Vec<u16>> {
+    let space: Vec<u16> = (0..40000).map(|i| i as u16).collect();
+    let tree = c.compile(words, table, &space).ok();
+    if let (Some(t), true) = (&tree, r.once_in(3)) {
+        let n = t.len();
+        assert_eq!(c.compile(words, table, &space[..n]).as_ref(), Ok(t));
+        assert_eq!(c.compile(words, table, &space[..n - 1]), Err(14));
+        c.compile(words, table, &space[..r.below(n)]).ok();
+    }
+    tree
+}
+
+fn lists(c: &mut Compare, r: &mut Random) {
+    let of = size(r);
+    let (words, sig) = signature(r, of);
+    let table = list(c, r, &words, &sig);
+    let tree = compiled(c, r, &words, &table);
+    for _ in 0..8 {
+        let b = asked(r, &sig, &table);
+        let direct = c.decide(&words, &table, &b);
+        if let Some(t) = &tree {
+            assert_eq!(direct, c.run(&words, t, &b));
+        }
+    }
+}
+
+/// 64 rules, or weights of 256 in all, or one short of it; rules apart by one wide kind.
+fn full(c: &mut Compare, r: &mut Random) {
+    let (words, sig) = {
+        let mut w = vec![67u16, 0, 2, 1, 2, 1, 4, 1, 1, 1, 1, 1, 0];
+        for _ in 0..64 {
+            w.extend([2, 0]);
+        }
+        (w.clone(), Signature::read(&w).unwrap())
+    };
+    let mut table = emptied(c, r);
+    let kind = r.below(3);
+    for i in 0..80u16 {
+        let left: Vec<u16> = match kind {
+            // weights of 4, 64 times; of 1 to 9; of any size
+            0 => vec![257, 257, 258, 2, 257, 2, 1, 258, 258, 2, 2],
+            1 => (0..r.below(9)).flat_map(|_| [257, 2]).chain([258]).collect(),
+            _ => pattern(r, &sig, 1, Side::Plus, 20, &[]).words(),
+        };
+        let p = [vec![0], left, vec![3 + i % 64]].concat();
+        let number = if r.once_in(90) { 1 } else { 1 + i * 101 % 999 };
+        c.enter(&words, number, i, &p, &mut table, 4096);
+        if i > 64 && r.once_in(4) {
+            let held = table[1];
+            c.withdraw(&words, held, &mut table);
+        }
+    }
+    let tree = compiled(c, r, &words, &table);
+    for _ in 0..20 {
+        let b = asked(r, &sig, &table);
+        let direct = c.decide(&words, &table, &b);
+        if let Some(t) = &tree {
+            assert_eq!(direct, c.run(&words, t, &b));
+        }
+    }
+}
+
+fn tables(c: &mut Compare, r: &mut Random) {
+    let of = *r.pick(&[Size::Small, Size::Medium]);
+    let (words, sig) = signature(r, of);
+    let good = list(c, r, &words, &sig);
+    for _ in 0..4 {
+        let mut table = good.clone();
+        changed(r, &mut table);
+        let mut words = words.clone();
+        if r.once_in(10) {
+            damage(r, &mut words);
+        }
+        let b = asked(r, &sig, &good);
+        c.decide(&words, &table, &b);
+        if r.once_in(2) {
+            c.compile(&words, &table, &vec![5; 3000]).ok();
+            c.withdraw(&words, good[1], &mut table.clone());
+            let p = rule_pattern(r, &sig);
+            c.enter(&words, r.between(1, 999) as u16, 1, &p, &mut table, 4096);
+        }
+        if r.once_in(20) {
+            table.truncate(r.between(4200, TABLE));
+            c.empty(&mut table.clone());
+            c.decide(&words, &table, &b);
+            c.compile(&words, &table, &[]).ok();
+            c.withdraw(&words, 1, &mut table.clone());
+            c.enter(&words, 1, 1, &[258], &mut table, 4096);
+        }
+    }
+}
+
+/// Words of a table changed where rules stand, or just behind, or anywhere.
+fn changed(r: &mut Random, table: &mut [u16]) {
+    let mut used = 1;
+    for _ in 0..table[0] {
+        used += 3 + table[used + 2] as usize;
+    }
+    for i in 0..r.between(1, 2) {
+        match r.below(10) {
+            0 => table[0] = odd_word(r),
+            1 => table[0] = table[0].wrapping_add(r.below(3) as u16).wrapping_sub(1),
+            2 => {
+                let i = r.below(TABLE);
+                table[i] = odd_word(r);
+            }
+            3 => {
+                let i = r.between(TABLE - 3, table.len() - 1);
+                table[i] = odd_word(r);
+            }
+            4 => {
+                let i = r.between(1, used);
+                table[i.min(TABLE - 1)] = table[i.min(TABLE - 1)].wrapping_add(1);
+            }
+            5 => {
+                let (i, j) = (r.between(0, used), r.between(0, used));
+                table.swap(i, j);
+            }
+            6 if i == 0 && used < 2000 => {
+                // the rules once more behind themselves, under other numbers: they share bookings with themselves
+                let n = used - 1;
+                table.copy_within(1..used, used);
+                let mut at = used;
+                for _ in 0..table[0] {
+                    table[at] = table[at].saturating_add(r.below(900) as u16);
+                    at += 3 + table[at + 2] as usize;
+                }
+                table[0] *= 2;
+                used += n;
+            }
+            7 if i == 0 && table[0] > 1 => {
+                // a rule under the number of the next one, or under one more or one less
+                let mut at = 1;
+                for _ in 0..r.below(table[0] as usize - 1) {
+                    at += 3 + table[at + 2] as usize;
+                }
+                let next = table[at + 3 + table[at + 2] as usize];
+                table[at] = next + r.below(3) as u16 - 1;
+            }
+            _ => {
+                let i = r.between(1, used).min(TABLE - 1);
+                table[i] = odd_word(r);
+            }
+        }
+        used = used.min(TABLE - 1);
+    }
+}
+
+fn trees(c: &mut Compare, r: &mut Random) {
+    let of = *r.pick(&[Size::Small, Size::Medium]);
+    let (words, sig) = signature(r, of);
+    let table = list(c, r, &words, &sig);
+    let tree = compiled(c, r, &words, &table).unwrap_or(vec![3, 0]);
+    for _ in 0..15 {
+        let mut t = tree.clone();
+        let n = t.len();
+        match r.below(6) {
+            // changed near the front, where runs walk
+            0 | 1 | 2 => {
+                for _ in 0..r.between(1, 4) {
+                    let i = if r.once_in(2) { r.below(n.min(40)) } else { r.below(n) };
+                    t[i] = match r.below(4) {
+                        0 => r.below(4) as u16,
+                        1 => t[i].wrapping_add(1),
+                        2 => r.below(n + 2) as u16,
+                        _ => odd_word(r),
+                    };
+                }
+            }
+            3 => damage(r, &mut t),
+            4 => t.truncate(r.below(n + 1)),
+            _ => t = (0..r.below(30)).map(|_| *r.pick(&[0, 1, 1, 2, 3, 3, 3, 4, 5, 7, 12])).collect(),
+        }
+        let b = asked(r, &sig, &table);
+        c.run(&words, &t, &b);
+    }
+}
+
+/// Bookings of 4,095 to 4,097 words and 255 to 257 deep, tables and patterns at their limits, Case T.
+fn limits(c: &mut Compare, r: &mut Random) {
+    // kind 0: 0 (one argument), 1 (two), 2 (none)
+    let sig = [3, 0, 1, 0, 0, 2, 0, 0, 0, 0];
+    for n in 4090..4100 {
+        let b = exact(n);
+        for place in [0, 1, n / 2, n - 1, n, n + 1] {
+            c.part(&sig, &b, place);
+        }
+        // 4,096 visits: every part is taken
+        c.run(&sig, &[2, 0, 3, 6, 6, 6, 3, 0], &b);
+        let mut walk = vec![3; 1];
+        walk.extend([1, 1, 1, 1, 0, 0]);
+        c.run(&sig, &walk, &b);
+    }
+    // a tree that branches at every word, links of each node to the next: visits up to the limit
+    for n in [1usize, 50, 4095, 4096] {
+        let mut tree = vec![];
+        for _ in 0..n {
+            let next = tree.len() as u16 + 6;
+            tree.extend([2, 0, 3, next, next, next]);
+        }
+        tree.extend([1, 9, 9, 2, 0, 0, 15, (n - 1) as u16]);
+        c.run(&sig, &tree, &exact(n));
+        let last = tree.len() - 1;
+        tree[last] += 1;
+        c.run(&sig, &tree, &exact(n));
+    }
+    for n in 250..260 {
+        let b: Vec<u16> = std::iter::repeat(0).take(n - 1).chain([2]).collect();
+        c.part(&sig, &b, n - 1);
+        c.run(&sig, &[3, 0], &b);
+    }
+    for n in [1usize, 2, 62, 63, 64, 65, 66] {
+        for last in [2, 258, 261, 259] {
+            let p: Vec<u16> = std::iter::repeat(0).take(n - 1).chain([last]).collect();
+            c.enter(&sig, 1, 1, &p, &mut vec![0; TABLE], 4096);
+            let p: Vec<u16> = std::iter::repeat(260).take(n - 1).chain([last]).collect();
+            c.enter(&sig, 1, 1, &p, &mut vec![0; TABLE], 4096);
+        }
+    }
+    for (a, b) in [(8, 8), (5, 13), (7, 9), (1, 64), (1, 65), (16, 4), (13, 5)] {
+        let or = |n: usize| -> Vec<u16> { (0..n - 1).flat_map(|_| [257, 258]).chain([258]).collect() };
+        let p = [vec![256], or(a), or(b)].concat();
+        c.enter(&T, 1, 1, &p, &mut vec![0; TABLE], 4096);
+    }
+    for n in [0, 1, 4288, 4289, 4290] {
+        c.empty(&mut vec![7; n]);
+    }
+    case_t(c);
+    let _ = r;
+}
+
+/// A value of exactly n words.
+fn exact(n: usize) -> Vec<u16> {
+    match n {
+        1 => vec![2],
+        2 => vec![0, 2],
+        _ => {
+            let a = (n - 1) / 2;
+            [vec![1], exact(a), exact(n - 1 - a)].concat()
+        }
+    }
+}
+
+fn case_t(c: &mut Compare) {
+    let mut table = vec![0; TABLE];
+    assert_eq!(c.enter(&T, 7, 40, &[0, 1, 261], &mut table, 4096), 0);
+    assert_eq!(c.enter(&T, 9, 41, &[0, 260, 1, 5], &mut table, 4096), 0);
+    let tree = c.compile(&T, &table, &[0; 37]).unwrap();
+    assert_eq!(
+        tree,
+        [2, 0, 1, 4, 2, 1, 3, 10, 17, 27, 3, 1, 7, 40, 1, 0, 2, 2, 4, 2, 22, 23, 0, 1, 9, 41, 0, 2, 4, 2, 32, 33, 0, 1, 9, 41, 0]
+    );
+    for b in [[0, 1, 5], [0, 2, 5], [0, 3, 4]] {
+        assert_eq!(c.run(&T, &tree, &b), c.decide(&T, &table, &b));
+    }
+    assert_eq!(c.enter(&T, 8, 1, &[0, 258, 4], &mut table, 4096), 12);
+    let cases: [(&[u16], u16); 7] = [
+        (&[260, 260, 261], 0),
+        (&[260, 261], 0),
+        (&[257, 261, 261], 10),
+        (&[256, 261, 261], 8),
+        (&[257, 261, 258], 8),
+        (&[260, 0, 261, 258], 0),
+        (&[260, 0, 260, 261, 258], 8),
+    ];
+    for (p, n) in cases {
+        assert_eq!(c.enter(&T, 1, 1, p, &mut vec![0; TABLE], 4096), n);
+    }
+}
+
+// ---- the vectors
+
+fn vectors(c: &mut Compare, folder: &str) {
+    let mut files: Vec<_> = std::fs::read_dir(folder).unwrap().map(|f| f.unwrap().path()).collect();
+    files.sort();
+    for f in &files {
+        let v = Json::read(&std::fs::read_to_string(f).unwrap());
+        vector(c, &v, &f.display().to_string());
+    }
+    println!("{} lists of calls in {folder}", files.len());
+}
+
+fn vector(c: &mut Compare, v: &Json, name: &str) {
+    let sig = v.get("sig").words();
+    let mut table = vec![9; v.get("table_words").number()];
+    c.empty(&mut table);
+    for (call, number) in v.get("calls").list().iter().zip(v.get("numbers").words()) {
+        let call = call.list();
+        let n = call[1].number() as u16;
+        let got = match call[0].text() {
+            "enter" => c.enter(&sig, n, call[2].number() as u16, &call[3].words(), &mut table, call[4].number()),
+            _ => c.withdraw(&sig, n, &mut table),
+        };
+        assert_eq!(got, number, "{name}");
+    }
+    let mut expected = v.get("table").words();
+    expected.resize(TABLE, 0);
+    expected.resize(table.len(), 9);
+    assert_eq!(table, expected, "{name}");
+    let result = v.get("compile").words();
+    match c.compile(&sig, &table, &vec![9; v.get("space").number()]) {
+        Ok(tree) => assert!(result == [0, tree.len() as u16] && tree == v.get("tree").words(), "{name}"),
+        Err(n) => assert_eq!(result, [n, 0], "{name}"),
+    }
+    for d in v.get("decide").list() {
+        check(c.decide(&sig, &table, &d.get("booking").words()), d, name);
+    }
+    for d in v.get("run").list() {
+        check(c.run(&sig, &d.get("tree").words(), &d.get("booking").words()), d, name);
+    }
+}
+
+fn check(got: reference::calls::Answer, expected: &Json, name: &str) {
+    let a = expected.get("answer").list();
+    let n = |i: usize| a[i].number() as u16;
+    assert_eq!((got.0, got.1, got.2, got.3.to_vec()), (n(0), n(1), n(2), a[3].words()), "{name}");
+}
