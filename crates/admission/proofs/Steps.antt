@@ -12,10 +12,10 @@ use Rattle.pattern.specs.Given.{Patterned}
 use Rattle.pattern.specs.Linear.{linear-plus}
 use Rattle.pattern.specs.Pattern.{Pattern}
 use Rattle.pattern.specs.Read.{read-pattern}
-use Rattle.pattern.specs.Weighing.{weighed}
+use Rattle.weighing.specs.Weighing.{weighed}
 use Rattle.pattern.specs.Weight.{weight-plus, light-plus}
-use Rattle.pattern.specs.declared.weight.Weighed.{Weighed}
-use Rattle.pattern.specs.declared.weight.Weighed.the-variants.{Light, Heavy}
+use Rattle.weighing.specs.declared.weight.Weighed.{Weighed}
+use Rattle.weighing.specs.declared.weight.Weighed.the-variants.{Light, Heavy}
 use Rattle.pattern.proofs.PatternBack.{pattern-words}
 use Rattle.row.specs.Overlap.{ambiguous-plus}
 use Rattle.builder.specs.Build.{GivenWhole}

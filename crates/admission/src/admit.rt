@@ -1,9 +1,9 @@
 // The first of refusals 7 to 10 that applies to a pattern, or its weight.
 use ambiguity::ambiguous::ambiguous;
-use pattern::linear::linear;
-use pattern::read::well_formed;
-use pattern::weight::Weighed;
-use pattern::weight::weigh;
+use linearity::linear::linear;
+use reading::read::well_formed;
+use weighing::weight::Weighed;
+use weighing::weight::weigh;
 ghost use mathlib.Core.Path.{_≡_};
 ghost use lib.ListN.{length};
 ghost use Rattle.admission.specs.Admission.{GivenWords, admission-of};

@@ -1,9 +1,9 @@
 // Whether some part of a pattern, at the side on which it stands, is ambiguous (refusal 10).
 use crate::both::both;
-use pattern::linear::side_behind;
 use pattern::token::Word;
 use pattern::token::classify;
 use pattern::token::parts;
+use pattern::token::side_behind;
 use signature::decoded::argument_of;
 ghost use mathlib.Core.Path.{_≡_};
 ghost use mathlib.Core.Bool.{_&&_};

@@ -2,8 +2,8 @@
 use builder::build::rows;
 use cell::cell::KIND_TAG;
 use overlap::lists::lists_meet;
+use sets::set::full;
 use signature::decoded::count_of;
-use signature::set::full;
 ghost use mathlib.Core.Path.{_≡_};
 ghost use mathlib.Core.Bool.{not};
 ghost use Prim.Native.Nat.{_≤_};

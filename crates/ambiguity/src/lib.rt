@@ -1,3 +1,3 @@
 // Whether a pattern is ambiguous (refusal 10).
 pub mod ambiguous;
-pub mod both;
+mod both;

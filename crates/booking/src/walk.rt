@@ -29,7 +29,7 @@ pub enum Walked {
 }
 
 // At first one value of kind 0 is due.
-pub fn start(due: &mut [u16]) -> usize
+fn start(due: &mut [u16]) -> usize
     requires { ⌜ length (now due) ≡ due-limit ⌝ }
     ensures { λ r. ⌜ (r ≤ due-limit) × (drop r (now (due .exit)) ≡ due-of depth-limit 0 ∷ []) ⌝ }
 {
@@ -56,7 +56,7 @@ fn arguments_due(t: &[u16], due: &mut [u16], at: usize, c: usize, deep: u16) -> 
 }
 
 // One word of a booking.
-pub fn step(t: &[u16], due: &mut [u16], at: usize, w: u16) -> Walked
+fn step(t: &[u16], due: &mut [u16], at: usize, w: u16) -> Walked
     requires { ⌜ Known (now t) ⌝ }
     requires { ⌜ (length (now due) ≡ due-limit) × (at ≤ due-limit) × Room (drop at (now due)) ⌝ }
     ensures within { λ r. ⌜ Inside r ⌝ }

@@ -1,16 +1,16 @@
 // The rows of a pattern.
 use cell::cell::KIND_TAG;
 use pattern::token::FIRST_VARIABLE;
+use products::product::product;
 use rowlist::grow::copy;
-use rowlist::list::product;
 use rowlist::next::next_rows;
 use rowlist::next::others;
+use sets::set::full;
+use sets::set::without;
 use signature::decoded::argument_of;
 use signature::decoded::arity_of;
 use signature::decoded::count_of;
 use signature::decoded::first_of;
-use signature::set::full;
-use signature::set::without;
 ghost use mathlib.Core.Path.{_≡_};
 ghost use mathlib.Core.List.{[], _∷_};
 ghost use Prim.Native.Nat.{ℕ, _+_, _-_, _≤_, _<_};
@@ -266,14 +266,7 @@ fn args(
 }
 
 // The rows of the part in front of p, of kind k, on one side.
-pub fn part_rows(
-    t: &[u16],
-    k: usize,
-    p: &[u16],
-    plus: bool,
-    out: &mut [u64],
-    work: &mut [u64],
-) -> Built
+fn part_rows(t: &[u16], k: usize, p: &[u16], plus: bool, out: &mut [u64], work: &mut [u64]) -> Built
     requires { ⌜ GivenPart (now t) k (now p) plus (length (now out)) (length (now work)) ⌝ }
     ensures { λ r. ⌜ ((g : GivenPart (now (t .entry)) k (now (p .entry)) plus (length (now (out .entry))) (length (now (work .entry)))) → Made (kinds-of (g .known .sig)) (g .known .sig) k plus (g .p) (r .used) (r .read) (now (out .exit))) ⌝ }
 {

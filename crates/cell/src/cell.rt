@@ -115,7 +115,7 @@ pub fn opens(t: &[u16], tag: u64) -> usize
     0
 }
 
-pub fn put(out: &mut [u64], at: usize, c: Cell)
+fn put(out: &mut [u64], at: usize, c: Cell)
     requires { ⌜ at + 3 ≤ length (now out) ⌝ }
     ensures { λ _. ⌜ now (out .exit) ≡ putAt (now (out .entry)) at c ⌝ }
 {

@@ -1,24 +1,27 @@
 -- The call as a whole.
 use mathlib.Core.Path.{_≡_, refl, sym, ap, subst, _∙_}
 use mathlib.Core.List.{List}
-use mathlib.Core.Bool.{Bool, true, false, _&&_}
+use mathlib.Core.Option.{Option, none, some}
+use mathlib.Core.Bool.{Bool, true, false, cond, _&&_}
 use Prim.Native.Nat.{ℕ, _<_, _≤_}
 use native.Mathlib.Omega.{arith}
 use lib.ListN.{length}
 use Rattle.signature.specs.Decoded.{decoded-length}
+use Rattle.signature.specs.Read.{read-signature}
 use Rattle.signature.specs.Signature.{Signature}
 use Rattle.signature.proofs.Booleans.{and-left, and-right}
 use Rattle.signature.proofs.Tests.{leb-yes, leb-no, le-of}
-use Rattle.table.specs.Calls.{Entered as Answer, Enter, Shows, start, refused, begin, enter-start, enter-number, enter-table, long-table, long-witness}
+use Rattle.table.specs.Calls.{Entered as Answer, Enter, Shows, start, on-signature, on-sound, refused, begin, enter-start, enter-number, enter-table, long-table, long-witness}
 use Rattle.table.specs.Limits.{table-length, witness-length}
 use Rattle.table.specs.Rule.{Rule}
+use Rattle.table.specs.Sound.{sound}
 use Rattle.builder.specs.Build.{row-room}
 use Rattle.loading.specs.Add.{rows-room}
 use Rattle.opening.specs.Open.{GivenOpen, InForce, OpenedAs}
 use Rattle.opening.specs.declared.open.Opened.{Opened}
 use Rattle.opening.specs.declared.open.Opened.the-variants.{Begun, Refused as Closed}
 use Rattle.entry.specs.Check.{GivenCheck}
-use Rattle.entry.specs.Entry.{answer-of}
+use Rattle.entry.specs.Entry.{answer-of, Numbered}
 use Rattle.entry.specs.Settle.{EntryOf}
 use Rattle.entry.specs.declared.sound.Entry.the-variants.{Refused}
 
@@ -42,6 +45,25 @@ begin-inj sig sig′ rs rs′ p = (cc, cc)
 
 refused-begin : {A : Type 0} (q : ℕ) (sig : Signature) (rs : List Rule) → refused q ≡ begin sig rs → A
 refused-begin q sig rs p = absurd (let z : _≡_ {A = ℕ} 0 1 = cc in omega arith)
+
+-- 1, 2 and 3
+refused-some : (ss : List ℕ) (long : Bool) (table : List ℕ) (q : ℕ) → start ss long table ≡ refused q → 1 ≤ q
+refused-some ss long table q e = on-lawful (read-signature ss) e
+  where
+    numbers : (m : ℕ) → 1 ≤ m → refused m ≡ refused q → 1 ≤ q
+    numbers m h x = let z : m ≡ q = cc in omega (arith, z, h)
+
+    on-rules : (sig : Signature) (o : Option (List Rule)) → on-sound sig o ≡ refused q → 1 ≤ q
+    on-rules sig none x = numbers 3 (omega arith) x
+    on-rules sig (some rs) x = refused-begin q sig rs (sym x)
+
+    on-long : (sig : Signature) (b : Bool) → cond b (on-sound sig (sound sig table)) (refused 2) ≡ refused q → 1 ≤ q
+    on-long sig true x = on-rules sig (sound sig table) x
+    on-long sig false x = numbers 2 (omega arith) x
+
+    on-lawful : (o : Option Signature) → on-signature o long table ≡ refused q → 1 ≤ q
+    on-lawful none x = numbers 1 (omega arith) x
+    on-lawful (some sig) x = on-long sig long x
 
 module _ (ss : List ℕ) (n plan : ℕ) (ws table witness : List ℕ) where
   pub refused-early : (q : ℕ) → enter-start ss table witness ≡ refused q → Enter ss n plan ws table witness (answer-of (Refused q)) table witness
@@ -70,6 +92,9 @@ module _ (ss : List ℕ) (n plan : ℕ) (ws table witness : List ℕ) (long : Bo
   module _ (r : Opened) (t rows : List ℕ) (gave : OpenedAs ss long table r t rows) where
     pub not-opened : (q : ℕ) → r ≡ Closed q → Enter ss n plan ws table witness (answer-of (Refused q)) table witness
     not-opened q e = refused-early ss n plan ws table witness q (ap (λ b. start ss b table) (sym long-so) ∙ subst (λ z. OpenedAs ss long table z t rows) e gave)
+
+    pub numbered : (q : ℕ) → r ≡ Closed q → Numbered (Refused q)
+    numbered q e = refused-some ss long table q (subst (λ z. OpenedAs ss long table z t rows) e gave)
 
     module _ (used total : ℕ) (e : r ≡ Begun used total) (m : ℕ) (rows-is : length rows ≡ rows-room) (m-is : m ≡ row-room) where
       in-force : InForce ss long table used total t rows

@@ -10,7 +10,7 @@ use store::layout::TABLE;
 ghost use mathlib.Core.Path.{_≡_};
 ghost use mathlib.Core.Bool.{_&&_};
 ghost use Rattle.table.specs.Calls.{Enter, long-table, long-witness};
-ghost use Rattle.entry.specs.Entry.{answer-of};
+ghost use Rattle.entry.specs.Entry.{answer-of, Numbered};
 
 // The words of a witness buffer.
 pub const WITNESS: usize = 4096;
@@ -34,6 +34,7 @@ pub fn enter(
     witness: &mut [u16],
 ) -> Entry
     ensures { λ r. ⌜ Enter (now (ss .entry)) number plan (now (pattern .entry)) (now (table .entry)) (now (witness .entry)) (answer-of r) (now (table .exit)) (now (witness .exit)) ⌝ }
+    ensures { λ r. ⌜ Numbered r ⌝ }
 {
     let long = long_enough(table, witness);
     let mut t = [0u16; DECODED];

@@ -11,7 +11,7 @@ use Rattle.table.specs.Calls.{Entered as Answer}
 use Rattle.table.specs.Limits.{witness-length}
 use Rattle.table.specs.Rule.{stored, add-rule}
 use Rattle.entry.specs.Check.{GivenCheck, CheckedAs}
-use Rattle.entry.specs.Entry.{answer-of}
+use Rattle.entry.specs.Entry.{answer-of, Numbered}
 use Rattle.entry.specs.Settle.{GivenSettle, EntryOf}
 use Rattle.entry.specs.declared.check.Checked.{Checked}
 use Rattle.entry.specs.declared.check.Checked.the-variants.{Free, Refused as Barred}
@@ -30,6 +30,9 @@ module _ {t table : List ℕ} {used total : ℕ} {rows : List ℕ} {m : ℕ} (g 
         not-12 = λ f. (refl, refl, refl);
         on-12 = λ x. absurd (omega (arith, x, b));
       }
+
+  pub numbered : (q : ℕ) → r ≡ Barred q → Numbered (Refused q)
+  numbered q e = subst (λ z. CheckedAs (g .known .sig) (g .rs) n ws used total z rows′) e (gave g) .0
 
   pub settle-given : (at : ℕ) → r ≡ Free at → (m′ : ℕ) → m′ ≡ m → length rows′ ≡ length rows → (l : ℕ) → witness-length ≤ l → GivenSettle t table n ws at used rows′ m′ l
   settle-given at e m′ m-is rows-is l w =

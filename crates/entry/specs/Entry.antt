@@ -1,4 +1,5 @@
 -- The number and the values of an entry's answer, by cases.
+use Prim.Native.Nat.{_≤_}
 use Rattle.table.specs.Calls.{Entered as Answer}
 use Rattle.entry.specs.declared.sound.Entry.{Entry}
 use Rattle.entry.specs.declared.sound.Entry.the-variants.{Entered, Refused, Shares}
@@ -8,3 +9,9 @@ abbrev pub answer-of : Entry → Answer
 answer-of Entered = record { number = 0; sharer = 0; shown = 0 }
 answer-of (Refused n) = record { number = n; sharer = 0; shown = 0 }
 answer-of (Shares rule words) = record { number = 12; sharer = rule; shown = words }
+
+-- a refusal's number is not 0, so that no refusal answers as success does
+abbrev pub Numbered : Entry → Type 0
+Numbered Entered = Unit {0}
+Numbered (Refused n) = 1 ≤ n
+Numbered (Shares rule words) = Unit {0}

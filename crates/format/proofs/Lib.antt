@@ -3,5 +3,3 @@ pub mod TextSteps
 pub mod TextLaws
 pub mod FormatSteps
 pub mod Laws
-pub mod Program
-pub mod Found

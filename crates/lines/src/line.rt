@@ -47,7 +47,7 @@ fn end_of(t: &[u8], key: &[u8]) -> usize
     t.len()
 }
 
-pub fn number_line(t: &[u8], key: &[u8]) -> WordLine
+fn number_line(t: &[u8], key: &[u8]) -> WordLine
     ensures { λ r. ⌜ r ≡ word-line-of (number-line (now (key .entry)) (now (t .entry))) ⌝ }
 {
     let e = end_of(t, key);

@@ -29,7 +29,7 @@ pub fn place(t: &[u16], p: &[u16], used: usize, rows: &mut [u64], work: &mut [u6
     at + k + 1
 }
 
-pub fn add(
+pub(crate) fn add(
     t: &[u16],
     p: &[u16],
     n: u16,

@@ -1,4 +1,4 @@
 // The rows of all rules of a table, list behind list.
 pub mod add;
-pub mod lists;
+mod lists;
 pub mod load;

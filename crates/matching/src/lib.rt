@@ -1,5 +1,5 @@
 // Patterns against bookings.
 pub mod places;
 pub mod promises;
-pub mod span;
+mod span;
 pub mod takes;

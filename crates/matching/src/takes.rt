@@ -19,7 +19,7 @@ pub fn takes(t: &[u16], p: &[u16], b: &[u16]) -> bool
 }
 
 // Whether the pattern that begins p fits the value that begins b. The place of the value does not matter.
-pub fn fits(t: &[u16], p: &[u16], b: &[u16]) -> bool
+pub(crate) fn fits(t: &[u16], p: &[u16], b: &[u16]) -> bool
     requires { ⌜ Given (now t) (now p) (now b) ⌝ }
     ensures { λ r. ⌜ ((g : Given (now (t .entry)) (now (p .entry)) (now (b .entry))) (i : ℕ) → r ≡ is-fit (decide (g .pattern) (g .value) i)) ⌝ }
 {
@@ -56,7 +56,7 @@ fn two_fit(t: &[u16], p: &[u16], b: &[u16], both: bool) -> bool
 }
 
 // The n patterns that begin p fit the n values that begin b, each its own.
-pub fn all_fit(t: &[u16], p: &[u16], b: &[u16], n: u16) -> bool
+pub(crate) fn all_fit(t: &[u16], p: &[u16], b: &[u16], n: u16) -> bool
     requires { ⌜ GivenAll (now t) (now p) (now b) n ⌝ }
     ensures { λ r. ⌜ ((g : GivenAll (now (t .entry)) (now (p .entry)) (now (b .entry)) n) (i : ℕ) → r ≡ is-fit (decides (g .patterns) (g .values) i)) ⌝ }
 {

@@ -1,10 +1,10 @@
 // Least values.
 use cell::cell::KIND_TAG;
+use sets::set::lowest;
 use signature::decoded::argument_of;
 use signature::decoded::arity_of;
 use signature::decoded::first_of;
 use signature::decoded::least_head_of;
-use signature::set::lowest;
 ghost use mathlib.Core.Path.{_≡_};
 ghost use mathlib.Core.List.{_∷_};
 ghost use Prim.Native.Nat.{_<_, _≤_, _-_};
@@ -12,7 +12,7 @@ ghost use lib.ListN.{length, drop};
 ghost use Rattle.overlap.specs.Least.{GivenHead, Written, GivenPlace, Placed};
 
 // A constructor and the least values of its arguments, first in out; how many words.
-pub fn with_least(t: &[u16], c: u16, out: &mut [u16]) -> usize
+fn with_least(t: &[u16], c: u16, out: &mut [u16]) -> usize
     requires { ⌜ GivenHead (now t) c (now out) ⌝ }
     ensures { λ r. ⌜ ((g : GivenHead (now (t .entry)) c (now (out .entry))) → Written g r (now (out .exit))) ⌝ }
 {
@@ -30,7 +30,7 @@ pub fn with_least(t: &[u16], c: u16, out: &mut [u16]) -> usize
 }
 
 // A value of kind k under the lowest head that is allowed, first in out; how many words.
-pub fn lowest_value(t: &[u16], k: usize, allowed: u64, out: &mut [u16]) -> usize
+fn lowest_value(t: &[u16], k: usize, allowed: u64, out: &mut [u16]) -> usize
     requires { ⌜ GivenPlace (now t) k allowed (now out) ⌝ }
     ensures { λ r. ⌜ ((g : GivenPlace (now (t .entry)) k allowed (now (out .entry))) → Placed g r (now (out .exit))) ⌝ }
 {

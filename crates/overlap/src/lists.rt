@@ -8,7 +8,7 @@ ghost use Rattle.rowlist.specs.Product.{ones};
 ghost use Rattle.overlap.specs.Lists.{RowByList, TwoLists};
 
 // Whether the row at the front of x meets some row of the list y.
-pub fn row_meets(t: &[u16], x: &[u64], y: &[u64]) -> bool
+fn row_meets(t: &[u16], x: &[u64], y: &[u64]) -> bool
     requires { ⌜ RowByList (now t) (now x) (now y) ⌝ }
     ensures { λ r. ⌜ ((g : RowByList (now (t .entry)) (now (x .entry)) (now (y .entry))) → r ≡ not (is-empty (ones (g .r) (g .ss)))) ⌝ }
 {

@@ -1,8 +1,8 @@
 // A set of the rows of a table, 64 to a word.
-use signature::set::has as has_bit;
-use signature::set::lowest;
-use signature::set::with;
-use signature::set::without;
+use sets::set::has as has_bit;
+use sets::set::lowest;
+use sets::set::with;
+use sets::set::without;
 ghost use mathlib.Core.Path.{_≡_};
 ghost use mathlib.Core.Bool.{cond};
 ghost use Prim.Native.Nat.{ℕ, _≤_, _<_, min};
@@ -14,7 +14,7 @@ pub const SET_WORDS: usize = 4;
 
 const WORD: usize = 64;
 
-pub fn has(s: &[u64; SET_WORDS], r: usize) -> bool
+pub(crate) fn has(s: &[u64; SET_WORDS], r: usize) -> bool
     requires { ⌜ r < row-limit ⌝ }
     ensures { λ b. ⌜ b ≡ member (now (s .entry)) r ⌝ }
 {

@@ -9,28 +9,28 @@ pub const ROW: usize = 72;
 
 pub const OWN: usize = 4;
 
-pub fn start_of(rows: &[u16], r: usize) -> u16
+pub(crate) fn start_of(rows: &[u16], r: usize) -> u16
     requires { ⌜ row-stride * r + row-stride ≤ length (now rows) ⌝ }
     ensures { λ w. ⌜ w ≡ start-of (now (rows .entry)) r ⌝ }
 {
     rows[ROW * r]
 }
 
-pub fn rule_of(rows: &[u16], r: usize) -> u16
+pub(crate) fn rule_of(rows: &[u16], r: usize) -> u16
     requires { ⌜ row-stride * r + row-stride ≤ length (now rows) ⌝ }
     ensures { λ w. ⌜ w ≡ rule-of (now (rows .entry)) r ⌝ }
 {
     rows[ROW * r + 2]
 }
 
-pub fn plan_of(rows: &[u16], r: usize) -> u16
+pub(crate) fn plan_of(rows: &[u16], r: usize) -> u16
     requires { ⌜ row-stride * r + row-stride ≤ length (now rows) ⌝ }
     ensures { λ w. ⌜ w ≡ plan-of (now (rows .entry)) r ⌝ }
 {
     rows[ROW * r + 3]
 }
 
-pub fn own_of(rows: &[u16], r: usize, q: usize) -> u16
+pub(crate) fn own_of(rows: &[u16], r: usize, q: usize) -> u16
     requires { ⌜ (row-stride * r + row-stride ≤ length (now rows)) × (q ≤ pattern-limit) ⌝ }
     ensures { λ w. ⌜ w ≡ own-of (now (rows .entry)) r q ⌝ }
 {

@@ -7,10 +7,7 @@ pub mod PatternBack
 pub mod Unique
 pub mod Covering
 pub mod Laws
-pub mod Skip
 pub mod ReadSteps
 pub mod Opened
 pub mod StandsLaw
-pub mod WeightSteps
-pub mod VarSets
-pub mod LinearSteps
+pub mod Sides

@@ -12,8 +12,6 @@ pub mod WellFormed
 pub mod Laws
 pub mod Cases
 pub mod Word
-pub mod End
 pub mod Side
 pub mod Given
-pub mod Weighing
 pub mod Linearity

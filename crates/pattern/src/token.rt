@@ -2,6 +2,7 @@
 ghost use mathlib.Core.Path.{_≡_};
 ghost use lib.ListN.{length};
 ghost use Rattle.signature.specs.Decoded.{decoded-length};
+ghost use Rattle.pattern.specs.Linearity.{side-of, behind};
 ghost use Rattle.pattern.specs.Read.{form};
 ghost use Rattle.pattern.specs.Word.{form-of, part-count, head-small};
 
@@ -51,5 +52,21 @@ pub fn parts(t: &[u16], w: Word) -> u16
         Word::Not => 1,
         Word::Var(_x) => 0,
         Word::Other => 0,
+    }
+}
+
+// The side of the parts behind a word.
+pub fn side_behind(w: Word, plus: bool) -> bool
+    ensures { λ r. ⌜ side-of r ≡ behind (form-of w) (side-of plus) ⌝ }
+{
+    match w {
+        Word::Head(_c) => plus,
+        Word::And => plus,
+        Word::Or => plus,
+        Word::Wild => plus,
+        Word::Absurd => plus,
+        Word::Not => !plus,
+        Word::Var(_x) => plus,
+        Word::Other => plus,
     }
 }

@@ -4,20 +4,20 @@ use matching::places::UNBOUND;
 use matching::places::VARIABLES;
 use matching::places::places;
 use matching::takes::takes;
-use pattern::weight::Weighed;
+use weighing::weight::Weighed;
 ghost use Rattle.signature.specs.Decoded.{Known};
 
 // The refusal of a pattern by itself: 7, 8, 9, or 0 for none.
 fn refusal(t: &[u16], p: &[u16]) -> u64
     requires { ⌜ Known (now t) ⌝ }
 {
-    if !pattern::read::well_formed(t, p) {
+    if !reading::read::well_formed(t, p) {
         return 7;
     }
-    if !pattern::linear::linear(t, p) {
+    if !linearity::linear::linear(t, p) {
         return 8;
     }
-    let Weighed::Light(_n) = pattern::weight::weigh(t, p) else {
+    let Weighed::Light(_n) = weighing::weight::weigh(t, p) else {
         return 9;
     };
     0
@@ -45,7 +45,7 @@ fn bindings(out: &[u16; VARIABLES]) {
 fn answer(t: &[u16], p: &[u16], b: &[u16])
     requires { ⌜ Known (now t) ⌝ }
 {
-    if !pattern::read::well_formed(t, p) {
+    if !reading::read::well_formed(t, p) {
         return;
     }
     if !booking::walk::lawful(t, b) {

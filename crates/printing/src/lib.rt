@@ -1,4 +1,4 @@
 // What the text program prints, as bytes in a lent space.
-pub mod pairs;
+mod pairs;
 pub mod print;
-pub mod put;
+mod put;

@@ -32,7 +32,7 @@ fn append(x: &[u64], n: usize, y: &[u64], m: usize, out: &mut [u64]) -> usize
 }
 
 // Each row of the list y behind the row of n words at the front of x.
-pub fn append_all(x: &[u64], n: usize, y: &[u64], out: &mut [u64]) -> usize
+pub(crate) fn append_all(x: &[u64], n: usize, y: &[u64], out: &mut [u64]) -> usize
     requires { ⌜ GivenAppends (now x) n (now y) (length (now out)) ⌝ }
     ensures { λ r. ⌜ ((g : GivenAppends (now (x .entry)) n (now (y .entry)) (length (now (out .entry)))) → Begins (words-list (appends (g .left .row) (g .right .rows))) r (now (out .exit))) ⌝ }
 {
@@ -48,7 +48,7 @@ pub fn append_all(x: &[u64], n: usize, y: &[u64], out: &mut [u64]) -> usize
 }
 
 // Each row of the list y behind each of the list x: the list of them first in out; how many words without its end.
-pub fn append_each(x: &[u64], y: &[u64], out: &mut [u64]) -> usize
+pub(crate) fn append_each(x: &[u64], y: &[u64], out: &mut [u64]) -> usize
     requires { ⌜ GivenGrow (now x) (now y) (length (now out)) ⌝ }
     ensures { λ r. ⌜ ((g : GivenGrow (now (x .entry)) (now (y .entry)) (length (now (out .entry)))) → Product (words-list (grown (g .left .rows) (g .right .rows))) r (now (out .exit))) ⌝ }
 {
@@ -65,7 +65,7 @@ pub fn append_each(x: &[u64], y: &[u64], out: &mut [u64]) -> usize
 }
 
 // How many rows a list has.
-pub fn count(y: &[u64]) -> usize
+pub(crate) fn count(y: &[u64]) -> usize
     requires { ⌜ ListFirst (now y) ⌝ }
     ensures { λ r. ⌜ ((g : ListFirst (now (y .entry))) → r ≡ length (g .rows)) ⌝ }
 {

@@ -1,4 +1,3 @@
-// Lists of rows: their products, and rows behind rows.
+// Lists of rows: rows behind rows.
 pub mod grow;
-pub mod list;
 pub mod next;

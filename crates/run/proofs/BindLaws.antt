@@ -17,7 +17,7 @@ use Rattle.pattern.specs.Places.{unbound}
 use Rattle.tree.specs.Limits.{last-number}
 use Rattle.tree.specs.Run.{bound}
 use Rattle.tree.specs.RunCall.{refusal, run-at}
-use Rattle.run.specs.Step.{hit-at, hit-binds}
+use Rattle.run.specs.Hit.{hit-at, hit-binds}
 
 pub to-end : (w : List ℕ) (at : ℕ) → take (length w - at) (drop at w) ≡ drop at w
 to-end w at = take-all (length w - at) (drop at w) (omega (arith, length-drop at w))

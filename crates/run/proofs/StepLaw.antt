@@ -22,9 +22,10 @@ use Rattle.tree.specs.Answer.{Answer, no-rule}
 use Rattle.tree.specs.Run.{run, vjoin, at-hit, at-test, at-skip}
 use Rattle.tree.proofs.RunFuel.{run-enough}
 use Rattle.tree.proofs.TreeFacts.{kindeds-join}
-use Rattle.run.specs.Step.{link-step, hit-step, test-step, skip-step, word-step, step-at, hit-at}
-use Rattle.run.specs.declared.node.Step.{Step}
-use Rattle.run.specs.declared.node.Step.the-variants.{Default, Hit, On, Broken}
+use Rattle.nodes.specs.Step.{link-step, hit-step, test-step, skip-step, word-step, step-at}
+use Rattle.nodes.specs.declared.node.Step.{Step}
+use Rattle.nodes.specs.declared.node.Step.the-variants.{Default, Hit, On, Broken}
+use Rattle.run.specs.Hit.{hit-at}
 
 join-codes : (us vs : Values) → codes (vjoin us vs) ≡ codes us ++ codes vs
 join-codes vnil vs = refl

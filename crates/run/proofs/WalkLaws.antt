@@ -14,10 +14,12 @@ use Rattle.signature.proofs.Values.{booking-lawful}
 use Rattle.tree.specs.Answer.{no-rule}
 use Rattle.tree.specs.Limits.{default-plan}
 use Rattle.tree.specs.RunCall.{refusal, run-at}
-use Rattle.run.specs.Parts.{Booked, Parts}
-use Rattle.run.specs.Step.{step-at, hit-at}
-use Rattle.run.specs.declared.node.Step.{Step}
-use Rattle.run.specs.declared.node.Step.the-variants.{Default, Hit, On, Broken}
+use Rattle.nodes.specs.Parts.{Parts}
+use Rattle.nodes.specs.Step.{step-at}
+use Rattle.nodes.specs.declared.node.Step.{Step}
+use Rattle.nodes.specs.declared.node.Step.the-variants.{Default, Hit, On, Broken}
+use Rattle.run.specs.Hit.{hit-at}
+use Rattle.run.specs.Parts.{Booked}
 use Rattle.run.proofs.BindLaws.{to-end}
 use Rattle.run.proofs.StepLaw.{run-from, Leads, More, step-law}
 

@@ -1,4 +1,4 @@
 pub mod Outcome
 pub mod Parts
-pub mod Step
+pub mod Hit
 pub mod Laws

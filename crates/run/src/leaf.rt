@@ -6,7 +6,7 @@ ghost use Rattle.tree.specs.Answer.{no-rule};
 ghost use Rattle.tree.specs.Limits.{default-plan};
 ghost use Rattle.tree.specs.RunCall.{refusal, run-at};
 ghost use Rattle.run.specs.Outcome.{outcome};
-ghost use Rattle.run.specs.Step.{hit-at, hit-binds};
+ghost use Rattle.run.specs.Hit.{hit-at, hit-binds};
 
 // The tree is broken.
 pub const TREE_BROKEN: u16 = 15;
@@ -81,7 +81,7 @@ fn bind(rule: u16, plan: u16, count: usize, pairs: &[u16], visits: &[u16]) -> Ra
 }
 
 // A hit leaf, with no booking left.
-pub fn hit(t: &[u16], visits: &[u16]) -> Ran
+pub(crate) fn hit(t: &[u16], visits: &[u16]) -> Ran
     ensures { λ r. ⌜ outcome r ≡ run-at (hit-at (now (t .entry)) (now (visits .entry))) ⌝ }
 {
     if t.len() < HIT_WORDS {

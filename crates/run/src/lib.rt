@@ -1,16 +1,16 @@
 // A run of a tree over a booking, with refusals 1, 13 and 15.
 pub mod leaf;
-pub mod node;
 pub mod promises;
 
 use crate::leaf::TREE_BROKEN;
 use crate::leaf::VARIABLES;
-use crate::node::Step;
 use booking::part::BOOKING_UNLAWFUL;
 use booking::part::SIGNATURE_UNLAWFUL;
 use booking::walk;
 use booking::walk::BOOKING_LIMIT;
 use decoding::decode;
+use nodes::node;
+use nodes::node::Step;
 use signature::decoded;
 ghost use mathlib.Core.Path.{_≡_};
 ghost use mathlib.Core.List.{[]};

@@ -16,7 +16,7 @@ pub enum Found {
 }
 
 // The index behind the last rule.
-pub fn end(table: &[u16]) -> usize
+pub(crate) fn end(table: &[u16]) -> usize
     requires { ⌜ ((rs : List Rule) × Holds (now table) rs) ⌝ }
     ensures { λ r. ⌜ ((rs : List Rule) → Holds (now (table .entry)) rs → r ≡ suc (length (rules-words rs))) ⌝ }
 {

@@ -1,5 +1,5 @@
 // A booking that two patterns share, as words.
-pub mod fill;
+mod fill;
 pub mod lists;
-pub mod pair;
+mod pair;
 pub mod promises;

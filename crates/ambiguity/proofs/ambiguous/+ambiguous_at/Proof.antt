@@ -18,7 +18,7 @@ use Rattle.ambiguity.proofs.ambiguous.either.Reads as either-reads
 use Rattle.ambiguity.proofs.ambiguous.is_variable.Reads as is-variable-reads
 use Rattle.ambiguity.proofs.ambiguous.part_kind.Reads as part-kind-reads
 use Rattle.ambiguity.proofs.ambiguous.twice.Reads as twice-reads
-use Rattle.pattern.proofs.linear.side_behind.Reads as side-behind-reads
+use Rattle.pattern.proofs.token.side_behind.Reads as side-behind-reads
 use Rattle.pattern.proofs.token.classify.Reads as classify-reads
 use Rattle.pattern.proofs.token.parts.Reads as parts-reads
 use Rattle.ambiguity.proofs.ambiguous.+ambiguous_at.{statement}

@@ -40,7 +40,7 @@ use Rattle.rowlist.proofs.next.next_rows.Reads as next-rows-reads
 use Rattle.rowlist.proofs.next.others.Reads as others-reads
 use Rattle.signature.proofs.decoded.argument_of.Reads as argument-of-reads
 use Rattle.signature.proofs.decoded.arity_of.Reads as arity-of-reads
-use Rattle.signature.proofs.set.without.Reads as without-reads
+use Rattle.sets.proofs.set.without.Reads as without-reads
 use Rattle.builder.proofs.build.+added+args+head_rows+multiplied+rows.{statement}
 use Rattle.builder.proofs.build.+added+args+head_rows+multiplied+rows.Tie.{close}
 

@@ -1,0 +1,4 @@
+pub mod Program
+pub mod Found
+pub mod InForce
+pub mod Steps

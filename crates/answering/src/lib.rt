@@ -1,0 +1,3 @@
+// The text program: from the bytes of a text to the bytes that it prints.
+pub mod answer;
+mod rules;

@@ -1,0 +1,2 @@
+pub mod VarSets
+pub mod LinearSteps

@@ -1,0 +1,2 @@
+// Whether patterns are linear.
+pub mod linear;

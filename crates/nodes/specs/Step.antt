@@ -1,0 +1,52 @@
+-- 01, Tree: what one node asks for, by the words of the tree from the node on.
+use mathlib.Core.List.{List}
+use mathlib.Core.Option.{Option, some, none}
+use mathlib.Core.Bool.{_&&_, cond}
+use Prim.Native.Nat.{ℕ, _+_, _-_}
+use lib.Dec.{leb, eqb, ltb}
+use lib.ListN.{length}
+use Rattle.signature.specs.Lists.{_>>=_, require, at, first}
+use Rattle.signature.specs.Signature.{Signature, heads}
+use Rattle.signature.specs.Value.{Values, vnil, vcons, con, size}
+use Rattle.nodes.specs.declared.node.Step.{Step}
+use Rattle.nodes.specs.declared.node.Step.the-variants.{Default, Hit, On, Broken}
+
+-- a node 2 at index i: how far the link for the constructor c leads on
+abbrev pub link-to : Signature → List ℕ → ℕ → ℕ → Option ℕ
+link-to sig t i c = do
+  d ← at sig c
+  f ← at t 1
+  n ← at t 2
+  _ ← require (eqb f (first (heads sig (d .kind))) && eqb n (length (heads sig (d .kind))))
+  link ← at t (3 + (c - f))
+  _ ← require (ltb i link)
+  _ ← require (leb (link - i) (length t))
+  some (link - i)
+
+abbrev pub or-0 : Option ℕ → ℕ
+or-0 none = 0
+or-0 (some d) = d
+
+abbrev pub link-step : Option ℕ → Step
+link-step none = Broken
+link-step (some d) = On d 1
+
+abbrev pub hit-step : Values → Step
+hit-step vnil = Hit
+hit-step (vcons v rest) = Broken
+
+abbrev pub test-step : Signature → List ℕ → ℕ → Values → Step
+test-step sig t i vnil = Broken
+test-step sig t i (vcons (con c us) rest) = link-step (link-to sig t i c)
+
+abbrev pub skip-step : Values → Step
+skip-step vnil = Broken
+skip-step (vcons v rest) = On 1 (size v)
+
+abbrev pub word-step : Signature → List ℕ → ℕ → Values → Option ℕ → Step
+word-step sig t i vs none = Broken
+word-step sig t i vs (some w) = cond (eqb w 0) Default (cond (eqb w 1) (hit-step vs) (cond (eqb w 2) (test-step sig t i vs) (cond (eqb w 3) (skip-step vs) Broken)))
+
+-- the node at index i, with these parts of the booking left; t is the tree from the node on
+abbrev pub step-at : Signature → List ℕ → ℕ → Values → Step
+step-at sig t i vs = word-step sig t i vs (at t 0)

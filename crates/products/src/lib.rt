@@ -1,0 +1,2 @@
+// The products of lists of rows.
+pub mod product;

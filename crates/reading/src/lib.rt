@@ -1,0 +1,2 @@
+// The reader of patterns.
+pub mod read;

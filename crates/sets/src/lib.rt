@@ -1,0 +1,2 @@
+// Sets of at most 64 numbers.
+pub mod set;

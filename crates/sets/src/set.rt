@@ -1,0 +1,65 @@
+// A set of numbers below 64, in a u64: i is a member where bit i is set.
+ghost use mathlib.Core.Path.{_≡_};
+ghost use Prim.Native.Nat.{ℕ, _<_, _≤_, min, max};
+ghost use lib.Dec.{eqb, ltb};
+ghost use lib.ListN.{length};
+ghost use Rattle.signature.specs.Set.{set-limit, bit, bit-if, members, Lowest};
+
+pub const SET_LIMIT: u32 = 64;
+
+pub fn has(s: u64, i: u32) -> bool
+    requires { ⌜ i < set-limit ⌝ }
+    ensures { λ r. ⌜ r ≡ eqb (bit s i) 1 ⌝ }
+{
+    (s >> i) & 1 == 1
+}
+
+pub fn with(s: u64, i: u32) -> u64
+    requires { ⌜ i < set-limit ⌝ }
+    ensures { λ r. ⌜ ((j : ℕ) → bit r j ≡ bit-if (eqb j i) 1 (bit s j)) ⌝ }
+{
+    s | (1 << i)
+}
+
+pub fn without(s: u64, i: u32) -> u64
+    requires { ⌜ i < set-limit ⌝ }
+    ensures { λ r. ⌜ ((j : ℕ) → bit r j ≡ bit-if (eqb j i) 0 (bit s j)) ⌝ }
+{
+    s & !(1 << i)
+}
+
+pub fn meet(a: u64, b: u64) -> u64
+    ensures { λ r. ⌜ ((j : ℕ) → bit r j ≡ min (bit a j) (bit b j)) ⌝ }
+{
+    a & b
+}
+
+pub fn join(a: u64, b: u64) -> u64
+    ensures { λ r. ⌜ ((j : ℕ) → bit r j ≡ max (bit a j) (bit b j)) ⌝ }
+{
+    a | b
+}
+
+pub fn size(s: u64) -> u32
+    ensures { λ r. ⌜ r ≡ length (members s) ⌝ }
+{
+    u64::count_ones(s)
+}
+
+pub fn lowest(s: u64) -> u32
+    requires { ⌜ 0 < s ⌝ }
+    ensures { λ r. ⌜ Lowest s r ⌝ }
+{
+    u64::trailing_zeros(s)
+}
+
+// The numbers below n. A shift by 64 is none, so all 64 are written out.
+pub fn full(n: u32) -> u64
+    requires { ⌜ n ≤ set-limit ⌝ }
+    ensures { λ r. ⌜ ((j : ℕ) → bit r j ≡ bit-if (ltb j n) 1 0) ⌝ }
+{
+    if n == SET_LIMIT {
+        return !0;
+    }
+    (1 << n) - 1
+}

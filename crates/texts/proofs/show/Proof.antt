@@ -1,0 +1,27 @@
+-- `show` is safe and ends.
+use mathlib.Core.Path.{sym}
+use lib.Seq.{length-take-le}
+use borrow.Author.Needs.{needs}
+use Rattle.answering.proofs.Steps.{printed-fits}
+use Rattle.texts.proofs.show.Statement.{statement}
+use Rattle.texts.proofs.show.Tie as tie
+
+pub show-spec : {M : Type 1} → statement M
+show-spec =
+    tie.close
+    (tie.spec
+    (λ c κs. search needs)
+    (λ c. search needs)
+    (λ c κs. search needs)
+    (λ c κs. search needs)
+    (λ c. search needs)
+    (λ c. search needs)
+    (λ c κs. search needs)
+    (λ c κs. search needs)
+    (λ c. search needs)
+    (λ c. search needs)
+    (λ c κs. search needs)
+    (λ c. printed-fits (c .answer .ensures))
+    (λ c. sym (length-take-le _ _ (printed-fits (c .before .answer .ensures))))
+    (λ c κs. search needs)
+    (λ c. search needs))

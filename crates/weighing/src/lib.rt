@@ -1,0 +1,2 @@
+// The weight of patterns.
+pub mod weight;
