@@ -497,9 +497,53 @@ fn limits(c: &mut Compare, r: &mut Random) {
     for n in [0, 1, 4288, 4289, 4290] {
         c.empty(&mut vec![7; n]);
     }
+    signatures_at_limits(c);
     tables_at_limits(c);
     case_t(c);
     let _ = r;
+}
+
+/// Signatures by hand: 31 to 34 kinds, 63 to 66 constructors of a kind, 255 to 257 constructors, least values of 5 to 8 words, 3 to 5 arguments.
+fn signatures_at_limits(c: &mut Compare) {
+    let of = |kinds: &[Vec<Vec<u16>>]| {
+        let mut w = vec![kinds.iter().map(|k| k.len()).sum::<usize>() as u16];
+        for (k, constructors) in kinds.iter().enumerate() {
+            for a in constructors {
+                w.extend([k as u16, a.len() as u16]);
+                w.extend(a);
+            }
+        }
+        w
+    };
+    let mut all = vec![];
+    for n in 31..=34 {
+        all.push(of(&vec![vec![vec![]]; n]));
+    }
+    for n in 63..=66 {
+        all.push(of(&[vec![vec![]; n]]));
+        all.push(of(&[vec![vec![1]], vec![vec![]; n]]));
+    }
+    for n in 255..=257 {
+        let mut kinds = vec![vec![vec![]; 32]; 7];
+        kinds.push(vec![vec![]; n - 7 * 32]);
+        all.push(of(&kinds));
+    }
+    for n in 5..=8u16 {
+        // a chain of kinds, one value each; and one value with a wide constructor
+        let mut kinds: Vec<Vec<Vec<u16>>> = (1..n).map(|k| vec![vec![k]]).collect();
+        kinds.push(vec![vec![]]);
+        all.push(of(&kinds));
+        all.push(of(&[vec![vec![1, 1]], vec![vec![2; n as usize / 2 - 1]], vec![vec![]]]));
+    }
+    for n in 3..=5 {
+        all.push(of(&[vec![vec![], vec![0; n]]]));
+    }
+    for words in all {
+        let b = Signature::read(&words).map_or(vec![0], |sig| sig.least_value(0).words());
+        c.part(&words, &b, b.len() - 1);
+        c.run(&words, &[3, 1, 1, 1, 0], &b);
+        c.enter(&words, 1, 1, &[260, 0], &mut vec![0; TABLE], 4096);
+    }
 }
 
 /// Tables by hand: 63 to 66 rules that take nothing; 64 rules that weigh 255 to 257 in all; numbers up to 1,000; a table that is full to its last word.
