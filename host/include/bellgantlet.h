@@ -10,7 +10,8 @@
  * Every answer has a number: 0, or that of the first refusal that applies, in the order given. On a refusal all other
  * results are 0 and nothing is written, except on 12.
  *
- * Stack: enter, withdraw and decide take up to 0.7 MB, compile up to 4 MB, run and part 16 KB.
+ * Stack: enter, withdraw and decide take up to 0.7 MB, compile up to 2 MB, run and part up to 16 KB. A stack that is too
+ * small ends the program: nothing else is written.
  */
 #ifndef BELLGANTLET_H
 #define BELLGANTLET_H

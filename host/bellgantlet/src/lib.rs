@@ -3,8 +3,8 @@
 //! A [`Signature`] is checked once; a [`Table`] is always sound under its signature; a [`Tree`] keeps the signature that it
 //! was compiled under. So of the refusals of 01 a call can give only those that its arguments can still cause.
 //!
-//! The calls need no heap. Entering, withdrawing and deciding take up to 0.7 MB of the caller's stack, compiling up to
-//! [`COMPILE_STACK`]: a thread that compiles must have been started with at least that.
+//! The calls need no heap. Entering, withdrawing and deciding take up to 0.7 MB of the caller's stack, compiling up to 2 MB:
+//! a thread that compiles is started with [`COMPILE_STACK`].
 
 pub mod raw;
 mod refusal;
@@ -20,8 +20,8 @@ pub const TABLE: usize = 4289;
 pub const WITNESS: usize = 4096;
 /// The most words of a tree.
 pub const TREE: usize = 32768;
-/// What compiling takes of the stack at most, in bytes.
-pub const COMPILE_STACK: usize = 4 << 20;
+/// Bytes of stack that a thread needs to compile: under 2 MB for the call, and room for the host.
+pub const COMPILE_STACK: usize = 3 << 20;
 /// The place of a variable that is not bound.
 const UNBOUND: u16 = 65535;
 
@@ -187,7 +187,7 @@ impl Table {
         }
     }
 
-    /// The tree of the rules in force; refused with [`Refusal::TreeTooLarge`] alone. Takes up to [`COMPILE_STACK`] bytes of stack.
+    /// The tree of the rules in force; refused with [`Refusal::TreeTooLarge`] alone. Takes up to 2 MB of stack: see [`COMPILE_STACK`].
     pub fn compile(&self) -> Result<Tree, Refusal> {
         let mut space = vec![0; TREE];
         let t = raw::compile(&self.signature.0, &self.words, &mut space);

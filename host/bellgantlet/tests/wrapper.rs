@@ -24,7 +24,7 @@ fn refusals_have_the_numbers_of_01() {
 
 #[test]
 fn case_t() {
-    // compiling takes more stack than a test's thread has
+    // compiling may take more stack than a test's thread has
     std::thread::Builder::new().stack_size(COMPILE_STACK).spawn(case_t_here).unwrap().join().unwrap();
 }
 

@@ -497,8 +497,90 @@ fn limits(c: &mut Compare, r: &mut Random) {
     for n in [0, 1, 4288, 4289, 4290] {
         c.empty(&mut vec![7; n]);
     }
+    signatures_at_limits(c);
+    tables_at_limits(c);
     case_t(c);
     let _ = r;
+}
+
+/// Signatures by hand: 31 to 34 kinds, 63 to 66 constructors of a kind, 255 to 257 constructors, least values of 5 to 8 words, 3 to 5 arguments.
+fn signatures_at_limits(c: &mut Compare) {
+    let of = |kinds: &[Vec<Vec<u16>>]| {
+        let mut w = vec![kinds.iter().map(|k| k.len()).sum::<usize>() as u16];
+        for (k, constructors) in kinds.iter().enumerate() {
+            for a in constructors {
+                w.extend([k as u16, a.len() as u16]);
+                w.extend(a);
+            }
+        }
+        w
+    };
+    let mut all = vec![];
+    for n in 31..=34 {
+        all.push(of(&vec![vec![vec![]]; n]));
+    }
+    for n in 63..=66 {
+        all.push(of(&[vec![vec![]; n]]));
+        all.push(of(&[vec![vec![1]], vec![vec![]; n]]));
+    }
+    for n in 255..=257 {
+        let mut kinds = vec![vec![vec![]; 32]; 7];
+        kinds.push(vec![vec![]; n - 7 * 32]);
+        all.push(of(&kinds));
+    }
+    for n in 5..=8u16 {
+        // a chain of kinds, one value each; and one value with a wide constructor
+        let mut kinds: Vec<Vec<Vec<u16>>> = (1..n).map(|k| vec![vec![k]]).collect();
+        kinds.push(vec![vec![]]);
+        all.push(of(&kinds));
+        all.push(of(&[vec![vec![1, 1]], vec![vec![2; n as usize / 2 - 1]], vec![vec![]]]));
+    }
+    for n in 3..=5 {
+        all.push(of(&[vec![vec![], vec![0; n]]]));
+    }
+    for words in all {
+        let b = Signature::read(&words).map_or(vec![0], |sig| sig.least_value(0).words());
+        c.part(&words, &b, b.len() - 1);
+        c.run(&words, &[3, 1, 1, 1, 0], &b);
+        c.enter(&words, 1, 1, &[260, 0], &mut vec![0; TABLE], 4096);
+    }
+}
+
+/// Tables by hand: 63 to 66 rules that take nothing; 64 rules that weigh 255 to 257 in all; numbers up to 1,000; a table that is full to its last word.
+fn tables_at_limits(c: &mut Compare) {
+    let mut wide = vec![67u16, 0, 2, 1, 2, 1, 4, 1, 1, 1, 1, 1, 0];
+    wide.extend([2, 0].repeat(64));
+    let stored = |rules: &[(u16, Vec<u16>)]| {
+        let mut t = vec![rules.len() as u16];
+        for (n, p) in rules {
+            t.extend([*n, 5, p.len() as u16]);
+            t.extend(p);
+        }
+        t.resize(TABLE.max(t.len()), 0);
+        t
+    };
+    let mut tables = vec![];
+    for n in 63..=66u16 {
+        tables.push(stored(&(1..=n).map(|i| (i, vec![259])).collect::<Vec<_>>()));
+    }
+    for more in 0..=2 {
+        // weights of 4, one of them 3, 4 or 5
+        let weighs = |i: u16| (0..if i == 9 { 2 + more } else { 3 }).flat_map(|_| [257, 2]).chain([258]).collect::<Vec<u16>>();
+        tables.push(stored(&(0..64).map(|i| (1 + i, [vec![0], weighs(i), vec![3 + i]].concat())).collect::<Vec<_>>()));
+    }
+    for n in [998, 999, 1000] {
+        tables.push(stored(&[(n, vec![258])]));
+    }
+    for n in [63, 64, 65] {
+        let long = |i: u16, n: usize| [vec![0], vec![260; n - 3], vec![258, 3 + i]].concat();
+        tables.push(stored(&(0..64).map(|i| (1 + i, long(i, if i == 63 { n } else { 64 }))).collect::<Vec<_>>()));
+    }
+    for table in tables {
+        c.decide(&wide, &table, &[0, 2, 3]);
+        c.withdraw(&wide, 1, &mut table.clone());
+        c.compile(&wide, &table, &[0; 3000]).ok();
+        c.enter(&wide, 997, 1, &[259], &mut table.clone(), 4096);
+    }
 }
 
 /// A value of exactly n words.
