@@ -6,11 +6,12 @@ use entering::enter::enter;
 use entry::sound::Entry;
 use run::leaf::VARIABLES;
 use run::run;
-ghost use mathlib.Core.Path.{_≡_};
-ghost use Rattle.signature.specs.Part.{part-call};
 ghost use Rattle.tree.specs.RunCall.{RunCall};
 ghost use Rattle.table.specs.Calls.{Empty, Enter, Withdraw, Compile, DecideCall};
 ghost use Rattle.bellgantlet.specs.Answers.{entered-of, answer-of, PartCall};
+
+// 12: the pattern shares a booking with a held rule.
+const SHARED: u16 = 12;
 
 // On 12 the rule that shares a booking and the length of the booking.
 #[repr(C)]
@@ -73,7 +74,7 @@ pub extern "C" fn bellgantlet_enter(
             length: 0,
         },
         Entry::Shares(rule, words) => Entered {
-            number: 12,
+            number: SHARED,
             rule: rule,
             length: words,
         },
