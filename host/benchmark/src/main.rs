@@ -257,7 +257,7 @@ fn main() {
     if arguments.get(1).is_some_and(|a| a == "only") {
         return only(&arguments[2], &arguments[3], arguments[4].parse().unwrap());
     }
-    let rounds = arguments.get(1).map_or(60, |r| r.parse().unwrap());
+    let rounds = arguments.get(1).map_or(150, |r| r.parse().unwrap());
     let work = move || {
         times(rounds);
         println!();
