@@ -1,13 +1,13 @@
 -- A pattern by its first word and the parts behind it.
 use mathlib.Core.Path.{_≡_, refl, sym, ap, subst, _∙_}
 use mathlib.Core.List.{List, [], _∷_, _++_}
-use mathlib.Core.Bool.{Bool, true, false, not, _&&_}
+use mathlib.Core.Bool.{Bool, true, false, not, _&&_, _||_}
 use Prim.Native.Nat.{ℕ, zero, suc, _+_, _*_, _<_}
 use native.Mathlib.Omega.{arith}
 use lib.Dec.{leb}
 use lib.ListN.{length, getD}
 use Rattle.signature.specs.Decoded.{Known}
-use Rattle.signature.specs.Lists.{All, none-left, also, is-empty, _or-else_}
+use Rattle.signature.specs.Lists.{All, none-left, also, is-empty}
 use Rattle.signature.specs.Signature.{Signature}
 use Rattle.signature.proofs.Booleans.{and-left, and-right, or-false}
 use Rattle.signature.proofs.Heads.{args-same}
@@ -65,7 +65,7 @@ abbrev pub any-of : Bool → Signature → List ℕ → Patterns → Bool
 any-of true sig ks ps = any-plus sig ks ps
 any-of false sig ks ps = any-minus sig ks ps
 
-pub any-cons : (b : Bool) (sig : Signature) (k : ℕ) (ks : List ℕ) (p : Pattern) (ps : Patterns) → any-of b sig (k ∷ ks) (pcons p ps) ≡ (ambiguous-of b sig k p or-else any-of b sig ks ps)
+pub any-cons : (b : Bool) (sig : Signature) (k : ℕ) (ks : List ℕ) (p : Pattern) (ps : Patterns) → any-of b sig (k ∷ ks) (pcons p ps) ≡ (ambiguous-of b sig k p || any-of b sig ks ps)
 any-cons true sig k ks p ps = refl
 any-cons false sig k ks p ps = refl
 
@@ -76,33 +76,33 @@ any-none false sig ks = refl
 -- variables in some of the parts
 abbrev pub some-vars : Bool → Patterns → Bool
 some-vars b pnil = false
-some-vars b (pcons p ps) = has-vars b p or-else some-vars b ps
+some-vars b (pcons p ps) = has-vars b p || some-vars b ps
 
 no-and : (a : Bool) → (a && false) ≡ false
 no-and true = refl
 no-and false = refl
 
-last-none : (a b : Bool) → (a or-else b) ≡ (a or-else (b or-else false))
-last-none a b = ap (λ z. a or-else z) (sym (or-false b))
+last-none : (a b : Bool) → (a || b) ≡ (a || (b || false))
+last-none a b = ap (λ z. a || z) (sym (or-false b))
 
-or-three : (a b c : Bool) → ((a or-else b) or-else c) ≡ (a or-else (b or-else (c or-else false)))
+or-three : (a b c : Bool) → ((a || b) || c) ≡ (a || (b || (c || false)))
 or-three true b c = refl
 or-three false b c = last-none b c
 
-some-append : (xs ys : List ℕ) → not (is-empty (xs ++ ys)) ≡ (not (is-empty xs) or-else not (is-empty ys))
+some-append : (xs ys : List ℕ) → not (is-empty (xs ++ ys)) ≡ (not (is-empty xs) || not (is-empty ys))
 some-append [] ys = refl
 some-append (x ∷ xs) ys = refl
 
-two-vars : (xs ys : List ℕ) → not (is-empty (xs ++ ys)) ≡ (not (is-empty xs) or-else (not (is-empty ys) or-else false))
+two-vars : (xs ys : List ℕ) → not (is-empty (xs ++ ys)) ≡ (not (is-empty xs) || (not (is-empty ys) || false))
 two-vars xs ys = some-append xs ys ∙ last-none (not (is-empty xs)) (not (is-empty ys))
 
 even-vars : (ps : Patterns) → not (is-empty (E-all ps)) ≡ some-vars true ps
 even-vars pnil = refl
-even-vars (pcons p ps) = some-append (E p) (E-all ps) ∙ ap (λ z. not (is-empty (E p)) or-else z) (even-vars ps)
+even-vars (pcons p ps) = some-append (E p) (E-all ps) ∙ ap (λ z. not (is-empty (E p)) || z) (even-vars ps)
 
 odd-vars : (ps : Patterns) → not (is-empty (O-all ps)) ≡ some-vars false ps
 odd-vars pnil = refl
-odd-vars (pcons p ps) = some-append (O p) (O-all ps) ∙ ap (λ z. not (is-empty (O p)) or-else z) (odd-vars ps)
+odd-vars (pcons p ps) = some-append (O p) (O-all ps) ∙ ap (λ z. not (is-empty (O p)) || z) (odd-vars ps)
 
 -- a && (b && c)
 both-light : (a b c : Bool) → (a && b && c) ≡ true → (b && (c && true)) ≡ true
@@ -127,15 +127,15 @@ module _ {t : List ℕ} (g : Known t) where
     pub there : All (λ j. j < g .decoded .n) ks
     pub light : lights-of (side-at b (shape p)) (inner p) ≡ true
     pub kinds : (i : ℕ) → i < length ks → kind-behind t k (shape p) i ≡ getD ks i 0
-    pub ambiguous : ambiguous-of b (g .sig) k p ≡ ((has-vars b p && taken-twice b (g .sig) k p) or-else any-of (side-at b (shape p)) (g .sig) ks (inner p))
-    pub vars : has-vars b p ≡ (own-variable b (shape p) or-else some-vars (side-at b (shape p)) (inner p))
+    pub ambiguous : ambiguous-of b (g .sig) k p ≡ ((has-vars b p && taken-twice b (g .sig) k p) || any-of (side-at b (shape p)) (g .sig) ks (inner p))
+    pub vars : has-vars b p ≡ (own-variable b (shape p) || some-vars (side-at b (shape p)) (inner p))
 
   none-behind : (k : ℕ) (i : ℕ) → i < 0 → k ≡ getD [] i 0
   none-behind k i h = absurd (omega arith)
 
   pub parts-behind : (b : Bool) (k : ℕ) (p : Pattern) → k < g .decoded .n → WellFormed (g .sig) k p → light-of b p ≡ true → Parts b k p
-  parts-behind true k (head c ps) l (well-head {ks = ks} s e w) h = record { ks = ks; well = w; there = args-there g k c ks e; light = and-right (leb (product-plus ps) part-weight-limit) (light-all-plus ps) h; kinds = λ i j. argument-is g c (is-constructor g k c ks e) i (subst (λ z. i < length z) (sym (args-same (g .sig) k c ks e)) j) ∙ ap (λ z. getD z i 0) (args-same (g .sig) k c ks e); ambiguous = ap (λ z. any-plus (g .sig) z ps) (args-same (g .sig) k c ks e) ∙ sym (ap (λ z. z or-else any-plus (g .sig) ks ps) (no-and (not (is-empty (E-all ps))))); vars = even-vars ps }
-  parts-behind false k (head c ps) l (well-head {ks = ks} s e w) h = record { ks = ks; well = w; there = args-there g k c ks e; light = and-right (leb (suc (sum-minus ps)) part-weight-limit) (light-all-minus ps) h; kinds = λ i j. argument-is g c (is-constructor g k c ks e) i (subst (λ z. i < length z) (sym (args-same (g .sig) k c ks e)) j) ∙ ap (λ z. getD z i 0) (args-same (g .sig) k c ks e); ambiguous = ap (λ z. any-minus (g .sig) z ps) (args-same (g .sig) k c ks e) ∙ sym (ap (λ z. z or-else any-minus (g .sig) ks ps) (no-and (not (is-empty (O-all ps))))); vars = odd-vars ps }
+  parts-behind true k (head c ps) l (well-head {ks = ks} s e w) h = record { ks = ks; well = w; there = args-there g k c ks e; light = and-right (leb (product-plus ps) part-weight-limit) (light-all-plus ps) h; kinds = λ i j. argument-is g c (is-constructor g k c ks e) i (subst (λ z. i < length z) (sym (args-same (g .sig) k c ks e)) j) ∙ ap (λ z. getD z i 0) (args-same (g .sig) k c ks e); ambiguous = ap (λ z. any-plus (g .sig) z ps) (args-same (g .sig) k c ks e) ∙ sym (ap (λ z. z || any-plus (g .sig) ks ps) (no-and (not (is-empty (E-all ps))))); vars = even-vars ps }
+  parts-behind false k (head c ps) l (well-head {ks = ks} s e w) h = record { ks = ks; well = w; there = args-there g k c ks e; light = and-right (leb (suc (sum-minus ps)) part-weight-limit) (light-all-minus ps) h; kinds = λ i j. argument-is g c (is-constructor g k c ks e) i (subst (λ z. i < length z) (sym (args-same (g .sig) k c ks e)) j) ∙ ap (λ z. getD z i 0) (args-same (g .sig) k c ks e); ambiguous = ap (λ z. any-minus (g .sig) z ps) (args-same (g .sig) k c ks e) ∙ sym (ap (λ z. z || any-minus (g .sig) ks ps) (no-and (not (is-empty (O-all ps))))); vars = odd-vars ps }
   parts-behind true k (and p q) l (well-and s w) h = record { ks = k ∷ (k ∷ []); well = well-cons s (well-cons w well-nil); there = also k l (also k l none-left); light = both-light (leb (weight-plus p * weight-plus q) part-weight-limit) (light-plus p) (light-plus q) h; kinds = same-kinds k; ambiguous = rw (no-and (not (is-empty (E p ++ E q)))) (last-none (ambiguous-of true (g .sig) k p) (ambiguous-of true (g .sig) k q)); vars = two-vars (E p) (E q) }
   parts-behind false k (and p q) l (well-and s w) h = record { ks = k ∷ (k ∷ []); well = well-cons s (well-cons w well-nil); there = also k l (also k l none-left); light = both-light (leb (weight-minus p + weight-minus q) part-weight-limit) (light-minus p) (light-minus q) h; kinds = same-kinds k; ambiguous = or-three (has-vars false (and p q) && taken-twice false (g .sig) k (and p q)) (ambiguous-of false (g .sig) k p) (ambiguous-of false (g .sig) k q); vars = two-vars (O p) (O q) }
   parts-behind true k (or p q) l (well-or s w) h = record { ks = k ∷ (k ∷ []); well = well-cons s (well-cons w well-nil); there = also k l (also k l none-left); light = both-light (leb (weight-plus p + weight-plus q) part-weight-limit) (light-plus p) (light-plus q) h; kinds = same-kinds k; ambiguous = or-three (has-vars true (or p q) && taken-twice true (g .sig) k (or p q)) (ambiguous-of true (g .sig) k p) (ambiguous-of true (g .sig) k q); vars = two-vars (E p) (E q) }

@@ -1,13 +1,13 @@
 -- The parts behind a word, one after the other.
 use mathlib.Core.Path.{_≡_, refl, sym, ap, ap₂, subst, _∙_}
 use mathlib.Core.List.{List, [], _∷_, _++_, append-assoc}
-use mathlib.Core.Bool.{Bool, true, false, _&&_}
+use mathlib.Core.Bool.{Bool, true, false, _&&_, _||_}
 use Prim.Native.Nat.{ℕ, zero, suc, _+_, _*_, _-_, _<_, _≤_}
 use native.Mathlib.Omega.{arith}
 use lib.ListN.{length, drop, getD, length-append, length-drop}
 use lib.Seq.{drop-at, drop-drop}
 use Rattle.signature.specs.Signature.{Signature}
-use Rattle.signature.specs.Lists.{All, _or-else_}
+use Rattle.signature.specs.Lists.{All}
 use Rattle.signature.specs.Limits.{argument-limit}
 use Rattle.signature.proofs.KnownFacts.{is-constructor, arity-is, few-arguments}
 use Rattle.signature.proofs.Booleans.{or-assoc, or-true, or-false}
@@ -43,8 +43,8 @@ module _ {t : List ℕ} {k : ℕ} {w : List ℕ} {b : Bool} {n m : ℕ} (g : Giv
     pub many : length ks ≡ left
     pub words : drop at w ≡ patterns-code ps ++ g .rest
     pub ends : at + length (patterns-code ps) ≡ length (pattern-code (g .pattern))
-    pub ambiguous : ambiguous-of b (g .known .sig) k (g .pattern) ≡ ((has-vars b (g .pattern) && taken-twice b (g .known .sig) k (g .pattern)) or-else any-of s (g .known .sig) ks ps)
-    pub vars-are : has-vars b (g .pattern) ≡ (vars or-else some-vars s ps)
+    pub ambiguous : ambiguous-of b (g .known .sig) k (g .pattern) ≡ ((has-vars b (g .pattern) && taken-twice b (g .known .sig) k (g .pattern)) || any-of s (g .known .sig) ks ps)
+    pub vars-are : has-vars b (g .pattern) ≡ (vars || some-vars s ps)
 
   pub start : (f : Form) → f ≡ form (getD w 0 0) → (s vars : Bool) (c : ℕ) → side-of s ≡ behind f (side-of b) → vars ≡ own-variable b f → c ≡ part-count t f → Left f s vars 1 (c - 0) 0
   start f e s vars c a h m =
@@ -62,8 +62,8 @@ module _ {t : List ℕ} {k : ℕ} {w : List ℕ} {b : Bool} {n m : ℕ} (g : Giv
         many = sym (kind-count (g .known .sig) (q .well)) ∙ inner-count (g .known) (g .well) ∙ ap (part-count t) (sym z) ∙ omega (arith, m);
         words = ap (drop 1) (g .words ∙ ap (λ x. x ++ g .rest) (code-split (g .pattern)));
         ends = inner-length (g .pattern);
-        ambiguous = q .ambiguous ∙ ap (λ x. (has-vars b (g .pattern) && taken-twice b (g .known .sig) k (g .pattern)) or-else any-of x (g .known .sig) (q .ks) (inner (g .pattern))) (sym i);
-        vars-are = q .vars ∙ ap (λ x. own-variable b (shape (g .pattern)) or-else some-vars x (inner (g .pattern))) (sym i) ∙ ap (λ x. own-variable b x or-else some-vars s (inner (g .pattern))) (sym z) ∙ ap (λ x. x or-else some-vars s (inner (g .pattern))) (sym h);
+        ambiguous = q .ambiguous ∙ ap (λ x. (has-vars b (g .pattern) && taken-twice b (g .known .sig) k (g .pattern)) || any-of x (g .known .sig) (q .ks) (inner (g .pattern))) (sym i);
+        vars-are = q .vars ∙ ap (λ x. own-variable b (shape (g .pattern)) || some-vars x (inner (g .pattern))) (sym i) ∙ ap (λ x. own-variable b x || some-vars s (inner (g .pattern))) (sym z) ∙ ap (λ x. x || some-vars s (inner (g .pattern))) (sym h);
       }
 
 cut : (ks : List ℕ) → 0 < length ks → ks ≡ getD ks 0 0 ∷ drop 1 ks
@@ -115,13 +115,13 @@ module _ {t : List ℕ} {k : ℕ} {w : List ℕ} {b : Bool} {n m : ℕ} (g : Giv
       said : Judged s (g .known .sig) first-kind (view .p) r
       said = subst (λ z. (o : GivenPart t z (part w at) s n' m') → Judged s (o .known .sig) z (o .pattern) r) kind-is gave (given n' m' i i')
 
-      any-first : any-of s (g .known .sig) (l .ks) (l .ps) ≡ (ambiguous-of s (g .known .sig) first-kind (view .p) or-else any-of s (g .known .sig) (drop 1 (l .ks)) (view .qs))
+      any-first : any-of s (g .known .sig) (l .ks) (l .ps) ≡ (ambiguous-of s (g .known .sig) first-kind (view .p) || any-of s (g .known .sig) (drop 1 (l .ks)) (view .qs))
       any-first = ap₂ (λ x y. any-of s (g .known .sig) x y) (view .kinds-are) (view .parts-are) ∙ any-cons s (g .known .sig) first-kind (drop 1 (l .ks)) (view .p) (view .qs)
 
       pub turn-ambiguous : r ≡ Ambiguous → Judged b (g .known .sig) k (g .pattern) Ambiguous
       turn-ambiguous z =
           let h : ambiguous-of s (g .known .sig) first-kind (view .p) ≡ true = subst (Judged s (g .known .sig) first-kind (view .p)) z said in
-          l .ambiguous ∙ ap (λ x. (has-vars b (g .pattern) && taken-twice b (g .known .sig) k (g .pattern)) or-else x) (any-first ∙ ap (λ x. x or-else any-of s (g .known .sig) (drop 1 (l .ks)) (view .qs)) h) ∙ or-true (has-vars b (g .pattern) && taken-twice b (g .known .sig) k (g .pattern))
+          l .ambiguous ∙ ap (λ x. (has-vars b (g .pattern) && taken-twice b (g .known .sig) k (g .pattern)) || x) (any-first ∙ ap (λ x. x || any-of s (g .known .sig) (drop 1 (l .ks)) (view .qs)) h) ∙ or-true (has-vars b (g .pattern) && taken-twice b (g .known .sig) k (g .pattern))
 
       module _ (v : Bool) (used : ℕ) (z : r ≡ Clear v used) where
         so : Judged s (g .known .sig) first-kind (view .p) (Clear v used)
@@ -130,7 +130,7 @@ module _ {t : List ℕ} {k : ℕ} {w : List ℕ} {b : Bool} {n m : ℕ} (g : Giv
         pub part-le : at + used ≤ length w
         part-le = omega (arith, so .2, size, l .ends, simp length-append at (ap length (g .words)))
 
-        pub turn : (vars' : Bool) → vars' ≡ (vars or-else v) → Left g f s vars' (at + used) (c - (j + 1)) (j + 1)
+        pub turn : (vars' : Bool) → vars' ≡ (vars || v) → Left g f s vars' (at + used) (c - (j + 1)) (j + 1)
         turn vars' h = record {
           ks = drop 1 (l .ks);
           ps = view .qs;
@@ -141,13 +141,13 @@ module _ {t : List ℕ} {k : ℕ} {w : List ℕ} {b : Bool} {n m : ℕ} (g : Giv
           many = length-drop 1 (l .ks) ∙ omega (arith, l .many);
           words = sym (drop-drop used at w) ∙ ap (drop used) words-are ∙ drop-at (pattern-code (view .p)) (patterns-code (view .qs) ++ g .rest) used (sym (so .2));
           ends = omega (arith, l .ends, size, so .2);
-          ambiguous = l .ambiguous ∙ ap (λ x. (has-vars b (g .pattern) && taken-twice b (g .known .sig) k (g .pattern)) or-else x) (any-first ∙ ap (λ x. x or-else any-of s (g .known .sig) (drop 1 (l .ks)) (view .qs)) (so .0));
+          ambiguous = l .ambiguous ∙ ap (λ x. (has-vars b (g .pattern) && taken-twice b (g .known .sig) k (g .pattern)) || x) (any-first ∙ ap (λ x. x || any-of s (g .known .sig) (drop 1 (l .ks)) (view .qs)) (so .0));
           vars-are =
               l .vars-are
-              ∙ ap (λ x. vars or-else some-vars s x) (view .parts-are)
+              ∙ ap (λ x. vars || some-vars s x) (view .parts-are)
               ∙ sym (or-assoc vars (has-vars s (view .p)) (some-vars s (view .qs)))
-              ∙ ap (λ x. (vars or-else x) or-else some-vars s (view .qs)) (sym (so .1))
-              ∙ ap (λ x. x or-else some-vars s (view .qs)) (sym h);
+              ∙ ap (λ x. (vars || x) || some-vars s (view .qs)) (sym (so .1))
+              ∙ ap (λ x. x || some-vars s (view .qs)) (sym h);
         }
 
 none-left : (sig : Signature) (ks : List ℕ) (ps : Patterns) → AllWellFormed sig ks ps → length ks ≡ 0 → ps ≡ pnil
@@ -162,12 +162,12 @@ module _ {t : List ℕ} {k : ℕ} {w : List ℕ} {b : Bool} {n m : ℕ} (g : Giv
   ends-at = omega (arith, l .ends, ap (λ z. length (patterns-code z)) none)
 
   vars-so : vars ≡ has-vars b (g .pattern)
-  vars-so = sym (l .vars-are ∙ ap (λ x. vars or-else some-vars s x) none ∙ or-false vars)
+  vars-so = sym (l .vars-are ∙ ap (λ x. vars || some-vars s x) none ∙ or-false vars)
 
   itself : ambiguous-of b (g .known .sig) k (g .pattern) ≡ (has-vars b (g .pattern) && taken-twice b (g .known .sig) k (g .pattern))
   itself =
       let own = has-vars b (g .pattern) && taken-twice b (g .known .sig) k (g .pattern) in
-      l .ambiguous ∙ ap (λ x. own or-else any-of s (g .known .sig) (l .ks) x) none ∙ ap (λ x. own or-else x) (any-none s (g .known .sig) (l .ks)) ∙ or-false own
+      l .ambiguous ∙ ap (λ x. own || any-of s (g .known .sig) (l .ks) x) none ∙ ap (λ x. own || x) (any-none s (g .known .sig) (l .ks)) ∙ or-false own
 
   module _ (q : Bool) (h : q ≡ (vars && taken-twice b (g .known .sig) k (g .pattern))) where
     is-q : ambiguous-of b (g .known .sig) k (g .pattern) ≡ q

@@ -1,7 +1,7 @@
 -- Two parts of a pattern, their rows behind each other.
 use mathlib.Core.Path.{_≡_, refl, ap, _∙_, sym}
 use mathlib.Core.List.{List, [], _∷_, _++_, append-assoc}
-use mathlib.Core.Bool.{Bool, true, false, not}
+use mathlib.Core.Bool.{Bool, true, false, not, cond}
 use Prim.Native.Nat.{ℕ, _+_, _*_, _≤_, _<_, _-_}
 use native.Mathlib.Omega.{arith}
 use lib.Dec.{ltb}
@@ -10,7 +10,7 @@ use lib.Seq.{drop-at, length-take-le}
 use Rattle.signature.specs.Decoded.{count-of}
 use Rattle.signature.specs.Limits.{kind-limit}
 use Rattle.signature.specs.Lists.{is-empty, somes}
-use Rattle.signature.specs.Set.{bit, bit-if}
+use Rattle.signature.specs.Set.{bit}
 use Rattle.signature.specs.Signature.{Signature}
 use Rattle.signature.proofs.KnownFacts.{words-of}
 use Rattle.pattern.specs.Pattern.{Pattern, pattern-code}
@@ -32,8 +32,8 @@ meets-so : (b : Bool) (sig : Signature) (k : ℕ) (p q : Pattern) → not (is-em
 meets-so true sig k p q = refl
 meets-so false sig k p q = refl
 
-pub full-so : (t : List ℕ) (k full c : ℕ) → c ≡ count-of t k → ((i : ℕ) → bit full i ≡ bit-if (ltb i c) 1 0) → (i : ℕ) → bit full i ≡ bit-if (ltb i (count-of t k)) 1 0
-full-so t k full c e h i = h i ∙ ap (λ z. bit-if (ltb i z) 1 0) e
+pub full-so : (t : List ℕ) (k full c : ℕ) → c ≡ count-of t k → ((i : ℕ) → bit full i ≡ cond (ltb i c) 1 0) → (i : ℕ) → bit full i ≡ cond (ltb i (count-of t k)) 1 0
+full-so t k full c e h i = h i ∙ ap (λ z. cond (ltb i z) 1 0) e
 
 module _ {t : List ℕ} {k : ℕ} {w : List ℕ} {b : Bool} {n m : ℕ} (g : GivenTwo t k w b n m) where
   pub kind-small : k < kind-limit
@@ -42,7 +42,7 @@ module _ {t : List ℕ} {k : ℕ} {w : List ℕ} {b : Bool} {n m : ℕ} (g : Giv
   pub few-of-kind : count-of t k ≤ 64
   few-of-kind = omega (arith, g .known .decoded .head-count k (g .there), few-heads (g .known) k (g .there))
 
-  module _ (full : ℕ) (f : (i : ℕ) → bit full i ≡ bit-if (ltb i (count-of t k)) 1 0) where
+  module _ (full : ℕ) (f : (i : ℕ) → bit full i ≡ cond (ltb i (count-of t k)) 1 0) where
     opened : Open (kinds-of (g .known .sig)) (g .known .sig) k (256 + k) full
     opened = let q = open-kind (g .known) k (g .there) in record { kind = q .kind; some = q .some; within = q .within; tag-is = refl; full-is = full-set (g .known) k (g .there) full f }
 

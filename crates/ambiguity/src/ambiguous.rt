@@ -6,12 +6,11 @@ use pattern::token::parts;
 use pattern::token::side_behind;
 use signature::decoded::argument_of;
 ghost use mathlib.Core.Path.{_≡_};
-ghost use mathlib.Core.Bool.{_&&_};
+ghost use mathlib.Core.Bool.{_&&_, _||_};
 ghost use lib.ListN.{length};
 ghost use Prim.Native.Nat.{_<_};
 ghost use Rattle.signature.specs.Decoded.{decoded-length};
 ghost use Rattle.signature.specs.Limits.{argument-limit};
-ghost use Rattle.signature.specs.Lists.{_or-else_};
 ghost use Rattle.pattern.specs.Word.{form-of, head-small};
 ghost use Rattle.row.specs.Overlap.{ambiguous-plus};
 ghost use Rattle.ambiguity.specs.Ambiguity.{doubles, taken-twice, kind-behind, own-variable, Judged};
@@ -25,7 +24,7 @@ pub enum Part {
 }
 
 fn either(a: bool, b: bool) -> bool
-    ensures { λ r. ⌜ r ≡ (a or-else b) ⌝ }
+    ensures { λ r. ⌜ r ≡ (a || b) ⌝ }
 {
     if a {
         return true;

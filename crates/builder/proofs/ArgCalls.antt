@@ -1,7 +1,7 @@
 -- What each call asks and gives where one argument is taken.
 use mathlib.Core.Path.{_≡_, refl, ap, ap₂, _∙_, sym}
 use mathlib.Core.List.{List, [], _∷_, _++_, append-assoc}
-use mathlib.Core.Bool.{Bool, true, false}
+use mathlib.Core.Bool.{Bool, true, false, cond}
 use Prim.Native.Nat.{ℕ, _+_, _*_, _≤_, _<_, _-_}
 use native.Mathlib.Nat.{zero-add}
 use native.Mathlib.Omega.{arith}
@@ -10,7 +10,7 @@ use lib.ListN.{length, take, drop, length-append}
 use lib.Seq.{drop-at, length-take-le}
 use Rattle.signature.specs.Decoded.{arity-of, argument-of, count-of}
 use Rattle.signature.specs.Limits.{kind-limit}
-use Rattle.signature.specs.Set.{bit, bit-if}
+use Rattle.signature.specs.Set.{bit}
 use Rattle.signature.specs.Signature.{Signature, arguments}
 use Rattle.signature.proofs.KnownFacts.{argument-is, argument-small}
 use Rattle.signature.proofs.Tests.{true≢false}
@@ -57,7 +57,7 @@ module _ {t : List ℕ} {c j : ℕ} {w : List ℕ} {b : Bool} {used : ℕ} {o : 
     pub begun-fits : (used + 1 ≤ length o) × (used + 1 ≤ m)
     begun-fits = (omega (arith, begun-small g, g .room, g .some-words), omega (arith, begun-small g, g .work-room, g .some-words))
 
-    module _ (full : ℕ) (f : (i : ℕ) → bit full i ≡ bit-if (ltb i (count-of t arg)) 1 0) where
+    module _ (full : ℕ) (f : (i : ℕ) → bit full i ≡ cond (ltb i (count-of t arg)) 1 0) where
       opened : Open (kinds-of (g .known .sig)) (g .known .sig) arg (256 + arg) full
       opened = let q = open-kind (g .known) arg (view .there) in record { kind = q .kind; some = q .some; within = q .within; tag-is = refl; full-is = full-set (g .known) arg (view .there) full f }
 

@@ -1,7 +1,7 @@
 -- One argument is taken: what is asked of the rows that are next, and of the arguments that are left, and what is made.
 use mathlib.Core.Path.{_≡_, refl, ap, ap₂, _∙_, sym, subst}
 use mathlib.Core.List.{List, [], _∷_, _++_, append-assoc}
-use mathlib.Core.Bool.{Bool, true, false}
+use mathlib.Core.Bool.{Bool, true, false, cond}
 use Prim.Native.Nat.{ℕ, zero, suc, _+_, _*_, _≤_, _<_, _-_}
 use native.Mathlib.Nat.{mul-assoc}
 use native.Mathlib.Omega.{arith}
@@ -9,7 +9,7 @@ use lib.Dec.{ltb}
 use lib.ListN.{length, take, drop, length-append}
 use lib.Seq.{drop-at}
 use Rattle.signature.specs.Decoded.{arity-of, argument-of, count-of}
-use Rattle.signature.specs.Set.{bit, bit-if}
+use Rattle.signature.specs.Set.{bit}
 use Rattle.signature.specs.Signature.{Signature, arguments}
 use Rattle.signature.proofs.Tests.{times-less}
 use Rattle.pattern.specs.Pattern.{Pattern, pattern-code, Patterns, pcons, patterns-code}
@@ -51,7 +51,7 @@ behind-one true sig k js p qs vs f = behind-plus sig k js p qs vs (λ l. none-le
 behind-one false sig k js p qs vs f = behind-minus sig k js p qs vs
 
 module _ {t : List ℕ} {c j : ℕ} {w : List ℕ} {b : Bool} {used : ℕ} {o : List ℕ} {m : ℕ} (g : GivenArgs t c j w b used o m) (h : j < arity-of t c) (arg : ℕ) (arg-is : arg ≡ argument-of t c j)
-    (full : ℕ) (f : (i : ℕ) → bit full i ≡ bit-if (ltb i (count-of t arg)) 1 0)
+    (full : ℕ) (f : (i : ℕ) → bit full i ≡ cond (ltb i (count-of t arg)) 1 0)
     (k k' usedr read : ℕ) (e : k ≡ m - (used + 1)) (e' : k' ≡ length o) (ys : List ℕ) (f' : (q : GivenPat t (256 + arg) full w b k k') → Made (kinds-of (q .known .sig)) (q .known .sig) (q .k) b (q .p) usedr read ys)
     (v : List ℕ) (front : take (0 + (used + 1)) v ≡ take (used + 1) o) (l : length v ≡ m) where
   next-at : (d : Bool) → b ≡ d → (n : ℕ) → n ≡ length o → GivenNextAt d (back v (used + 1) ys) (used + 1) n

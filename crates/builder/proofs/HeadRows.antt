@@ -11,7 +11,7 @@ use lib.ListN.{length, length-append, getD}
 use Rattle.signature.specs.Decoded.{first-of, decoded-length}
 use Rattle.signature.specs.Limits.{kind-limit}
 use Rattle.signature.specs.Lists.{memb, keep, is-empty}
-use Rattle.signature.specs.Set.{set-limit, bit, bit-if}
+use Rattle.signature.specs.Set.{set-limit, bit}
 use Rattle.signature.specs.Signature.{Signature, heads, arguments, arguments-at}
 use Rattle.signature.proofs.Booleans.{and-left, and-right}
 use Rattle.signature.proofs.Heads.{args-same}
@@ -80,7 +80,7 @@ module _ (sig : Signature) (k c : ℕ) where
   named-list rss = ap words-list (named-words rss) ∙ list-words (kinds-of sig) k (map (named [] c) rss)
 
 -- the set of all heads but one
-not-here : (f c i : ℕ) → f ≤ c → (b : Bool) → bit-if (eqb i (c - f)) 0 (one-if b) ≡ one-if (b && not (eqb c (f + i)))
+not-here : (f c i : ℕ) → f ≤ c → (b : Bool) → cond (eqb i (c - f)) 0 (one-if b) ≡ one-if (b && not (eqb c (f + i)))
 not-here f c i l b = go (eqb c (f + i)) refl
   where
     keeps : (b : Bool) → one-if b ≡ one-if (b && true)
@@ -91,15 +91,15 @@ not-here f c i l b = go (eqb c (f + i)) refl
     drops true = refl
     drops false = refl
 
-    go : (d : Bool) → eqb c (f + i) ≡ d → bit-if (eqb i (c - f)) 0 (one-if b) ≡ one-if (b && not d)
+    go : (d : Bool) → eqb c (f + i) ≡ d → cond (eqb i (c - f)) 0 (one-if b) ≡ one-if (b && not d)
     go true e = let z : c - f ≡ i = omega (arith, eqb-eq c (f + i) e) in rw (z, eqb-self i) (drops b)
     go false e = rw (ne-eqb i (c - f) (λ z. eqb-ne c (f + i) e (omega (arith, z, l)))) (keeps b)
 
-pub all-but : (f c : ℕ) (hs : List ℕ) (full rest : ℕ) → Within f hs → f ≤ c → full ≡ mask f hs → ((i : ℕ) → bit rest i ≡ bit-if (eqb i (c - f)) 0 (bit full i)) → rest ≡ mask f (keep (λ d. not (eqb c d)) hs)
+pub all-but : (f c : ℕ) (hs : List ℕ) (full rest : ℕ) → Within f hs → f ≤ c → full ≡ mask f hs → ((i : ℕ) → bit rest i ≡ cond (eqb i (c - f)) 0 (bit full i)) → rest ≡ mask f (keep (λ d. not (eqb c d)) hs)
 all-but f c hs full rest w l e h = bit-ext _ _ (λ i.
     h i
-    ∙ ap (λ (n : ℕ). bit-if (eqb i (c - f)) 0 (bit n i)) e
-    ∙ ap (λ (n : ℕ). bit-if (eqb i (c - f)) 0 n) (bit-mask f i hs w)
+    ∙ ap (λ (n : ℕ). cond (eqb i (c - f)) 0 (bit n i)) e
+    ∙ ap (λ (n : ℕ). cond (eqb i (c - f)) 0 n) (bit-mask f i hs w)
     ∙ not-here f c i l (memb (f + i) hs)
     ∙ ap one-if (sym (memb-keep (λ d. not (eqb c d)) (f + i) hs))
     ∙ sym (bit-mask f i (keep (λ d. not (eqb c d)) hs) (within-keep f (λ d. not (eqb c d)) hs w)))
@@ -210,7 +210,7 @@ module _ {t : List ℕ} {tag full : ℕ} {w : List ℕ} {b : Bool} {n m : ℕ} (
       minus-rows true z = true≢false z
       minus-rows false z = refl
 
-      pub minus-made : (z : b ≡ false) (rest r m'' : ℕ) (o'' : List ℕ) → m'' ≡ m → ((j : ℕ) → bit rest j ≡ bit-if (eqb j i) 0 (bit full j))
+      pub minus-made : (z : b ≡ false) (rest r m'' : ℕ) (o'' : List ℕ) → m'' ≡ m → ((j : ℕ) → bit rest j ≡ cond (eqb j i) 0 (bit full j))
           → ((y : GivenOthers used' o' m'') → Product (others-code tag rest ++ words-list (y .vs)) r o'') → Made (kinds-of (g .pat .known .sig)) (g .pat .known .sig) (g .pat .k) b (g .pat .p) r (read + 1) o''
       unfolding others-given
       minus-made z rest r m'' o'' y h p =
@@ -219,7 +219,7 @@ module _ {t : List ℕ} {tag full : ℕ} {w : List ℕ} {b : Bool} {n m : ℕ} (
           let R = map (named [] c) (args-minus sig (arguments sig c) (view .ps)) in
           let d : i ≡ c - K .first k = at ∙ ap (λ (j : ℕ). c - j) first-is in
           let low : K .first k ≤ c = known-head (g .pat .known) k c _ (view .inside) .low in
-          let set : rest ≡ mask (K .first k) (keep (λ d. not (eqb c d)) (heads sig k)) = all-but (K .first k) c (heads sig k) full rest (g .pat .opened .within) low (g .pat .opened .full-is) (λ j. h j ∙ ap (λ (i : ℕ). bit-if (eqb j i) 0 (bit full j)) d) in
+          let set : rest ≡ mask (K .first k) (keep (λ d. not (eqb c d)) (heads sig k)) = all-but (K .first k) c (heads sig k) full rest (g .pat .opened .within) low (g .pat .opened .full-is) (λ j. h j ∙ ap (λ (i : ℕ). cond (eqb j i) 0 (bit full j)) d) in
           let one : others-code tag rest ≡ entries K k (other-than sig k c) = ap (λ (a : ℕ). others-code a rest) (g .pat .opened .tag-is) ∙ other-list sig k c rest (g .pat .opened .within) set in
           let all : others-code tag rest ++ words-list (others-given z m'' y .vs) ≡ entries K k (rows-of sig k b (g .pat .p)) =
           ap₂ (λ (a b : List ℕ). a ++ b) one (named-list sig k c (args-minus sig (arguments sig c) (view .ps)))

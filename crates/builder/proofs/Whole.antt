@@ -1,14 +1,14 @@
 -- A part and a whole pattern: what is asked of their rows, and what they are.
 use mathlib.Core.Path.{_≡_, refl, ap, _∙_, sym}
 use mathlib.Core.List.{List, [], append-nil}
-use mathlib.Core.Bool.{Bool, true}
+use mathlib.Core.Bool.{Bool, true, cond}
 use Prim.Native.Nat.{ℕ, _+_, _*_, _≤_, _<_}
 use native.Mathlib.Omega.{arith}
 use lib.Dec.{ltb}
 use lib.ListN.{length, drop, length-append}
 use Rattle.signature.specs.Decoded.{count-of, decoded-length}
 use Rattle.signature.specs.Limits.{kind-limit}
-use Rattle.signature.specs.Set.{set-limit, bit, bit-if}
+use Rattle.signature.specs.Set.{set-limit, bit}
 use Rattle.signature.proofs.KnownFacts.{long, words-of}
 use Rattle.signature.proofs.Tests.{times-less}
 use Rattle.pattern.specs.Pattern.{pattern-code}
@@ -31,7 +31,7 @@ module _ {t w : List ℕ} {k n m : ℕ} {b : Bool} (g : GivenPart t k w b n m) w
     omega (arith, g .known .decoded .head-count k (g .there), few-heads (g .known) k (g .there)),
   )
 
-  module _ (full : ℕ) (f : (i : ℕ) → bit full i ≡ bit-if (ltb i (count-of t k)) 1 0) where
+  module _ (full : ℕ) (f : (i : ℕ) → bit full i ≡ cond (ltb i (count-of t k)) 1 0) where
     pub part-given : GivenPat t (256 + k) full w b n m
     part-given =
         let q = open-kind (g .known) k (g .there) in

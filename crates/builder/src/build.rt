@@ -1,4 +1,5 @@
 // The rows of a pattern.
+ghost use mathlib.Core.Bool.{cond};
 use cell::cell::KIND_TAG;
 use pattern::token::FIRST_VARIABLE;
 use products::product::product;
@@ -18,7 +19,7 @@ ghost use lib.Dec.{ltb};
 ghost use lib.ListN.{length};
 ghost use Rattle.signature.specs.Decoded.{decoded-length, count-of, first-of};
 ghost use Rattle.signature.specs.Limits.{kind-limit};
-ghost use Rattle.signature.specs.Set.{set-limit, bit, bit-if};
+ghost use Rattle.signature.specs.Set.{set-limit, bit};
 ghost use Rattle.pattern.specs.Pattern.{patterns-code};
 ghost use Rattle.cell.specs.Coded.{kinds-of};
 ghost use Rattle.cell.specs.RowList.{entries, from};
@@ -109,7 +110,7 @@ fn times(t: &[u16], lists: &[u64], at: usize, out: &mut [u64]) -> usize
 // The set of all heads of a kind.
 fn full_of(t: &[u16], k: usize) -> u64
     requires { ⌜ (length (now t) ≡ decoded-length) × (k < kind-limit) × (count-of (now t) k ≤ set-limit) ⌝ }
-    ensures { λ r. ⌜ ((j : ℕ) → bit r j ≡ bit-if (ltb j (count-of (now (t .entry)) k)) 1 0) ⌝ }
+    ensures { λ r. ⌜ ((j : ℕ) → bit r j ≡ cond (ltb j (count-of (now (t .entry)) k)) 1 0) ⌝ }
 {
     full(count_of(t, k) as u32)
 }

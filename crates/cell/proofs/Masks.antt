@@ -1,7 +1,7 @@
 -- Masks.
 use mathlib.Core.Path.{_≡_, refl, ap, sym, _∙_, ap₂}
 use mathlib.Core.List.{[], _∷_, List, _++_}
-use mathlib.Core.Bool.{Bool, true, false, cond, _&&_}
+use mathlib.Core.Bool.{Bool, true, false, cond, _&&_, _||_}
 use Prim.Native.Nat.{ℕ, zero, _%_, suc, _/_, min, _<_, max, _^_, _*_, _+_, _-_, _≤_}
 use native.Mathlib.Nat.{pow-suc}
 use native.Mathlib.Omega.{arith}
@@ -9,7 +9,7 @@ use lib.Arith.{digits-mod}
 use lib.Bits.{bitAnd, and-step, and-shr, bitOr, or-step, or-shr, or-zero-r, or-zero-l, or-lt}
 use lib.Dec.{eqb}
 use lib.Pow.{pow-mono, pow-lt}
-use Rattle.signature.specs.Lists.{memb, _or-else_, keep}
+use Rattle.signature.specs.Lists.{memb, keep}
 use Rattle.signature.specs.Set.{bit}
 use Rattle.signature.proofs.Members.{memb-keep}
 use Rattle.signature.proofs.Tests.{eqb-eq, eqb-ne, eqb-self}
@@ -98,7 +98,7 @@ unfolding mask
 bit-mask f i [] w = bit-zero i
 bit-mask f i (c ∷ cs) w = rw (bit-or, bit-mask f i cs (w .2)) (go (eqb (f + i) c) refl)
   where
-    go : (b : Bool) → eqb (f + i) c ≡ b → max (bit (2 ^ (c - f)) i) (one-if (memb (f + i) cs)) ≡ one-if (b or-else memb (f + i) cs)
+    go : (b : Bool) → eqb (f + i) c ≡ b → max (bit (2 ^ (c - f)) i) (one-if (memb (f + i) cs)) ≡ one-if (b || memb (f + i) cs)
     go true e =
         let q : c - f ≡ i = omega (arith, eqb-eq (f + i) c e) in
         rw (q, bit-one-same i) (omega (arith, one-if-le (memb (f + i) cs)))

@@ -1,12 +1,11 @@
 -- The tree of a sound table's rules.
 use mathlib.Core.Path.{_≡_, refl, sym, ap, ap₂, _∙_}
 use mathlib.Core.List.{List, [], _∷_, _++_, map}
-use mathlib.Core.Bool.{Bool, true, false, not, cond, _&&_}
+use mathlib.Core.Bool.{Bool, true, false, not, cond, _&&_, _||_}
 use Prim.Native.Nat.{ℕ, _*_, _≤_, _<_}
 use native.Mathlib.Omega.{arith}
 use lib.Dec.{leb, ltb}
 use lib.ListN.{length, drop}
-use Rattle.signature.specs.Lists.{_or-else_}
 use Rattle.signature.proofs.Tests.{le-of, lt-of-not, ltb-yes, ltb-no}
 use Rattle.tree.specs.Limits.{tree-limit, default-plan}
 use Rattle.tree.specs.Tree.{Line, Tree, compile}
@@ -48,10 +47,10 @@ ltb-not m n = go (leb n m) refl
 
 fits-or : (T : Tree) (space : List ℕ) → too-large (layout T 0) space ≡ not (fits T space)
 fits-or T space =
-    ap₂ (λ (x y : Bool). x or-else y) (ltb-not (length space) (length (layout T 0)) ∙ ap (λ (n : ℕ). not (leb n (length space))) (length-layout T 0)) (ltb-not tree-limit (length (layout T 0)) ∙ ap (λ (n : ℕ). not (leb n tree-limit)) (length-layout T 0))
+    ap₂ (λ (x y : Bool). x || y) (ltb-not (length space) (length (layout T 0)) ∙ ap (λ (n : ℕ). not (leb n (length space))) (length-layout T 0)) (ltb-not tree-limit (length (layout T 0)) ∙ ap (λ (n : ℕ). not (leb n tree-limit)) (length-layout T 0))
     ∙ go (leb (words T) (length space)) (leb (words T) tree-limit)
   where
-    go : (a b : Bool) → (not a or-else not b) ≡ not (a && b)
+    go : (a b : Bool) → (not a || not b) ≡ not (a && b)
     go true b = refl
     go false b = refl
 

@@ -7,10 +7,10 @@ use Prim.Native.Nat.{ℕ, zero, suc, _+_, _*_, _≤_, _<_}
 use native.Mathlib.Nat.{zero-add}
 use native.Mathlib.Decide.{decLe}
 use native.Mathlib.Omega.{arith}
-use lib.ListN.{length, getD, drop}
+use lib.ListN.{length, getD, drop, getElem?}
 use lib.Dec.{leb, ltb, eqb}
 use Rattle.signature.specs.Limits.{constructor-limit, kind-limit, heads-limit, small-size}
-use Rattle.signature.specs.Lists.{_>>=_, require, at, all, count-up, is-some}
+use Rattle.signature.specs.Lists.{_>>=_, require, all, count-up, is-some}
 use Rattle.signature.specs.Lawful.{SignatureWords}
 use Rattle.signature.specs.Read.{read-constructors, read-signature, count-kinds, lawful, lawful-kinds, least}
 use Rattle.signature.specs.Signature.{Signature, Constructor, heads}
@@ -108,7 +108,7 @@ all-same : (f g : ℕ → Bool) (i n : ℕ) → ((j : ℕ) → i ≤ j → j < i
 all-same f g i zero e = refl
 all-same f g i (suc n) e = ap₂ _&&_ (e i (omega arith) (omega arith)) (all-same f g (suc i) n (λ j l m. e j (omega arith) (omega arith)))
 
-at-within : {A : Type 0} (xs : List A) (i : ℕ) (a : A) → at xs i ≡ some a → i < length xs
+at-within : {A : Type 0} (xs : List A) (i : ℕ) (a : A) → getElem? xs i ≡ some a → i < length xs
 at-within xs i a e = go (decLe (length xs) i)
   where
     go : Dec (length xs ≤ i) → i < length xs
@@ -193,7 +193,7 @@ module _ {w : List ℕ} {n : ℕ} {u v : List ℕ} {m : ℕ} (k : Ranked w n u v
     kept : SameBelow kinds-at u x
     kept i l = h .rows-same i l ∙ k .order .rows-same i l
 
-    row-of : (c : ℕ) (d : Constructor) → at (rows u 0 n) c ≡ some d → row x c ≡ d
+    row-of : (c : ℕ) (d : Constructor) → getElem? (rows u 0 n) c ≡ some d → row x c ≡ d
     row-of c d e =
         let l : c < n = omega (arith, at-within (rows u 0 n) c d e, long) in
         row-same u x kinds-at c kept (omega (arith, most)) (k .begun .few-arguments c l) ∙ ap (λ z. row u z) (sym (zero-add c)) ∙ at-count-is (λ z. row u z) 0 n c d e
@@ -207,7 +207,7 @@ module _ {w : List ℕ} {n : ℕ} {u v : List ℕ} {m : ℕ} (k : Ranked w n u v
       constructor-count = h .constructor-count ∙ sym long;
       kind = λ c d e. ap (λ z. z .kind) (row-of c d e);
       arity = λ c d e. sym (counted-length (λ z. getD x z 0) (stride * c + 2) (arity-of x c)) ∙ ap (λ z. length (z .args)) (row-of c d e);
-      argument = λ c j i d e a. at-count-is (λ z. getD x z 0) (stride * c + 2) (arity-of x c) j i (ap (λ z. at (z .args) j) (row-of c d e) ∙ a);
+      argument = λ c j i d e a. at-count-is (λ z. getD x z 0) (stride * c + 2) (arity-of x c) j i (ap (λ z. getElem? (z .args) j) (row-of c d e) ∙ a);
       first-head = λ i l. h .heads-same i l .0 ∙ k .order .noted kind-there i l .0;
       head-count = λ i l. h .heads-same i l .1 ∙ k .order .noted kind-there i l .1;
       lowest-least = λ i l. h .lowest-heads i l ∙ ap (λ z. lowest z (sizes-after small-size z) i) same ∙ head-same (rows u 0 n) m exist (k .order .few) i l;

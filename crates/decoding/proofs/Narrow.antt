@@ -6,10 +6,10 @@ use mathlib.Core.Bool.{Bool, true, cond, _&&_}
 use Prim.Native.Nat.{ℕ, zero, suc, _+_, _-_, _≤_, _<_, min}
 use native.Mathlib.Nat.{zero-add, add-zero, add-suc, suc-add}
 use native.Mathlib.Omega.{arith}
-use lib.ListN.{getD}
+use lib.ListN.{getD, getElem?}
 use lib.Dec.{eqb, ltb, leb}
 use Rattle.signature.specs.Limits.{kind-limit, over-small, small-size}
-use Rattle.signature.specs.Lists.{at, all, first, keep, count-up}
+use Rattle.signature.specs.Lists.{all, first, keep, count-up}
 use Rattle.signature.specs.Read.{best, least, total, with-arg}
 use Rattle.signature.specs.Signature.{Signature, Constructor, heads, arguments}
 use Rattle.signature.specs.Decoded.{least-size, least-head}
@@ -22,7 +22,7 @@ use Rattle.signature.proofs.Tests.{le-of, none≢some, some-inj}
 abbrev pub Exist : ℕ → Signature → Type 0
 Exist n sig = all (λ c. all (λ k. ltb k n) (c .args)) sig ≡ true
 
-module _ (n : ℕ) (a b : List ℕ) (same : (k : ℕ) → k < n → at a k ≡ at b k) where
+module _ (n : ℕ) (a b : List ℕ) (same : (k : ℕ) → k < n → getElem? a k ≡ getElem? b k) where
   total-same : (ks : List ℕ) → all (λ k. ltb k n) ks ≡ true → total a ks ≡ total b ks
   total-same [] h = refl
   total-same (k ∷ ks) h =
@@ -36,21 +36,21 @@ module _ (n : ℕ) (a b : List ℕ) (same : (k : ℕ) → k < n → at a k ≡ a
       ap₂ (λ x y. cond (eqb (c .kind) k) (min (suc x) y) y) e f
 
   arguments-same : (sig : Signature) (c : ℕ) → Exist n sig → total a (arguments sig c) ≡ total b (arguments sig c)
-  arguments-same sig c h = go (at sig c) refl
+  arguments-same sig c h = go (getElem? sig c) refl
     where
-      go : (o : Option Constructor) → at sig c ≡ o → total a (arguments sig c) ≡ total b (arguments sig c)
+      go : (o : Option Constructor) → getElem? sig c ≡ o → total a (arguments sig c) ≡ total b (arguments sig c)
       go none e = rw e
       go (some d) e = rw e (total-same (d .args) (test-at (λ x. all (λ j. ltb j n) (x .args)) sig c d h e))
 
 module _ (sig : Signature) (n m : ℕ) (exist : Exist n sig) (most : n ≤ m) where
-  narrow : (d k : ℕ) → k < n → at (least d sig m) k ≡ at (least d sig n) k
+  narrow : (d k : ℕ) → k < n → getElem? (least d sig m) k ≡ getElem? (least d sig n) k
   narrow zero k l = at-count (λ j. over-small) 0 m k (omega arith) ∙ sym (at-count (λ j. over-small) 0 n k l)
   narrow (suc d) k l =
       at-count (λ j. min over-small (best sig (least d sig m) j)) 0 m k (omega arith)
       ∙ ap (λ z. some (min over-small z)) (best-same n (least d sig m) (least d sig n) (λ i p. narrow d i p) sig (0 + k) exist)
       ∙ sym (at-count (λ j. min over-small (best sig (least d sig n) j)) 0 n k l)
 
-getD-at : (xs : List ℕ) (i a : ℕ) → at xs i ≡ some a → getD xs i 0 ≡ a
+getD-at : (xs : List ℕ) (i a : ℕ) → getElem? xs i ≡ some a → getD xs i 0 ≡ a
 getD-at [] i a e = none≢some e
 getD-at (x ∷ xs) zero a e = some-inj x a e
 getD-at (x ∷ xs) (suc i) a e = getD-at xs i a e
@@ -69,7 +69,7 @@ module _ (sig : Signature) (n m : ℕ) (exist : Exist n sig) (most : n ≤ m) wh
 
   size-narrow : (k : ℕ) → k < n → getD (least small-size sig m) k 0 ≡ least-size sig n k
   size-narrow k l =
-      let e : at (least small-size sig n) k ≡ some (min over-small (best sig (least (small-size - 1) sig n) (0 + k))) = at-count (λ j. min over-small (best sig (least (small-size - 1) sig n) j)) 0 n k l in
+      let e : getElem? (least small-size sig n) k ≡ some (min over-small (best sig (least (small-size - 1) sig n) (0 + k))) = at-count (λ j. min over-small (best sig (least (small-size - 1) sig n) j)) 0 n k l in
       getD-at (least small-size sig m) k _ (narrow sig n m exist most small-size k l ∙ e) ∙ sym (size-there k l)
 
   all-narrow : all (λ j. leb j small-size) (least small-size sig n) ≡ all (λ k. leb (getD (least small-size sig m) k 0) small-size) (count-up 0 n)

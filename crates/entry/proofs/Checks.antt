@@ -2,13 +2,13 @@
 use mathlib.Core.Path.{_≡_, refl, sym, ap, subst, _∙_}
 use mathlib.Core.List.{List, _++_}
 use mathlib.Core.Option.{Option, none, some}
-use mathlib.Core.Bool.{Bool, true, false, cond, not, _&&_}
+use mathlib.Core.Bool.{Bool, true, false, cond, not, _&&_, _||_}
 use Prim.Native.Nat.{ℕ, _+_, _-_, _<_, _≤_}
 use native.Mathlib.Omega.{arith}
 use lib.Dec.{eqb, leb, ltb}
 use lib.ListN.{length, take, drop, getD}
 use lib.Seq.{take-at}
-use Rattle.signature.specs.Lists.{any, _or-else_}
+use Rattle.signature.specs.Lists.{any}
 use Rattle.signature.specs.Signature.{Signature}
 use Rattle.signature.proofs.Booleans.{and-false, or-true}
 use Rattle.signature.proofs.Tests.{eqb-eq, eqb-ne, eqb-no, leb-yes, leb-no, ltb-yes, ltb-no}
@@ -124,7 +124,7 @@ module _ {t table : List ℕ} {used total : ℕ} {rows : List ℕ} {m : ℕ} (g 
 
   module _ (n : ℕ) (ws : List ℕ) where
     abbrev later : ℕ
-    later = cond (leb rule-limit (length (g .rs)) or-else ltb weight-limit (weight (g .known .sig) ws + total-weight (g .known .sig) (g .rs))) 11 (cond (any (λ r. shares (g .known .sig) ws (r .pattern)) (g .rs)) 12 0)
+    later = cond (leb rule-limit (length (g .rs)) || ltb weight-limit (weight (g .known .sig) ws + total-weight (g .known .sig) (g .rs))) 11 (cond (any (λ r. shares (g .known .sig) ws (r .pattern)) (g .rs)) 12 0)
 
     abbrev after-number : ℕ
     after-number = cond (not (eqb (refusal-of-pattern (g .known .sig) ws) 0)) (refusal-of-pattern (g .known .sig) ws) later
@@ -162,14 +162,14 @@ module _ {t table : List ℕ} {used total : ℕ} {rows : List ℕ} {m : ℕ} (g 
         good = start ∙ ap (λ q. cond (not (eqb q 0)) q later) (so .0)
 
         pub full : rule-limit ≤ getD table 0 0 → CheckedAs (g .known .sig) (g .rs) n ws used total (Refused 11) rows
-        full h = (omega arith, omega arith, good ∙ ap (λ b. cond (b or-else ltb weight-limit (weight (g .known .sig) ws + total-weight (g .known .sig) (g .rs))) 11 (cond (any (λ r. shares (g .known .sig) ws (r .pattern)) (g .rs)) 12 0)) (leb-yes rule-limit (length (g .rs)) (omega (arith, h, count-is holds))))
+        full h = (omega arith, omega arith, good ∙ ap (λ b. cond (b || ltb weight-limit (weight (g .known .sig) ws + total-weight (g .known .sig) (g .rs))) 11 (cond (any (λ r. shares (g .known .sig) ws (r .pattern)) (g .rs)) 12 0)) (leb-yes rule-limit (length (g .rs)) (omega (arith, h, count-is holds))))
 
         pub heavy : weight-limit < total + w → CheckedAs (g .known .sig) (g .rs) n ws used total (Refused 11) rows
         heavy h = (
           omega arith,
           omega arith,
           good
-              ∙ ap (λ b. cond (leb rule-limit (length (g .rs)) or-else b) 11 (cond (any (λ r. shares (g .known .sig) ws (r .pattern)) (g .rs)) 12 0)) (ltb-yes weight-limit (weight (g .known .sig) ws + total-weight (g .known .sig) (g .rs)) (omega (arith, h, so .1, g .ready .total-is)))
+              ∙ ap (λ b. cond (leb rule-limit (length (g .rs)) || b) 11 (cond (any (λ r. shares (g .known .sig) ws (r .pattern)) (g .rs)) 12 0)) (ltb-yes weight-limit (weight (g .known .sig) ws + total-weight (g .known .sig) (g .rs)) (omega (arith, h, so .1, g .ready .total-is)))
               ∙ ap (λ b. cond b 11 (cond (any (λ r. shares (g .known .sig) ws (r .pattern)) (g .rs)) 12 0)) (or-true (leb rule-limit (length (g .rs)))),
         )
 

@@ -5,9 +5,9 @@ use mathlib.Core.List.{List, [], _∷_, _++_, append-assoc, append-nil}
 use mathlib.Core.Option.{Option, some}
 use Prim.Native.Nat.{ℕ, zero, suc, _+_, _-_, _*_, _≤_, _<_}
 use native.Mathlib.Omega.{arith}
-use lib.ListN.{length, getD, drop, length-append, length-drop}
+use lib.ListN.{length, getD, drop, length-append, length-drop, getElem?}
 use lib.Seq.{drop-at, drop-drop}
-use Rattle.signature.specs.Lists.{All, none-left, also, at}
+use Rattle.signature.specs.Lists.{All, none-left, also}
 use Rattle.signature.specs.Signature.{Signature}
 use Rattle.signature.proofs.ListFacts.{all-at, all-append}
 use Rattle.signature.proofs.KnownFacts.{at-below}
@@ -25,13 +25,13 @@ use Rattle.writer.specs.Write.{RuleRow, GivenRow, RowIndexed, Before, Placed, F
 use Rattle.indexing.specs.Indexing.{row-of, GivenList, ListIndexed}
 
 -- an element of a list with one more
-last-or : {A : Type 0} (xs : List A) (x : A) (q : ℕ) (y : A) → at (xs ++ (x ∷ [])) q ≡ some y → ((at xs q ≡ some y) × (q < length xs)) ⊎ ((q ≡ length xs) × (x ≡ y))
+last-or : {A : Type 0} (xs : List A) (x : A) (q : ℕ) (y : A) → getElem? (xs ++ (x ∷ [])) q ≡ some y → ((getElem? xs q ≡ some y) × (q < length xs)) ⊎ ((q ≡ length xs) × (x ≡ y))
 last-or [] x zero y e = inr (refl, some-inj x y e)
 last-or [] x (suc q) y e = none≢some e
 last-or (z ∷ xs) x zero y e = inl (e, omega arith)
 last-or (z ∷ xs) x (suc q) y e = go (last-or xs x q y e)
   where
-    go : ((at xs q ≡ some y) × (q < length xs)) ⊎ ((q ≡ length xs) × (x ≡ y)) → ((at xs q ≡ some y) × (suc q < suc (length xs))) ⊎ ((suc q ≡ suc (length xs)) × (x ≡ y))
+    go : ((getElem? xs q ≡ some y) × (q < length xs)) ⊎ ((q ≡ length xs) × (x ≡ y)) → ((getElem? xs q ≡ some y) × (suc q < suc (length xs))) ⊎ ((suc q ≡ suc (length xs)) × (x ≡ y))
     go (inl (a, l)) = inl (a, omega arith)
     go (inr (a, b)) = inr (ap suc a, b)
 
@@ -72,7 +72,7 @@ module _ {t a : List ℕ} {from r room : ℕ} (g : GivenList t a from r room) (n
     pub near : p + length (codes todo) < word-limit
     pub short : fits done
     pub fit : fits todo
-    pub placed : (j : ℕ) (w : Row) → at done j ≡ some w → Placed (g .known .sig) t a tab (r + j) (row-of number plan w)
+    pub placed : (j : ℕ) (w : Row) → getElem? done j ≡ some w → Placed (g .known .sig) t a tab (r + j) (row-of number plan w)
     pub kept : Before (row-stride * r) tab₀ tab
 
   pub filling-start : Filling from r tab₀
@@ -173,6 +173,6 @@ module _ {t a : List ℕ} {from r room : ℕ} (g : GivenList t a from r room) (n
             indexed = rw (← row-length .0) i;
           }
 
-          go : (j : ℕ) (w : Row) → ((at (f .done) j ≡ some w) × (j < length (f .done))) ⊎ ((j ≡ length (f .done)) × (x .w ≡ w)) → Placed (g .known .sig) t a tab′ (r + j) (row-of number plan w)
+          go : (j : ℕ) (w : Row) → ((getElem? (f .done) j ≡ some w) × (j < length (f .done))) ⊎ ((j ≡ length (f .done)) × (x .w ≡ w)) → Placed (g .known .sig) t a tab′ (r + j) (row-of number plan w)
           go j w (inl (h, l)) = placed-same (g .known .sig) t a tab tab′ q (r + j) (row-of number plan w) (all-at (f .short) j w h .short) (omega (arith, f .count)) b (f .placed j w h)
           go j w (inr (h, k)) = let z : r + j ≡ q = omega (arith, h, f .count) in rw (z, ← k) mine

@@ -5,8 +5,7 @@ use mathlib.Core.List.{List, [], _∷_, _++_, map, append-assoc, append-nil}
 use mathlib.Core.Option.{Option, some}
 use Prim.Native.Nat.{ℕ, zero, suc, _+_, _≤_}
 use native.Mathlib.Omega.{arith}
-use lib.ListN.{length, length-append, length-map}
-use Rattle.signature.specs.Lists.{at}
+use lib.ListN.{length, length-append, length-map, getElem?}
 use Rattle.signature.specs.Signature.{Signature}
 use Rattle.signature.proofs.Tests.{none≢some, some-inj}
 use Rattle.writer.specs.Write.{RuleRow}
@@ -16,19 +15,19 @@ use Rattle.indexing.specs.Indexing.{row-of, rule-rows, rows-all}
 
 module _ {A B : Type 0} (f : A → B) where
   -- an element of a list that was made from another
-  pub at-made : (xs : List A) (i : ℕ) (b : B) → at (map f xs) i ≡ some b → (a : A) × (at xs i ≡ some a) × (f a ≡ b)
+  pub at-made : (xs : List A) (i : ℕ) (b : B) → getElem? (map f xs) i ≡ some b → (a : A) × (getElem? xs i ≡ some a) × (f a ≡ b)
   at-made [] i b e = none≢some e
   at-made (x ∷ xs) zero b e = (x, refl, some-inj (f x) b e)
   at-made (x ∷ xs) (suc i) b e = at-made xs i b e
 
 module _ {A : Type 0} where
   -- an element of two lists is one of the first or of the second
-  pub at-either : (xs ys : List A) (q : ℕ) (e : A) → at (xs ++ ys) q ≡ some e → (at xs q ≡ some e) ⊎ ((j : ℕ) × (q ≡ length xs + j) × (at ys j ≡ some e))
+  pub at-either : (xs ys : List A) (q : ℕ) (e : A) → getElem? (xs ++ ys) q ≡ some e → (getElem? xs q ≡ some e) ⊎ ((j : ℕ) × (q ≡ length xs + j) × (getElem? ys j ≡ some e))
   at-either [] ys q e h = inr (q, omega arith, h)
   at-either (x ∷ xs) ys zero e h = inl h
   at-either (x ∷ xs) ys (suc q) e h = go (at-either xs ys q e h)
     where
-      go : (at xs q ≡ some e) ⊎ ((j : ℕ) × (q ≡ length xs + j) × (at ys j ≡ some e)) → (at xs q ≡ some e) ⊎ ((j : ℕ) × (suc q ≡ suc (length xs) + j) × (at ys j ≡ some e))
+      go : (getElem? xs q ≡ some e) ⊎ ((j : ℕ) × (q ≡ length xs + j) × (getElem? ys j ≡ some e)) → (getElem? xs q ≡ some e) ⊎ ((j : ℕ) × (suc q ≡ suc (length xs) + j) × (getElem? ys j ≡ some e))
       go (inl k) = inl k
       go (inr (j, k, l)) = inr (j, omega arith, l)
 

@@ -5,9 +5,9 @@ use mathlib.Core.List.{List, [], _∷_, _++_, map, append-assoc}
 use mathlib.Core.Option.{some}
 use Prim.Native.Nat.{ℕ, _+_, _*_, _-_, _<_, _≤_}
 use native.Mathlib.Omega.{arith}
-use lib.ListN.{length, drop, getD, length-append, length-drop}
+use lib.ListN.{length, drop, getD, length-append, length-drop, getElem?}
 use lib.Seq.{drop-at, drop-drop}
-use Rattle.signature.specs.Lists.{All, none-left, also, at}
+use Rattle.signature.specs.Lists.{All, none-left, also}
 use Rattle.signature.proofs.KnownFacts.{at-below}
 use Rattle.signature.proofs.ListFacts.{all-at, at-left}
 use Rattle.signature.proofs.Tests.{none≢some}
@@ -131,13 +131,13 @@ module _ {t table lists : List ℕ} {room : ℕ} (g : GivenRules t table lists r
         unfolding given
         said = gave (given room' x)
 
-        mine : (j : ℕ) (d : RuleRow) → at (map named ws) j ≡ some d → Placed (g .known .sig) t lists tab′ (r + j) d
+        mine : (j : ℕ) (d : RuleRow) → getElem? (map named ws) j ≡ some d → Placed (g .known .sig) t lists tab′ (r + j) d
         mine j d h =
             let (w, a, b) = at-made named ws j d h in
             subst (λ (z : RuleRow). Placed (g .known .sig) t lists tab′ (r + j) z) (ap₂ (λ (x y : ℕ). row-of x y w) (step .reads .number-is) (step .reads .plan-is) ∙ b) (said .placed j w a)
 
-        in-all : (k : ℕ) (d : RuleRow) → at (rows-all (g .known .sig) (l .before)) k ≡ some d → at (rows-all (g .known .sig) (g .rs)) k ≡ some d
-        in-all k d h = subst (λ (z : List RuleRow). at z k ≡ some d) (sym (all-append (g .known .sig) (l .before) (l .after)) ∙ ap (rows-all (g .known .sig)) (sym (l .walked .are))) (at-left (rows-all (g .known .sig) (l .before)) (rows-all (g .known .sig) (l .after)) k d h)
+        in-all : (k : ℕ) (d : RuleRow) → getElem? (rows-all (g .known .sig) (l .before)) k ≡ some d → getElem? (rows-all (g .known .sig) (g .rs)) k ≡ some d
+        in-all k d h = subst (λ (z : List RuleRow). getElem? z k ≡ some d) (sym (all-append (g .known .sig) (l .before) (l .after)) ∙ ap (rows-all (g .known .sig)) (sym (l .walked .are))) (at-left (rows-all (g .known .sig) (l .before)) (rows-all (g .known .sig) (l .after)) k d h)
 
         pub again : Mid (here + 3 + getD table (here + 2) 0) (from + 1 + getD lists from 0) q (i + 1) tab′
         again = record {
@@ -149,9 +149,9 @@ module _ {t table lists : List ℕ} {room : ℕ} (g : GivenRules t table lists r
           near = omega (arith, near-later, list-word .0);
           many = omega (arith, said .many, l .many, count-last (g .known .sig) (l .before) (step .rule));
           fit = each-fit named (Fit (g .known .sig) t) ws (rows-all (g .known .sig) (step .later)) fit-here .1;
-          placed = λ k d h. go k d (at-either (rows-all (g .known .sig) (l .before)) (map named ws) k d (subst (λ (z : List RuleRow). at z k ≡ some d) (all-last (g .known .sig) (l .before) (step .rule)) h));
+          placed = λ k d h. go k d (at-either (rows-all (g .known .sig) (l .before)) (map named ws) k d (subst (λ (z : List RuleRow). getElem? z k ≡ some d) (all-last (g .known .sig) (l .before) (step .rule)) h));
         }
           where
-            go : (k : ℕ) (d : RuleRow) → (at (rows-all (g .known .sig) (l .before)) k ≡ some d) ⊎ ((j : ℕ) × (k ≡ length (rows-all (g .known .sig) (l .before)) + j) × (at (map named ws) j ≡ some d)) → Placed (g .known .sig) t lists tab′ k d
+            go : (k : ℕ) (d : RuleRow) → (getElem? (rows-all (g .known .sig) (l .before)) k ≡ some d) ⊎ ((j : ℕ) × (k ≡ length (rows-all (g .known .sig) (l .before)) + j) × (getElem? (map named ws) j ≡ some d)) → Placed (g .known .sig) t lists tab′ k d
             go k d (inl h) = placed-same (g .known .sig) t lists tab tab′ r k d (all-at (g .fit) k d (in-all k d h) .short) (omega (arith, l .many, at-below (rows-all (g .known .sig) (l .before)) k d h)) (said .kept) (l .placed k d h)
             go k d (inr (j, h, m)) = let z : k ≡ r + j = omega (arith, h, l .many) in rw z (mine j d m)

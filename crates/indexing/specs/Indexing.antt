@@ -3,9 +3,9 @@ use mathlib.Core.Path.{_≡_}
 use mathlib.Core.List.{List, [], _∷_, _++_, map}
 use mathlib.Core.Option.{some}
 use Prim.Native.Nat.{ℕ, _+_, _*_, _≤_, _<_}
-use lib.ListN.{length, drop}
+use lib.ListN.{length, drop, getElem?}
 use Rattle.signature.specs.Decoded.{Known}
-use Rattle.signature.specs.Lists.{All, at}
+use Rattle.signature.specs.Lists.{All}
 use Rattle.signature.specs.Signature.{Signature}
 use Rattle.row.specs.Row.{Row}
 use Rattle.cell.specs.Coded.{kinds-of}
@@ -45,7 +45,7 @@ pub record GivenList (t a : List ℕ) (from r room : ℕ) : Type 0 where
 -- they are in it as rows of one rule, q is the row behind the last, and the rows before r are as they were
 pub record ListIndexed (sig : Signature) (t a : List ℕ) (ws : List Row) (number plan r q : ℕ) (tab tab′ : List ℕ) : Type 0 where
   pub many : q ≡ r + length ws
-  pub placed : (j : ℕ) (w : Row) → at ws j ≡ some w → Placed sig t a tab′ (r + j) (row-of number plan w)
+  pub placed : (j : ℕ) (w : Row) → getElem? ws j ≡ some w → Placed sig t a tab′ (r + j) (row-of number plan w)
   pub kept : Before (row-stride * r) tab tab′
 
 -- the lists of a table's rules, and room for all rows

@@ -1,13 +1,13 @@
 -- What the steps of the check of linearity show, at either side.
 use mathlib.Core.Path.{_≡_, refl, sym, ap, ap₂, subst, _∙_}
 use mathlib.Core.List.{List, [], _∷_, _++_, append-assoc, append-nil}
-use mathlib.Core.Bool.{Bool, true, false, _&&_, not}
+use mathlib.Core.Bool.{Bool, true, false, _&&_, not, _||_}
 use Prim.Native.Nat.{ℕ, suc, _+_, _-_, _≤_, _<_, max}
 use native.Mathlib.Numerals.{add-one}
 use native.Mathlib.Omega.{arith}
 use lib.ListN.{length, drop, getD, length-append, length-drop}
 use lib.Seq.{drop-drop}
-use Rattle.signature.specs.Lists.{memb, is-empty, _or-else_}
+use Rattle.signature.specs.Lists.{memb, is-empty}
 use Rattle.signature.specs.Set.{bit}
 use Rattle.signature.proofs.Booleans.{and-true}
 use Rattle.signature.proofs.Members.{memb-append}
@@ -62,7 +62,7 @@ and-mix true false c false e = refl
 and-mix false b c d e = refl
 
 -- disjoint from two lists
-not-either : (a b : Bool) → not (a or-else b) ≡ (not a && not b)
+not-either : (a b : Bool) → not (a || b) ≡ (not a && not b)
 not-either true b = refl
 not-either false b = refl
 

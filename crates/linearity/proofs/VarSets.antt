@@ -1,12 +1,12 @@
 -- Sets of variables in a number.
 use mathlib.Core.Path.{_≡_, refl, sym, ap, ap₂, _∙_}
 use mathlib.Core.List.{List, [], _∷_, _++_}
-use mathlib.Core.Bool.{Bool, true, false, not}
+use mathlib.Core.Bool.{Bool, true, false, not, _||_, cond}
 use Prim.Native.Nat.{ℕ, _<_, _^_, min, max}
 use native.Mathlib.Omega.{arith}
 use lib.Dec.{eqb}
-use Rattle.signature.specs.Lists.{_or-else_, memb, all, is-empty}
-use Rattle.signature.specs.Set.{bit, bit-if}
+use Rattle.signature.specs.Lists.{memb, all, is-empty}
+use Rattle.signature.specs.Set.{bit}
 use Rattle.signature.proofs.Booleans.{and-left, and-right, not-true}
 use Rattle.signature.proofs.ListFacts.{is-all}
 use Rattle.signature.proofs.Members.{memb-append, all-memb, all-of}
@@ -19,7 +19,7 @@ use Rattle.pattern.specs.Linearity.{side-of}
 use Rattle.pattern.specs.Places.{tick}
 use Rattle.pattern.specs.Read.{Form, is-head, is-var, is-and, is-or, is-wild, is-absurd, is-not, is-other}
 
-tick-or : (a b : Bool) → max (tick a) (tick b) ≡ tick (a or-else b)
+tick-or : (a b : Bool) → max (tick a) (tick b) ≡ tick (a || b)
 tick-or true true = refl
 tick-or true false = refl
 tick-or false true = refl
@@ -34,10 +34,10 @@ tick-same false false e = refl
 pub holds-none : Holds 0 []
 holds-none x = bit-zero x
 
-pub holds-one : (r i : ℕ) → ((j : ℕ) → bit r j ≡ bit-if (eqb j i) 1 (bit 0 j)) → Holds r (i ∷ [])
-holds-one r i h x = h x ∙ ap (bit-if (eqb x i) 1) (bit-zero x) ∙ go (eqb x i)
+pub holds-one : (r i : ℕ) → ((j : ℕ) → bit r j ≡ cond (eqb j i) 1 (bit 0 j)) → Holds r (i ∷ [])
+holds-one r i h x = h x ∙ ap (cond (eqb x i) 1) (bit-zero x) ∙ go (eqb x i)
   where
-    go : (b : Bool) → bit-if b 1 0 ≡ tick (b or-else false)
+    go : (b : Bool) → cond b 1 0 ≡ tick (b || false)
     go true = refl
     go false = refl
 
@@ -132,6 +132,6 @@ own-plain true is-absurd e = holds-none
 own-plain true is-not e = holds-none
 own-plain true is-other e = holds-none
 
-pub own-var : (b : Bool) (x r : ℕ) → b ≡ true → ((j : ℕ) → bit r j ≡ bit-if (eqb j x) 1 (bit 0 j)) → Holds r (own-vars (side-of b) (is-var x))
+pub own-var : (b : Bool) (x r : ℕ) → b ≡ true → ((j : ℕ) → bit r j ≡ cond (eqb j x) 1 (bit 0 j)) → Holds r (own-vars (side-of b) (is-var x))
 own-var true x r e h = holds-one r x h
 own-var false x r e h = true≢false (sym e)

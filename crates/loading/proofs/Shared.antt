@@ -2,13 +2,13 @@
 use mathlib.Core.Path.{_≡_, refl, sym, ap, ap₂, subst, _∙_}
 use mathlib.Core.List.{List, [], _∷_, _++_, map, append-assoc}
 use mathlib.Core.Option.{Option, none, some}
-use mathlib.Core.Bool.{Bool, true, false, not}
+use mathlib.Core.Bool.{Bool, true, false, not, _||_}
 use Prim.Native.Nat.{ℕ, zero, suc, _+_, _-_, _<_, _≤_}
 use native.Mathlib.Omega.{arith}
 use lib.ListN.{length, drop, getD, length-append, length-drop}
 use lib.Seq.{drop-at, drop-drop, getD-drop}
 use Rattle.signature.specs.Decoded.{Known}
-use Rattle.signature.specs.Lists.{any, is-empty, somes, _or-else_}
+use Rattle.signature.specs.Lists.{any, is-empty, somes}
 use Rattle.signature.specs.Signature.{Signature}
 use Rattle.signature.proofs.Booleans.{or-true}
 use Rattle.pattern.specs.Pattern.{Pattern}
@@ -118,11 +118,11 @@ module _ {t lists : List ℕ} {n at : ℕ} (g : GivenLists t lists n at) where
         unfolding two-lists
         said = gave two-lists ∙ shares-rows (g .known .sig) (next .us) (g .ws)
 
-        any-first : any (λ us. shares (g .known .sig) us (g .ws)) (g .wss) ≡ (r or-else any (λ us. shares (g .known .sig) us (g .ws)) (next .others))
-        any-first = l .same ∙ ap (any (λ us. shares (g .known .sig) us (g .ws))) (next .are) ∙ ap (λ z. z or-else any (λ us. shares (g .known .sig) us (g .ws)) (next .others)) (sym said)
+        any-first : any (λ us. shares (g .known .sig) us (g .ws)) (g .wss) ≡ (r || any (λ us. shares (g .known .sig) us (g .ws)) (next .others))
+        any-first = l .same ∙ ap (any (λ us. shares (g .known .sig) us (g .ws))) (next .are) ∙ ap (λ z. z || any (λ us. shares (g .known .sig) us (g .ws)) (next .others)) (sym said)
 
         pub found : r ≡ true → true ≡ any (λ us. shares (g .known .sig) us (g .ws)) (g .wss)
-        found e = sym (any-first ∙ ap (λ z. z or-else any (λ us. shares (g .known .sig) us (g .ws)) (next .others)) e)
+        found e = sym (any-first ∙ ap (λ z. z || any (λ us. shares (g .known .sig) us (g .ws)) (next .others)) e)
 
         pub past : r ≡ false → Left (i + 1 + getD lists i 0) (j + 1)
         past e = record {
@@ -130,5 +130,5 @@ module _ {t lists : List ℕ} {n at : ℕ} (g : GivenLists t lists n at) where
           code-is = sym (drop-drop (getD lists i 0) (i + 1) lists) ∙ ap (drop (getD lists i 0)) behind ∙ drop-at (list-for (g .known .sig) (next .us)) (lists-for (g .known .sig) (next .others) ++ g .rest) (getD lists i 0) (sym word-is);
           many = omega (arith, l .many, ap length (next .are));
           within = past-le;
-          same = any-first ∙ ap (λ z. z or-else any (λ us. shares (g .known .sig) us (g .ws)) (next .others)) e;
+          same = any-first ∙ ap (λ z. z || any (λ us. shares (g .known .sig) us (g .ws)) (next .others)) e;
         }

@@ -1,11 +1,11 @@
 -- The tests of a sound table, one rule after the other.
 use mathlib.Core.Path.{_≡_, refl, sym, ap, ap₂, _∙_}
 use mathlib.Core.List.{List, [], _∷_, _++_, map}
-use mathlib.Core.Bool.{Bool, true, false, not, _&&_}
+use mathlib.Core.Bool.{Bool, true, false, not, _&&_, _||_}
 use Prim.Native.Nat.{ℕ, _+_, _≤_, _<_}
 use native.Mathlib.Omega.{arith}
 use lib.Dec.{eqb, leb}
-use Rattle.signature.specs.Lists.{all, any, _or-else_}
+use Rattle.signature.specs.Lists.{all, any}
 use Rattle.signature.specs.Signature.{Signature}
 use Rattle.signature.proofs.Booleans.{and-left, and-right}
 use Rattle.signature.proofs.Tests.{eqb-eq, leb-yes, leb-no, true≢false, le-of, lt-of-not}
@@ -45,7 +45,7 @@ module _ (sig : Signature) where
   apart-cons : (s r : Rule) (rs : List Rule) → apart-from r (s ∷ rs) ≡ (not (shares sig (s .pattern) (r .pattern)) && apart-from r rs)
   apart-cons s r rs = go (shares sig (s .pattern) (r .pattern)) (any (λ us. shares sig us (r .pattern)) (patterns rs))
     where
-      go : (a b : Bool) → not (a or-else b) ≡ (not a && not b)
+      go : (a b : Bool) → not (a || b) ≡ (not a && not b)
       go true b = refl
       go false b = refl
 

@@ -6,10 +6,10 @@ use mathlib.Core.Bool.{Bool, true, false, _&&_}
 use Prim.Native.Nat.{ℕ, suc, _+_, _-_, _≤_, _<_}
 use native.Mathlib.Omega.{arith}
 use lib.Dec.{eqb, leb, ltb}
-use lib.ListN.{length, getD}
+use lib.ListN.{length, getD, getElem?}
 use Rattle.signature.specs.Decoded.{Known, kind-of, first-of, count-of}
 use Rattle.signature.specs.Limits.{kind-limit}
-use Rattle.signature.specs.Lists.{_>>=_, require, at, first, memb}
+use Rattle.signature.specs.Lists.{_>>=_, require, first, memb}
 use Rattle.signature.specs.Signature.{Signature, Constructor, heads, heads-from, arguments}
 use Rattle.signature.proofs.Heads.{has-kind}
 use Rattle.signature.proofs.KnownFacts.{at-some, words-of, right-kind}
@@ -40,7 +40,7 @@ first-least (d ∷ ds) n c k e = go (eqb (d .kind) k) refl (first-least ds (suc 
 -- what the table says of the kind of a constructor
 pub record Head {table : List ℕ} (g : Known table) (c : ℕ) : Type 0 where
   pub head : Constructor
-  pub there : at (g .sig) c ≡ some head
+  pub there : getElem? (g .sig) c ≡ some head
   pub few : kind-of table c < kind-limit
   pub first-is : first-of table (kind-of table c) ≡ first (heads (g .sig) (head .kind))
   pub count-is : count-of table (kind-of table c) ≡ length (heads (g .sig) (head .kind))
@@ -64,7 +64,7 @@ head-of {table} g c l =
     }
 
 module _ {table : List ℕ} (g : Known table) (t : List ℕ) (i c : ℕ) (l : c < length (g .sig)) where
-  no-words : (d : Constructor) (t : List ℕ) → at (g .sig) c ≡ some d → length t < 3 → link-to (g .sig) t i c ≡ none
+  no-words : (d : Constructor) (t : List ℕ) → getElem? (g .sig) c ≡ some d → length t < 3 → link-to (g .sig) t i c ≡ none
   no-words d [] e h = rw e
   no-words d (x ∷ []) e h = rw e
   no-words d (x ∷ (y ∷ [])) e h = rw e
@@ -74,7 +74,7 @@ module _ {table : List ℕ} (g : Known table) (t : List ℕ) (i c : ℕ) (l : c 
   link-short h = let o = head-of g c l in rw (no-words (o .head) t (o .there) h)
 
   module _ (h : 3 ≤ length t) where
-    compared : (d : Constructor) → at (g .sig) c ≡ some d → link-to (g .sig) t i c ≡ (require (eqb (getD t 1 0) (first (heads (g .sig) (d .kind))) && eqb (getD t 2 0) (length (heads (g .sig) (d .kind)))) >>= λ u. at t (3 + (c - getD t 1 0)) >>= λ link. require (ltb i link) >>= λ u. require (leb (link - i) (length t)) >>= λ u. some (link - i))
+    compared : (d : Constructor) → getElem? (g .sig) c ≡ some d → link-to (g .sig) t i c ≡ (require (eqb (getD t 1 0) (first (heads (g .sig) (d .kind))) && eqb (getD t 2 0) (length (heads (g .sig) (d .kind)))) >>= λ u. getElem? t (3 + (c - getD t 1 0)) >>= λ link. require (ltb i link) >>= λ u. require (leb (link - i) (length t)) >>= λ u. some (link - i))
     compared d e = rw (e, at-getD t 1 (omega arith), at-getD t 2 (omega arith))
 
     module _ (k f : ℕ) (ek : k ≡ kind-of table c) (ef : f ≡ first-of table k) where
@@ -95,7 +95,7 @@ module _ {table : List ℕ} (g : Known table) (t : List ℕ) (i c : ℕ) (l : c 
         wrong-count e = let o = head-of g c l in rw (compared (o .head) (o .there), f-is o, a, eqb-self f, n-is o, eqb-no (getD t 2 0) n e)
 
         module _ (b : getD t 2 0 ≡ n) where
-          linked : link-to (g .sig) t i c ≡ (at t (3 + (c - f)) >>= λ link. require (ltb i link) >>= λ u. require (leb (link - i) (length t)) >>= λ u. some (link - i))
+          linked : link-to (g .sig) t i c ≡ (getElem? t (3 + (c - f)) >>= λ link. require (ltb i link) >>= λ u. require (leb (link - i) (length t)) >>= λ u. some (link - i))
           linked = let o = head-of g c l in rw (compared (o .head) (o .there), f-is o, a, eqb-self f, n-is o, b, eqb-self n)
 
           pub no-link : length t ≤ 3 + (c - f) → 0 ≡ or-0 (link-to (g .sig) t i c)
@@ -115,11 +115,11 @@ module _ {table : List ℕ} (g : Known table) (t : List ℕ) (i c : ℕ) (l : c 
 -- a link leads on
 pub link-above : (sig : Signature) (t : List ℕ) (i c d : ℕ) → link-to sig t i c ≡ some d → 0 < d
 link-above sig t i c d e =
-    let (x₁, p₁, e₁) = bind-some (at sig c) _ d e in
-    let (x₂, p₂, e₂) = bind-some (at t 1) _ d e₁ in
-    let (x₃, p₃, e₃) = bind-some (at t 2) _ d e₂ in
+    let (x₁, p₁, e₁) = bind-some (getElem? sig c) _ d e in
+    let (x₂, p₂, e₂) = bind-some (getElem? t 1) _ d e₁ in
+    let (x₃, p₃, e₃) = bind-some (getElem? t 2) _ d e₂ in
     let (x₄, p₄, e₄) = bind-some (require (eqb x₂ (first (heads sig (x₁ .kind))) && eqb x₃ (length (heads sig (x₁ .kind))))) _ d e₃ in
-    let (link, p₅, e₅) = bind-some (at t (3 + (c - x₂))) _ d e₄ in
+    let (link, p₅, e₅) = bind-some (getElem? t (3 + (c - x₂))) _ d e₄ in
     let (x₆, p₆, e₆) = bind-some (require (ltb i link)) _ d e₅ in
     let (x₇, p₇, e₇) = bind-some (require (leb (link - i) (length t))) _ d e₆ in
     omega (arith, le-of (suc i) link (require-some (ltb i link) x₆ p₆), some-inj (link - i) d e₇)

@@ -6,10 +6,9 @@ use mathlib.Core.Bool.{Bool, true, false, cond}
 use Prim.Native.Nat.{ℕ, _+_, _≤_, _<_}
 use native.Mathlib.Omega.{arith}
 use lib.Dec.{eqb}
-use lib.ListN.{length, getD}
+use lib.ListN.{length, getD, getElem?}
 use Rattle.signature.specs.Decoded.{Known, Starts}
 use Rattle.signature.specs.Lawful.{OfKind, of-kind, OfKinds, of-kinds-nil, of-kinds-cons}
-use Rattle.signature.specs.Lists.{at}
 use Rattle.signature.specs.Signature.{arguments-at}
 use Rattle.signature.specs.Value.{Values, vnil, vcons, con, size, codes}
 use Rattle.signature.proofs.KnownFacts.{constructors, is-constructor}
@@ -61,7 +60,7 @@ module _ {table b : List ℕ} (p : Parts table b) where
     node-out e = rw (at-out t 0 (omega arith))
 
     module _ (h : length t ≡ 0 → ⊥) where
-      word : at t 0 ≡ some (getD t 0 0)
+      word : getElem? t 0 ≡ some (getD t 0 0)
       word = at-getD t 0 (omega arith)
 
       pub node-default : getD t 0 0 ≡ 0 → Default ≡ step-at (p .known .sig) t i (p .values)

@@ -4,8 +4,8 @@ use mathlib.Core.Option.{Option, some, none}
 use mathlib.Core.Bool.{_&&_, cond}
 use Prim.Native.Nat.{ℕ, _+_, _-_}
 use lib.Dec.{leb, eqb, ltb}
-use lib.ListN.{length}
-use Rattle.signature.specs.Lists.{_>>=_, require, at, first}
+use lib.ListN.{length, getElem?}
+use Rattle.signature.specs.Lists.{_>>=_, require, first}
 use Rattle.signature.specs.Signature.{Signature, heads}
 use Rattle.signature.specs.Value.{Values, vnil, vcons, con, size}
 use Rattle.nodes.specs.declared.node.Step.{Step}
@@ -14,11 +14,11 @@ use Rattle.nodes.specs.declared.node.Step.the-variants.{Default, Hit, On
 -- a node 2 at index i: how far the link for the constructor c leads on
 abbrev pub link-to : Signature → List ℕ → ℕ → ℕ → Option ℕ
 link-to sig t i c = do
-  d ← at sig c
-  f ← at t 1
-  n ← at t 2
+  d ← getElem? sig c
+  f ← getElem? t 1
+  n ← getElem? t 2
   _ ← require (eqb f (first (heads sig (d .kind))) && eqb n (length (heads sig (d .kind))))
-  link ← at t (3 + (c - f))
+  link ← getElem? t (3 + (c - f))
   _ ← require (ltb i link)
   _ ← require (leb (link - i) (length t))
   some (link - i)
@@ -49,4 +49,4 @@ word-step sig t i vs (some w) = cond (eqb w 0) Default (cond (eqb w 1) (hit-step
 
 -- the node at index i, with these parts of the booking left; t is the tree from the node on
 abbrev pub step-at : Signature → List ℕ → ℕ → Values → Step
-step-at sig t i vs = word-step sig t i vs (at t 0)
+step-at sig t i vs = word-step sig t i vs (getElem? t 0)

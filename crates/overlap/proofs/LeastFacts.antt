@@ -9,7 +9,7 @@ use lib.Seq.{drop-drop, drop-at, take-at, drop-cons}
 use Rattle.signature.specs.Decoded.{Known, least-head, least-size, least-head-of, argument-of, arity-of}
 use Rattle.signature.specs.Lawful.{OfKind, OfKinds, of-kind, of-kinds-nil, of-kinds-cons}
 use Rattle.signature.specs.Limits.{small-size, over-small, constructor-limit, kind-limit, argument-limit}
-use Rattle.signature.specs.Lists.{All, none-left, also, at}
+use Rattle.signature.specs.Lists.{All, none-left, also}
 use Rattle.signature.specs.Read.{best, least, total}
 use Rattle.signature.specs.Signature.{Signature, arguments-at, arguments}
 use Rattle.signature.specs.Value.{Value, Values, con, vnil, vcons, code, codes, size, sizes}

@@ -2,12 +2,12 @@
 use mathlib.Core.Path.{_≡_, refl, ap, _∙_, sym}
 use mathlib.Core.List.{List, [], _∷_, _++_, append-assoc, map}
 use mathlib.Core.Option.{Option, none, some}
-use mathlib.Core.Bool.{Bool, true, false, not}
+use mathlib.Core.Bool.{Bool, true, false, not, _||_}
 use Prim.Native.Nat.{ℕ, _≤_, _+_, _<_}
 use native.Mathlib.Omega.{arith}
 use lib.ListN.{length, drop, length-drop, getD, length-append}
 use lib.Seq.{drop-drop, drop-at}
-use Rattle.signature.specs.Lists.{In, in-here, in-there, any, _or-else_, is-some, is-empty, somes}
+use Rattle.signature.specs.Lists.{In, in-here, in-there, any, is-some, is-empty, somes}
 use Rattle.cell.specs.Cell.{Kinds}
 use Rattle.cell.specs.Coded.{code, Typed}
 use Rattle.rowlist.specs.Product.{Typed-all, ones}
@@ -82,7 +82,7 @@ module _ {ar y : List ℕ} (g : Task ar y) (at : ℕ) where
   -- the row in front passes
   found-at : (todo : List Row) → Mid g at todo → 0 < getD y at 0 → ((s : Row) → Head g at s → true ≡ g .test s) → any (g .test) (g .rows) ≡ true
   found-at [] m h f = absurd (omega (arith, word-at y at 0 (g .rest) (m .code-is) .0))
-  found-at (s ∷ todo) m h f = m .same ∙ ap (λ (b : Bool). b or-else any (g .test) todo) (sym (f s (head-at s todo m)))
+  found-at (s ∷ todo) m h f = m .same ∙ ap (λ (b : Bool). b || any (g .test) todo) (sym (f s (head-at s todo m)))
 
   pub found : Now g at → 0 < getD y at 0 → ((s : Row) → Head g at s → true ≡ g .test s) → any (g .test) (g .rows) ≡ true
   found m h f = found-at (m .0) (m .1) h f
@@ -99,7 +99,7 @@ module _ {ar y : List ℕ} (g : Task ar y) (at : ℕ) where
           record {
             code-is = sym (drop-drop (getD y at 0) (at + 1) y) ∙ ap (drop (getD y at 0)) nr ∙ drop-at (code (g .K) s (g .kind)) (list-code (g .K) (g .kind) todo ++ g .rest) (getD y at 0) (sym len);
             typed = m .typed .1;
-            same = m .same ∙ ap (λ (b : Bool). b or-else any (g .test) todo) (sym (f s (head-at s todo m)));
+            same = m .same ∙ ap (λ (b : Bool). b || any (g .test) todo) (sym (f s (head-at s todo m)));
             members = λ q i. m .members q (in-there i);
           },
         ),
@@ -114,18 +114,18 @@ pub any-ones : (r : Row) (ss : List Row) → any (λ s. is-some (combine r s)) s
 any-ones r [] = refl
 any-ones r (s ∷ ss) = go (combine r s) (any-ones r ss)
   where
-    go : (m : Option Row) → any (λ s. is-some (combine r s)) ss ≡ not (is-empty (ones r ss)) → (is-some m or-else any (λ s. is-some (combine r s)) ss) ≡ not (is-empty (somes (m ∷ map (combine r) ss)))
+    go : (m : Option Row) → any (λ s. is-some (combine r s)) ss ≡ not (is-empty (ones r ss)) → (is-some m || any (λ s. is-some (combine r s)) ss) ≡ not (is-empty (somes (m ∷ map (combine r) ss)))
     go none e = e
     go (some t) e = refl
 
-empty-append : (a b : List (Option Row)) → (not (is-empty (somes a)) or-else not (is-empty (somes b))) ≡ not (is-empty (somes (a ++ b)))
+empty-append : (a b : List (Option Row)) → (not (is-empty (somes a)) || not (is-empty (somes b))) ≡ not (is-empty (somes (a ++ b)))
 empty-append [] b = refl
 empty-append (none ∷ a) b = empty-append a b
 empty-append (some t ∷ a) b = refl
 
 pub any-each : (rs ss : List Row) → any (λ r. not (is-empty (ones r ss))) rs ≡ not (is-empty (somes (each combine rs ss)))
 any-each [] ss = refl
-any-each (r ∷ rs) ss = ap (λ (b : Bool). not (is-empty (ones r ss)) or-else b) (any-each rs ss) ∙ empty-append (map (combine r) ss) (each combine rs ss)
+any-each (r ∷ rs) ss = ap (λ (b : Bool). not (is-empty (ones r ss)) || b) (any-each rs ss) ∙ empty-append (map (combine r) ss) (each combine rs ss)
 
 unfoldable pub row-task : {ar x y : List ℕ} → RowByList ar x y → Task ar y
 row-task g = record { K = g .K; kind = g .kind; rows = g .ss; rest = g .restY; code-is = g .codeY; typed = g .typedS; test = λ s. is-some (combine (g .r) s) }

@@ -1,10 +1,11 @@
 -- The laws of overlap. The function `laws` promises them.
+use mathlib.Core.Logic.{_↔_}
 use mathlib.Core.Path.{_≡_}
 use mathlib.Core.List.{List, _++_}
 use mathlib.Core.Bool.{true, not}
 use Prim.Native.Nat.{ℕ}
 use Rattle.signature.specs.Decoded.{Known}
-use Rattle.signature.specs.Lists.{Iff, is-empty, somes}
+use Rattle.signature.specs.Lists.{is-empty, somes}
 use Rattle.pattern.specs.Pattern.{Pattern}
 use Rattle.pattern.specs.WellFormed.{PatternWords}
 use Rattle.cell.specs.Coded.{kinds-of}
@@ -29,4 +30,4 @@ pub record TwoPatterns (t x y : List ℕ) : Type 0 where
 
 pub record Laws : Type 0 where
   -- 12: their lists meet exactly where some lawful booking fits both
-  pub lists-shared : (t x y : List ℕ) (g : TwoPatterns t x y) → (h : TwoLists t x y) × Iff (not (is-empty (somes (each combine (h .rs) (h .ss)))) ≡ true) (Shared (g .known .sig) (g .p) (g .q))
+  pub lists-shared : (t x y : List ℕ) (g : TwoPatterns t x y) → (h : TwoLists t x y) × ((not (is-empty (somes (each combine (h .rs) (h .ss)))) ≡ true) ↔ (Shared (g .known .sig) (g .p) (g .q)))

@@ -8,7 +8,7 @@ use borrow.Author.Tests.{ltb-true, ltb-false}
 use lib.Dec.{eqb, ltb}
 use lib.ListN.{length, getD, set}
 use lib.Seq.{getD-set-same, getD-set-other}
-use Rattle.signature.specs.Set.{bit, bit-if, Lowest}
+use Rattle.signature.specs.Set.{bit, Lowest}
 use Rattle.signature.proofs.SetLaws.{bit-zero}
 use Rattle.signature.proofs.Tests.{eqb-eq, eqb-ne, eqb-no, eqb-self}
 use Rattle.path.specs.Alive.{member, row-limit, FirstAlive}
@@ -23,7 +23,7 @@ one-is true = refl
 one-is false = refl
 
 -- a word of the set is replaced by one that has the bit of row r as b says, and the others as they were
-put-word : (s : List ℕ) (r q : ℕ) (b : Bool) (w : ℕ) → r / 64 < length s → ((j : ℕ) → bit w j ≡ bit-if (eqb j (r % 64)) (one-if b) (bit (getD s (r / 64) 0) j)) → member (set s (r / 64) w) q ≡ cond (eqb q r) b (member s q)
+put-word : (s : List ℕ) (r q : ℕ) (b : Bool) (w : ℕ) → r / 64 < length s → ((j : ℕ) → bit w j ≡ cond (eqb j (r % 64)) (one-if b) (bit (getD s (r / 64) 0) j)) → member (set s (r / 64) w) q ≡ cond (eqb q r) b (member s q)
 put-word s r q b w l h = sym (member-is (set s (r / 64) w) q) ∙ go (eqb q r) refl
   where
     same : (z : Bool) → eqb (q / 64) (r / 64) ≡ z → ¬ (q ≡ r) → eqb (bit (getD (set s (r / 64) w) (q / 64) 0) (q % 64)) 1 ≡ member s q
@@ -39,11 +39,11 @@ put-word s r q b w l h = sym (member-is (set s (r / 64) w) q) ∙ go (eqb q r) r
         rw (i, getD-set-same s (r / 64) w 0 l, h (r % 64), eqb-self (r % 64)) (one-is b)
     go false e = same (eqb (q / 64) (r / 64)) refl (eqb-ne q r e)
 
-pub put-in : (s : List ℕ) (r q : ℕ) (b : Bool) (w : ℕ) → length s ≡ 4 → r < row-limit → b ≡ true → ((j : ℕ) → bit w j ≡ bit-if (eqb j (r % 64)) 1 (bit (getD s (r / 64) 0) j)) → member (set s (r / 64) w) q ≡ cond (eqb q r) b (member s q)
-put-in s r q b w l m e h = put-word s r q b w (omega arith) (λ j. h j ∙ ap (λ (z : Bool). bit-if (eqb j (r % 64)) (one-if z) (bit (getD s (r / 64) 0) j)) (sym e))
+pub put-in : (s : List ℕ) (r q : ℕ) (b : Bool) (w : ℕ) → length s ≡ 4 → r < row-limit → b ≡ true → ((j : ℕ) → bit w j ≡ cond (eqb j (r % 64)) 1 (bit (getD s (r / 64) 0) j)) → member (set s (r / 64) w) q ≡ cond (eqb q r) b (member s q)
+put-in s r q b w l m e h = put-word s r q b w (omega arith) (λ j. h j ∙ ap (λ (z : Bool). cond (eqb j (r % 64)) (one-if z) (bit (getD s (r / 64) 0) j)) (sym e))
 
-pub put-out : (s : List ℕ) (r q : ℕ) (b : Bool) (w : ℕ) → length s ≡ 4 → r < row-limit → b ≡ false → ((j : ℕ) → bit w j ≡ bit-if (eqb j (r % 64)) 0 (bit (getD s (r / 64) 0) j)) → member (set s (r / 64) w) q ≡ cond (eqb q r) b (member s q)
-put-out s r q b w l m e h = put-word s r q b w (omega arith) (λ j. h j ∙ ap (λ (z : Bool). bit-if (eqb j (r % 64)) (one-if z) (bit (getD s (r / 64) 0) j)) (sym e))
+pub put-out : (s : List ℕ) (r q : ℕ) (b : Bool) (w : ℕ) → length s ≡ 4 → r < row-limit → b ≡ false → ((j : ℕ) → bit w j ≡ cond (eqb j (r % 64)) 0 (bit (getD s (r / 64) 0) j)) → member (set s (r / 64) w) q ≡ cond (eqb q r) b (member s q)
+put-out s r q b w l m e h = put-word s r q b w (omega arith) (λ j. h j ∙ ap (λ (z : Bool). cond (eqb j (r % 64)) (one-if z) (bit (getD s (r / 64) 0) j)) (sym e))
 
 -- no row of the first i words is a member
 abbrev pub NoneIn : List ℕ → ℕ → Type 0

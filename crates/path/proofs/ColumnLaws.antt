@@ -2,7 +2,7 @@
 use mathlib.Core.Path.{_≡_, refl, sym, ap, subst, _∙_}
 use mathlib.Core.Logic.{_⊎_, inl, inr}
 use mathlib.Core.List.{List}
-use mathlib.Core.Bool.{Bool, true, false, not, _&&_}
+use mathlib.Core.Bool.{Bool, true, false, not, _&&_, cond}
 use Prim.Native.Nat.{ℕ, _+_, _-_, _*_, _≤_, _<_}
 use native.Mathlib.Omega.{arith}
 use borrow.Author.Tests.{lt-ltb, le-ltb}
@@ -11,7 +11,7 @@ use lib.ListN.{length, getD}
 use Rattle.signature.specs.Decoded.{Known, count-of, kind-of}
 use Rattle.signature.specs.Limits.{kind-limit}
 use Rattle.signature.specs.Lists.{memb}
-use Rattle.signature.specs.Set.{bit, bit-if, set-limit}
+use Rattle.signature.specs.Set.{bit, set-limit}
 use Rattle.signature.specs.Signature.{Signature, heads, arguments-at}
 use Rattle.signature.proofs.Heads.{kind-of-head, constructor-of}
 use Rattle.signature.proofs.KnownFacts.{words-of, is-constructor, few-constructors}
@@ -58,10 +58,10 @@ module _ {t : List ℕ} {tag : ℕ} (g : Seen t tag) where
   pub seen-count : (n : ℕ) → 256 ≤ tag → n ≡ count-of t (tag - 256) → n ≤ set-limit
   seen-count n l e = let q : tag - 256 ≡ g .k = omega (arith, seen-free l) in omega (arith, e, ap (count-of t) q, seen-few)
 
-  pub refined-free : (allowed s n : ℕ) → 256 ≤ tag → n ≡ count-of t (tag - 256) → ((j : ℕ) → bit s j ≡ bit-if (ltb j n) 1 0) → not (eqb allowed s) ≡ refined-cell (g .known .sig) (g .k) tag allowed
+  pub refined-free : (allowed s n : ℕ) → 256 ≤ tag → n ≡ count-of t (tag - 256) → ((j : ℕ) → bit s j ≡ cond (ltb j n) 1 0) → not (eqb allowed s) ≡ refined-cell (g .known .sig) (g .k) tag allowed
   refined-free allowed s n l e h =
       let q : tag - 256 ≡ g .k = omega (arith, seen-free l) in
-      rw (le-ltb tag 256 l, full-set (g .known) (g .k) (g .there) s (λ j. h j ∙ ap (λ (m : ℕ). bit-if (ltb j m) 1 0) (e ∙ ap (count-of t) q)))
+      rw (le-ltb tag 256 l, full-set (g .known) (g .k) (g .there) s (λ j. h j ∙ ap (λ (m : ℕ). cond (ltb j m) 1 0) (e ∙ ap (count-of t) q)))
 
   pub kind-saw : (allowed x : ℕ) (b : Bool) → b ≡ true → b ≡ refined-cell (g .known .sig) (g .k) tag allowed → x ≡ g .k → RowKind (g .known .sig) (g .k) tag allowed x
   kind-saw allowed x b e h i = record { plain = λ l. absurd (omega (arith, kind-small)); refines = λ l. (i, sym h ∙ e) }

@@ -1,11 +1,11 @@
 -- A row of cells on a path: the columns that are left of it.
 use mathlib.Core.Path.{_≡_}
 use mathlib.Core.List.{List, [], _∷_, _++_}
-use mathlib.Core.Bool.{Bool, true, not}
+use mathlib.Core.Bool.{Bool, true, not, _||_}
 use Prim.Native.Nat.{ℕ, _+_, _≤_, _<_}
 use lib.Dec.{eqb, ltb}
 use lib.ListN.{length, drop}
-use Rattle.signature.specs.Lists.{memb, first, _or-else_}
+use Rattle.signature.specs.Lists.{memb, first}
 use Rattle.signature.specs.Signature.{Signature, heads, arguments}
 use Rattle.row.specs.Row.{Row, Rows, named, free, rnil, rcons, open-rows}
 use Rattle.cell.specs.Cell.{wordss}
@@ -20,7 +20,7 @@ Among cs ds = (c : ℕ) → memb c cs ≡ true → memb c ds ≡ true
 
 -- a cell's test: it names a constructor, or excludes one of its kind
 abbrev pub refined-cell : Signature → ℕ → ℕ → ℕ → Bool
-refined-cell sig k tag allowed = ltb tag 256 or-else not (eqb allowed (mask (first (heads sig k)) (heads sig k)))
+refined-cell sig k tag allowed = ltb tag 256 || not (eqb allowed (mask (first (heads sig k)) (heads sig k)))
 
 module _ (sig : Signature) (t : List ℕ) where
   -- a row of kind k whose constructors are of the kinds of their places

@@ -1,11 +1,11 @@
 -- A fit of a linear-plus pattern binds every variable of E, a failure of a linear-minus one every variable of O (with Once: exactly once).
 use mathlib.Core.Path.{_≡_, refl, sym}
 use mathlib.Core.List.{List, _++_}
-use mathlib.Core.Bool.{Bool, true, false, _&&_}
+use mathlib.Core.Bool.{Bool, true, false, _&&_, _||_}
 use Prim.Native.Nat.{ℕ, _+_, _≤_}
 use native.Mathlib.Omega.{arith}
 use lib.Dec.{eqb}
-use Rattle.signature.specs.Lists.{memb, all, _or-else_, is-empty}
+use Rattle.signature.specs.Lists.{memb, all, is-empty}
 use Rattle.signature.specs.Value.{Value, Values}
 use Rattle.signature.proofs.Booleans.{and-left, and-right}
 use Rattle.signature.proofs.Members.{memb-append, memb-empty, all-memb}
@@ -17,11 +17,11 @@ use Rattle.pattern.specs.Places.{tick, times}
 use Rattle.pattern.proofs.Once.{times-append}
 use Rattle.pattern.proofs.Unique.{minus-empty}
 
-one-back : (b : Bool) → tick (b or-else false) ≤ tick b + 0
+one-back : (b : Bool) → tick (b || false) ≤ tick b + 0
 one-back true = omega arith
 one-back false = omega arith
 
-tick-either : (a b : Bool) → tick (a or-else b) ≤ tick a + tick b
+tick-either : (a b : Bool) → tick (a || b) ≤ tick a + tick b
 tick-either true b = omega arith
 tick-either false b = omega arith
 
@@ -30,11 +30,11 @@ tick-imp true true f = omega arith
 tick-imp true false f = true≢false (sym (f refl))
 tick-imp false b f = omega arith
 
-or-imp : (a b : Bool) → (b ≡ true → a ≡ true) → tick (a or-else b) ≤ tick a
+or-imp : (a b : Bool) → (b ≡ true → a ≡ true) → tick (a || b) ≤ tick a
 or-imp true b f = omega arith
 or-imp false b f = tick-imp b false f
 
-or-imp-right : (a b : Bool) → (a ≡ true → b ≡ true) → tick (a or-else b) ≤ tick b
+or-imp-right : (a b : Bool) → (a ≡ true → b ≡ true) → tick (a || b) ≤ tick b
 or-imp-right true b f = tick-imp true b f
 or-imp-right false b f = omega arith
 

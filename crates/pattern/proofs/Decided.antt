@@ -1,11 +1,10 @@
 -- The decision says which of Fits and Fails holds.
 use mathlib.Core.Path.{_≡_, refl, sym, subst, _∙_}
 use mathlib.Core.List.{List}
-use mathlib.Core.Bool.{Bool, true, false, _&&_, not}
+use mathlib.Core.Bool.{Bool, true, false, _&&_, not, _||_}
 use Prim.Native.Nat.{ℕ, _+_, suc}
 use lib.Dec.{eqb}
 use Rattle.signature.specs.Lawful.{OfKind, of-kind, OfKinds, of-kinds-nil, of-kinds-cons}
-use Rattle.signature.specs.Lists.{_or-else_}
 use Rattle.signature.specs.Read.{Signed}
 use Rattle.signature.specs.Signature.{Signature}
 use Rattle.signature.specs.Value.{Value, Values, size, vcons, con, vnil}
@@ -82,7 +81,7 @@ pub fit-back : (o : Out) → is-fit o ≡ not (is-fit (swap o))
 fit-back (fit σ) = refl
 fit-back (fail σ) = refl
 
-pub not-both : (o u : Out) → (not (is-fit o) or-else not (is-fit u)) ≡ not (is-fit (both o u))
+pub not-both : (o u : Out) → (not (is-fit o) || not (is-fit u)) ≡ not (is-fit (both o u))
 not-both (fit σ) (fit τ) = refl
 not-both (fit σ) (fail τ) = refl
 not-both (fail σ) u = refl
@@ -92,7 +91,7 @@ not-either (fit σ) u = refl
 not-either (fail σ) (fit τ) = refl
 not-either (fail σ) (fail τ) = refl
 
-pub fit-or : (o u : Out) → is-fit (swap (both (swap o) (swap u))) ≡ (is-fit o or-else is-fit u)
+pub fit-or : (o u : Out) → is-fit (swap (both (swap o) (swap u))) ≡ (is-fit o || is-fit u)
 fit-or (fit σ) u = refl
 fit-or (fail σ) (fit τ) = refl
 fit-or (fail σ) (fail τ) = refl

@@ -2,13 +2,13 @@
 use mathlib.Core.Path.{_≡_, refl, _∙_, sym}
 use mathlib.Core.Logic.{_⊎_, inl, inr}
 use mathlib.Core.List.{_++_, [], _∷_, List}
-use mathlib.Core.Bool.{Bool, true, false, not, _&&_}
+use mathlib.Core.Bool.{Bool, true, false, not, _&&_, _||_}
 use Prim.Native.Nat.{ℕ, _+_, _≤_, _<_}
 use native.Mathlib.Omega.{arith}
 use lib.Dec.{eqb}
 use lib.ListN.{length, set, length-set, getD}
 use lib.Seq.{getD-set-other, getD-set-same}
-use Rattle.signature.specs.Lists.{_or-else_, memb, is-empty}
+use Rattle.signature.specs.Lists.{memb, is-empty}
 use Rattle.signature.specs.Value.{Value, Values}
 use Rattle.signature.proofs.Booleans.{not-true, and-left, and-right}
 use Rattle.signature.proofs.ListFacts.{same-lists, getD-rep}
@@ -25,18 +25,18 @@ times-append x [] τ = omega arith
 times-append x (b ∷ σ) τ = omega (arith, times-append x σ τ)
 
 -- sets of variables
-tick-or : (a b : Bool) → (a ≡ true → b ≡ false) → tick a + tick b ≤ tick (a or-else b)
+tick-or : (a b : Bool) → (a ≡ true → b ≡ false) → tick a + tick b ≤ tick (a || b)
 tick-or true b f = rw (f refl) (omega arith)
 tick-or false b f = omega arith
 
 pub disjoint-tick : (x : ℕ) (xs ys : List ℕ) → disjoint xs ys ≡ true → tick (memb x xs) + tick (memb x ys) ≤ tick (memb x (xs ++ ys))
 disjoint-tick x xs ys d = rw (memb-append x xs ys) (tick-or (memb x xs) (memb x ys) (λ m. not-true (memb x ys) (all-memb (λ y. not (memb y ys)) x xs d m)))
 
-left-or : (a b : Bool) → tick a ≤ tick (a or-else b)
+left-or : (a b : Bool) → tick a ≤ tick (a || b)
 left-or true b = omega arith
 left-or false b = omega arith
 
-right-or : (a b : Bool) → tick b ≤ tick (a or-else b)
+right-or : (a b : Bool) → tick b ≤ tick (a || b)
 right-or true true = omega arith
 right-or true false = omega arith
 right-or false b = omega arith
@@ -47,7 +47,7 @@ left-tick x xs ys = rw (memb-append x xs ys) (left-or (memb x xs) (memb x ys))
 pub right-tick : (x : ℕ) (xs ys : List ℕ) → tick (memb x ys) ≤ tick (memb x (xs ++ ys))
 right-tick x xs ys = rw (memb-append x xs ys) (right-or (memb x xs) (memb x ys))
 
-pub one-tick : (b : Bool) → tick b + 0 ≤ tick (b or-else false)
+pub one-tick : (b : Bool) → tick b + 0 ≤ tick (b || false)
 one-tick true = omega arith
 one-tick false = omega arith
 
@@ -150,7 +150,7 @@ pub bound-or-not : (x : ℕ) (σ : Binds) → (times x σ ≡ 0) ⊎ ((j : ℕ) 
 bound-or-not x [] = inl refl
 bound-or-not x (b ∷ σ) = go (eqb x (b .0)) refl (bound-or-not x σ)
   where
-    or-true : (a : Bool) → (a or-else true) ≡ true
+    or-true : (a : Bool) → (a || true) ≡ true
     or-true true = refl
     or-true false = refl
 

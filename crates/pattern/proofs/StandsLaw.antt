@@ -1,10 +1,10 @@
 -- `light-plus` says of each part that it weighs at most 64 at the side on which it stands.
+use mathlib.Core.Logic.{_↔_}
 use mathlib.Core.Path.{_≡_, refl}
 use mathlib.Core.Bool.{Bool, true, false, _&&_}
 use Prim.Native.Nat.{ℕ, _≤_, _<_}
 use native.Mathlib.Omega.{arith}
 use lib.Dec.{leb}
-use Rattle.signature.specs.Lists.{Iff}
 use Rattle.signature.proofs.Booleans.{and-left, and-right}
 use Rattle.signature.proofs.Tests.{le-of, lt-of-not, leb-yes, true≢false}
 use Rattle.pattern.specs.Limits.{part-weight-limit}
@@ -111,7 +111,7 @@ mutual
   arguments-light (pcons p ps) minus h = both (light-at minus p) (light-all minus ps) (parts-light p minus (λ r x a. h r x (in-first a))) (arguments-light ps minus (λ r x a. h r x (in-rest a)))
 
 -- 01, Patterns: each part, at the side on which it stands, weighs at most 64
-pub light-is-each : (p : Pattern) → Iff (light-plus p ≡ true) ((r : Side) (q : Pattern) → Stands plus p r q → weight-at r q ≤ part-weight-limit)
+pub light-is-each : (p : Pattern) → ((light-plus p ≡ true) ↔ ((r : Side) (q : Pattern) → Stands plus p r q → weight-at r q ≤ part-weight-limit))
 light-is-each p = (λ e r q h. light-parts h e, λ h. parts-light p plus h)
 
 abbrev SomeHeavy : Side → Pattern → Type 0
@@ -170,7 +170,7 @@ mutual
   find-heavy-in (pcons p ps) minus e = either (light-at minus p) (light-all minus ps) e (λ a. heavy-first minus p ps (find-heavy p minus a)) (λ a. heavy-rest minus p ps (find-heavy-in ps minus a))
 
 -- 01, refusal 9: some part weighs over 64
-pub heavy-is-some : (p : Pattern) → Iff (light-plus p ≡ false) ((r : Side) × (q : Pattern) × Stands plus p r q × (part-weight-limit < weight-at r q))
+pub heavy-is-some : (p : Pattern) → ((light-plus p ≡ false) ↔ ((r : Side) × (q : Pattern) × Stands plus p r q × (part-weight-limit < weight-at r q)))
 heavy-is-some p = (find-heavy p plus, back)
   where
     back : SomeHeavy plus p → light-plus p ≡ false

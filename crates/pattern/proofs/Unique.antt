@@ -1,12 +1,12 @@
 -- A fit binds variables of E only, a failure variables of O only; the paper's theorem 15: an unambiguous linear pattern binds one way.
 use mathlib.Core.Path.{_≡_, refl, ap, _∙_, sym, ap₂}
 use mathlib.Core.List.{_++_, [], _∷_, List}
-use mathlib.Core.Bool.{_&&_, Bool, true, false}
+use mathlib.Core.Bool.{_&&_, Bool, true, false, _||_}
 use Prim.Native.Nat.{ℕ, _≤_}
 use native.Mathlib.Omega.{arith}
 use lib.Dec.{eqb}
 use Rattle.signature.specs.Lawful.{OfKind, of-kind, OfKinds, of-kinds-cons}
-use Rattle.signature.specs.Lists.{_or-else_, memb, is-empty}
+use Rattle.signature.specs.Lists.{memb, is-empty}
 use Rattle.signature.specs.Signature.{Signature}
 use Rattle.signature.specs.Value.{Value, Values}
 use Rattle.signature.proofs.Booleans.{or-assoc, Imp, imp-or, one-in, and-right, and-left}
@@ -20,9 +20,9 @@ use Rattle.pattern.specs.Pattern.{Pattern, var, wild, neg, and, or, head
 use Rattle.pattern.specs.Places.{binds, Same}
 use Rattle.pattern.specs.WellFormed.{WellFormed, well-var, well-not, well-and, well-or, well-head, AllWellFormed, well-cons}
 
-pub binds-append : (x j : ℕ) (σ τ : Binds) → binds x j (σ ++ τ) ≡ (binds x j σ or-else binds x j τ)
+pub binds-append : (x j : ℕ) (σ τ : Binds) → binds x j (σ ++ τ) ≡ (binds x j σ || binds x j τ)
 binds-append x j [] τ = refl
-binds-append x j (b ∷ σ) τ = ap (λ z. (eqb x (b .0) && eqb j (b .1)) or-else z) (binds-append x j σ τ) ∙ sym (or-assoc (eqb x (b .0) && eqb j (b .1)) (binds x j σ) (binds x j τ))
+binds-append x j (b ∷ σ) τ = ap (λ z. (eqb x (b .0) && eqb j (b .1)) || z) (binds-append x j σ τ) ∙ sym (or-assoc (eqb x (b .0) && eqb j (b .1)) (binds x j σ) (binds x j τ))
 
 join : (x j : ℕ) (σ τ : Binds) (xs ys : List ℕ) → Imp (binds x j σ) (memb x xs) → Imp (binds x j τ) (memb x ys) → Imp (binds x j (σ ++ τ)) (memb x (xs ++ ys))
 join x j σ τ xs ys f g = rw (binds-append x j σ τ, memb-append x xs ys) (imp-or (binds x j σ) (binds x j τ) (memb x xs) (memb x ys) f g)
@@ -56,7 +56,7 @@ mutual
   some-in-O (pcons p ps) (some-there {σ = σ} f) x j = imp-append-right (binds x j σ) x (O p) (O-all ps) (some-in-O ps f x j)
 
 same-append : (σ τ σ′ τ′ : Binds) → Same σ σ′ → Same τ τ′ → Same (σ ++ τ) (σ′ ++ τ′)
-same-append σ τ σ′ τ′ f g x j = binds-append x j σ τ ∙ ap₂ _or-else_ (f x j) (g x j) ∙ sym (binds-append x j σ′ τ′)
+same-append σ τ σ′ τ′ f g x j = binds-append x j σ τ ∙ ap₂ _||_ (f x j) (g x j) ∙ sym (binds-append x j σ′ τ′)
 
 module _ (sig : Signature) where
   -- two sides of which both can hold bind nothing

@@ -1,12 +1,12 @@
 -- The laws of patterns. The function `laws` promises them.
 use mathlib.Core.Path.{_≡_}
-use mathlib.Core.Logic.{_⊎_}
+use mathlib.Core.Logic.{_⊎_, _↔_}
 use mathlib.Core.List.{List, _++_}
 use mathlib.Core.Option.{some}
 use mathlib.Core.Bool.{true, false}
 use Prim.Native.Nat.{ℕ, _≤_, _<_}
 use Rattle.signature.specs.Lawful.{OfKind}
-use Rattle.signature.specs.Lists.{Iff, memb}
+use Rattle.signature.specs.Lists.{memb}
 use Rattle.signature.specs.Signature.{Signature}
 use Rattle.signature.specs.Value.{Value}
 use Rattle.pattern.specs.Ambiguous.{Ambiguous}
@@ -23,7 +23,7 @@ use Rattle.pattern.specs.WellFormed.{WellFormed, PatternWords}
 
 pub record Laws : Type 0 where
   -- 7: exactly the words of patterns are read, and what was read was there
-  pub pattern : (sig : Signature) (ws : List ℕ) (p : Pattern) → Iff (read-pattern sig ws ≡ some p) (PatternWords sig ws p)
+  pub pattern : (sig : Signature) (ws : List ℕ) (p : Pattern) → ((read-pattern sig ws ≡ some p) ↔ (PatternWords sig ws p))
   pub pattern-read : (sig : Signature) (d k : ℕ) (p : Pattern) (rest : List ℕ) → WellFormed sig k p → pattern-depth p ≤ d → read-one sig d k (pattern-code p ++ rest) ≡ some (p, rest)
   pub pattern-was : (sig : Signature) (d k : ℕ) (ws : List ℕ) (p : Pattern) (rest : List ℕ) → read-one sig d k ws ≡ some (p, rest) → WellFormed sig k p × (pattern-depth p ≤ d) × (pattern-code p ++ rest ≡ ws)
   -- the paper, theorem 3: never both
@@ -31,8 +31,8 @@ pub record Laws : Type 0 where
   -- theorem 4: always one
   pub one-of : (sig : Signature) (k : ℕ) (p : Pattern) (v : Value) (i : ℕ) → WellFormed sig k p → OfKind sig k v → ((σ : Binds) × Fits p v i σ) ⊎ ((σ : Binds) × Fails p v i σ)
   -- and the decision says which
-  pub decide-fits : (sig : Signature) (k : ℕ) (p : Pattern) (v : Value) (i : ℕ) → WellFormed sig k p → OfKind sig k v → Iff (is-fit (decide p v i) ≡ true) ((σ : Binds) × Fits p v i σ)
-  pub decide-fails : (sig : Signature) (k : ℕ) (p : Pattern) (v : Value) (i : ℕ) → WellFormed sig k p → OfKind sig k v → Iff (is-fit (decide p v i) ≡ false) ((σ : Binds) × Fails p v i σ)
+  pub decide-fits : (sig : Signature) (k : ℕ) (p : Pattern) (v : Value) (i : ℕ) → WellFormed sig k p → OfKind sig k v → ((is-fit (decide p v i) ≡ true) ↔ ((σ : Binds) × Fits p v i σ))
+  pub decide-fails : (sig : Signature) (k : ℕ) (p : Pattern) (v : Value) (i : ℕ) → WellFormed sig k p → OfKind sig k v → ((is-fit (decide p v i) ≡ false) ↔ ((σ : Binds) × Fails p v i σ))
   -- theorems 10 and 11: a fit of a linear-plus pattern binds each variable of E exactly once, and no other; a failure of a linear-minus one those of O
   pub covering : (p : Pattern) (v : Value) (i : ℕ) (σ : Binds) → linear-plus p ≡ true → Fits p v i σ → (x : ℕ) → times x σ ≡ tick (memb x (E p))
   pub covering-minus : (p : Pattern) (v : Value) (i : ℕ) (σ : Binds) → linear-minus p ≡ true → Fails p v i σ → (x : ℕ) → times x σ ≡ tick (memb x (O p))
@@ -43,5 +43,5 @@ pub record Laws : Type 0 where
   pub places-only : (σ : Binds) (ps qs : List ℕ) → PlacesOf σ ps → PlacesOf σ qs → ps ≡ qs
   pub one-list : (sig : Signature) (k : ℕ) (p : Pattern) (v : Value) (i : ℕ) (σ τ : Binds) → linear-plus p ≡ true → (Ambiguous sig k p → ⊥) → OfKind sig k v → Fits p v i σ → Fits p v i τ → bind-all σ unbound ≡ bind-all τ unbound
   -- 9: "Each part, at the side on which it stands, weighs at most 64", and some part does not
-  pub light : (p : Pattern) → Iff (light-plus p ≡ true) ((r : Side) (q : Pattern) → Stands plus p r q → weight-at r q ≤ part-weight-limit)
-  pub heavy : (p : Pattern) → Iff (light-plus p ≡ false) ((r : Side) × (q : Pattern) × Stands plus p r q × (part-weight-limit < weight-at r q))
+  pub light : (p : Pattern) → ((light-plus p ≡ true) ↔ ((r : Side) (q : Pattern) → Stands plus p r q → weight-at r q ≤ part-weight-limit))
+  pub heavy : (p : Pattern) → ((light-plus p ≡ false) ↔ ((r : Side) × (q : Pattern) × Stands plus p r q × (part-weight-limit < weight-at r q)))

@@ -7,11 +7,11 @@ use Prim.Native.Nat.{ℕ, zero, suc, _+_, _-_, _≤_, _<_}
 use native.Mathlib.Numerals.{add-one}
 use native.Mathlib.Omega.{arith}
 use lib.Dec.{eqb, ltb}
-use lib.ListN.{length, drop, getD, length-drop}
+use lib.ListN.{length, drop, getD, length-drop, getElem?}
 use lib.Seq.{drop-drop, drop-cons}
 use Rattle.signature.specs.Decoded.{Known, constructors-of, kind-of}
 use Rattle.signature.specs.Limits.{argument-limit}
-use Rattle.signature.specs.Lists.{_>>=_, at, is-some, whole}
+use Rattle.signature.specs.Lists.{_>>=_, is-some, whole}
 use Rattle.signature.specs.Signature.{Signature, Constructor, arguments-at}
 use Rattle.signature.proofs.Booleans.{and-left, and-right}
 use Rattle.signature.proofs.Heads.{constructor-of}
@@ -46,21 +46,21 @@ one-kind : (k j : ℕ) → j < 1 → getD (k ∷ []) j 0 ≡ k
 one-kind k zero l = refl
 one-kind k (suc j) l = absurd (omega arith)
 
-below : (cs : Signature) (i : ℕ) (d : Constructor) → at cs i ≡ some d → i < length cs
+below : (cs : Signature) (i : ℕ) (d : Constructor) → getElem? cs i ≡ some d → i < length cs
 below [] i d e = none≢some e
 below (x ∷ cs) zero d e = omega arith
 below (x ∷ cs) (suc i) d e = omega (arith, below cs i d e)
 
 module _ (t : List ℕ) (g : Known t) where
-  constructor-there : (c : ℕ) → ltb c (constructors-of t) ≡ true → (d : Constructor) × (at (g .sig) c ≡ some d)
+  constructor-there : (c : ℕ) → ltb c (constructors-of t) ≡ true → (d : Constructor) × (getElem? (g .sig) c ≡ some d)
   constructor-there c h = go (g .sig) c (λ e. true≢false (sym h ∙ ltb-no c (constructors-of t) (rw (g .decoded .constructor-count) e)))
     where
-      go : (cs : Signature) (i : ℕ) → (length cs ≤ i → ⊥) → (d : Constructor) × (at cs i ≡ some d)
+      go : (cs : Signature) (i : ℕ) → (length cs ≤ i → ⊥) → (d : Constructor) × (getElem? cs i ≡ some d)
       go [] i h = absurd (h (omega arith))
       go (d ∷ cs) zero h = (d, refl)
       go (d ∷ cs) (suc i) h = go cs i (λ l. h (omega arith))
 
-  arguments-there : (k c : ℕ) (d : Constructor) → at (g .sig) c ≡ some d → eqb (kind-of t c) k ≡ true → arguments-at (g .sig) k c ≡ some (d .args)
+  arguments-there : (k c : ℕ) (d : Constructor) → getElem? (g .sig) c ≡ some d → eqb (kind-of t c) k ≡ true → arguments-at (g .sig) k c ≡ some (d .args)
   arguments-there k c d e h = rw (e, ← g .decoded .kind c d e, h)
 
   head-due : (k c : ℕ) → may-begin t (is-head c) k ≡ true → Due t (g .sig) (is-head c) k

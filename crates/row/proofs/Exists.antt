@@ -3,12 +3,12 @@ use mathlib.Core.Path.{_≡_, _∙_, sym, ap, refl, subst}
 use mathlib.Core.Logic.{_⊎_, inl, inr}
 use mathlib.Core.List.{List, [], _∷_, _++_}
 use mathlib.Core.Option.{Option, none, some}
-use mathlib.Core.Bool.{true, not, false, _&&_}
+use mathlib.Core.Bool.{true, not, false, _&&_, _||_}
 use Prim.Native.Nat.{ℕ, _≤_}
 use native.Mathlib.Omega.{arith}
 use lib.ListN.{length, length-append}
 use Rattle.signature.specs.Lawful.{OfKind}
-use Rattle.signature.specs.Lists.{somes, All, is-empty, also, _or-else_}
+use Rattle.signature.specs.Lists.{somes, All, is-empty, also}
 use Rattle.signature.specs.Read.{Signed}
 use Rattle.signature.specs.Signature.{Signature}
 use Rattle.signature.specs.Value.{Value, code, size, con}
@@ -53,7 +53,7 @@ module _ (sig : Signature) where
     first-fails p q s t [] e g n = true≢false (sym n)
     first-fails {k} p q s t (r ∷ rs) e (also x g gs) n =
         let (v, h, f, m, d) = fill sig (args-small sig facts) (few sig facts) r g in
-        let both : (fits-some (rows-minus sig k p) v && fits-some (rows-minus sig k q) v) ≡ true = sym (products-fit (rows-minus sig k p) (rows-minus sig k q) v) ∙ ap (λ z. fits-some z v) e ∙ ap (λ b. b or-else fits-some rs v) f in
+        let both : (fits-some (rows-minus sig k p) v && fits-some (rows-minus sig k q) v) ≡ true = sym (products-fit (rows-minus sig k p) (rows-minus sig k q) v) ∙ ap (λ z. fits-some z v) e ∙ ap (λ b. b || fits-some rs v) f in
         (v, h, not-true (is-fit (decide p v 0)) (sym (minus-fits sig p s v h 0) ∙ and-left (fits-some (rows-minus sig k p) v) (fits-some (rows-minus sig k q) v) both), not-true (is-fit (decide q v 0)) (sym (minus-fits sig q t v h 0) ∙ and-right (fits-some (rows-minus sig k p) v) (fits-some (rows-minus sig k q) v) both))
 
     overlap-fails : {k : ℕ} (p q : Pattern) → Small sig k → WellFormed sig k p → WellFormed sig k q → overlap-minus sig k p q ≡ true → (v : Value) × OfKind sig k v × (is-fit (decide p v 0) ≡ false) × (is-fit (decide q v 0) ≡ false)
@@ -89,7 +89,7 @@ module _ (sig : Signature) where
           go : (ambiguous-plus sig k p ≡ true) ⊎ (ambiguous-plus sig k q ≡ true) → (ambiguous-plus sig k p ≡ true → Ambiguous sig k p) → (ambiguous-plus sig k q ≡ true → Ambiguous sig k q) → Ambiguous sig k (and p q)
           go (inl a) f g = in-and-left (f a)
           go (inr a) f g = in-and-right (g a)
-      ambiguous-exists (or p q) {k} m (well-or s t) e = go (either ((not (is-empty (E (or p q))) && overlap sig k p q) or-else ambiguous-plus sig k p) (ambiguous-plus sig k q) e) (λ y. ambiguous-exists p m s y) (λ y. ambiguous-exists q m t y)
+      ambiguous-exists (or p q) {k} m (well-or s t) e = go (either ((not (is-empty (E (or p q))) && overlap sig k p q) || ambiguous-plus sig k p) (ambiguous-plus sig k q) e) (λ y. ambiguous-exists p m s y) (λ y. ambiguous-exists q m t y)
         where
           here : (not (is-empty (E (or p q))) && overlap sig k p q) ≡ true → Ambiguous sig k (or p q)
           here a =
@@ -102,7 +102,7 @@ module _ (sig : Signature) where
           go₂ (inl a) f = here a
           go₂ (inr a) f = in-or-left (f a)
 
-          go : (((not (is-empty (E (or p q))) && overlap sig k p q) or-else ambiguous-plus sig k p) ≡ true) ⊎ (ambiguous-plus sig k q ≡ true) → (ambiguous-plus sig k p ≡ true → Ambiguous sig k p) → (ambiguous-plus sig k q ≡ true → Ambiguous sig k q) → Ambiguous sig k (or p q)
+          go : (((not (is-empty (E (or p q))) && overlap sig k p q) || ambiguous-plus sig k p) ≡ true) ⊎ (ambiguous-plus sig k q ≡ true) → (ambiguous-plus sig k p ≡ true → Ambiguous sig k p) → (ambiguous-plus sig k q ≡ true → Ambiguous sig k q) → Ambiguous sig k (or p q)
           go (inl a) f g = go₂ (either (not (is-empty (E (or p q))) && overlap sig k p q) (ambiguous-plus sig k p) a) f
           go (inr a) f g = in-or-right (g a)
       ambiguous-exists (head c ps) {k} m (well-head {ks = ks} l a s) e = in-head a (ambiguous-exists-all ps (args-small sig facts k c ks a) s (ap (λ js. any-plus sig js ps) (sym (args-same sig k c ks a)) ∙ e))
@@ -117,7 +117,7 @@ module _ (sig : Signature) where
           go : (ambiguous-minus sig k p ≡ true) ⊎ (ambiguous-minus sig k q ≡ true) → (ambiguous-minus sig k p ≡ true → AmbiguousMinus sig k p) → (ambiguous-minus sig k q ≡ true → AmbiguousMinus sig k q) → AmbiguousMinus sig k (or p q)
           go (inl a) f g = in-or-left′ (f a)
           go (inr a) f g = in-or-right′ (g a)
-      ambiguous-exists′ (and p q) {k} m (well-and s t) e = go (either ((not (is-empty (O (and p q))) && overlap-minus sig k p q) or-else ambiguous-minus sig k p) (ambiguous-minus sig k q) e) (λ y. ambiguous-exists′ p m s y) (λ y. ambiguous-exists′ q m t y)
+      ambiguous-exists′ (and p q) {k} m (well-and s t) e = go (either ((not (is-empty (O (and p q))) && overlap-minus sig k p q) || ambiguous-minus sig k p) (ambiguous-minus sig k q) e) (λ y. ambiguous-exists′ p m s y) (λ y. ambiguous-exists′ q m t y)
         where
           here : (not (is-empty (O (and p q))) && overlap-minus sig k p q) ≡ true → AmbiguousMinus sig k (and p q)
           here a =
@@ -130,7 +130,7 @@ module _ (sig : Signature) where
           go₂ (inl a) f = here a
           go₂ (inr a) f = in-and-left′ (f a)
 
-          go : (((not (is-empty (O (and p q))) && overlap-minus sig k p q) or-else ambiguous-minus sig k p) ≡ true) ⊎ (ambiguous-minus sig k q ≡ true) → (ambiguous-minus sig k p ≡ true → AmbiguousMinus sig k p) → (ambiguous-minus sig k q ≡ true → AmbiguousMinus sig k q) → AmbiguousMinus sig k (and p q)
+          go : (((not (is-empty (O (and p q))) && overlap-minus sig k p q) || ambiguous-minus sig k p) ≡ true) ⊎ (ambiguous-minus sig k q ≡ true) → (ambiguous-minus sig k p ≡ true → AmbiguousMinus sig k p) → (ambiguous-minus sig k q ≡ true → AmbiguousMinus sig k q) → AmbiguousMinus sig k (and p q)
           go (inl a) f g = go₂ (either (not (is-empty (O (and p q))) && overlap-minus sig k p q) (ambiguous-minus sig k p) a) f
           go (inr a) f g = in-and-right′ (g a)
       ambiguous-exists′ (head c ps) {k} m (well-head {ks = ks} l a s) e = in-head′ a (ambiguous-exists-all′ ps (args-small sig facts k c ks a) s (ap (λ js. any-minus sig js ps) (sym (args-same sig k c ks a)) ∙ e))
@@ -158,8 +158,8 @@ module _ (sig : Signature) where
     ambiguous-decided (and p q) {k} (well-and s t) (in-and-left a) = or-true-left (ambiguous-plus sig k p) (ambiguous-plus sig k q) (ambiguous-decided p s a)
     ambiguous-decided (and p q) {k} (well-and s t) (in-and-right a) = or-true-right (ambiguous-plus sig k p) (ambiguous-plus sig k q) (ambiguous-decided q t a)
     ambiguous-decided (or p q) {k} (well-or s t) (here-or e h f g) = rw (e, fit-overlap sig p q s t h f g)
-    ambiguous-decided (or p q) {k} (well-or s t) (in-or-left a) = or-true-left ((not (is-empty (E (or p q))) && overlap sig k p q) or-else ambiguous-plus sig k p) (ambiguous-plus sig k q) (or-true-right (not (is-empty (E (or p q))) && overlap sig k p q) (ambiguous-plus sig k p) (ambiguous-decided p s a))
-    ambiguous-decided (or p q) {k} (well-or s t) (in-or-right a) = or-true-right ((not (is-empty (E (or p q))) && overlap sig k p q) or-else ambiguous-plus sig k p) (ambiguous-plus sig k q) (ambiguous-decided q t a)
+    ambiguous-decided (or p q) {k} (well-or s t) (in-or-left a) = or-true-left ((not (is-empty (E (or p q))) && overlap sig k p q) || ambiguous-plus sig k p) (ambiguous-plus sig k q) (or-true-right (not (is-empty (E (or p q))) && overlap sig k p q) (ambiguous-plus sig k p) (ambiguous-decided p s a))
+    ambiguous-decided (or p q) {k} (well-or s t) (in-or-right a) = or-true-right ((not (is-empty (E (or p q))) && overlap sig k p q) || ambiguous-plus sig k p) (ambiguous-plus sig k q) (ambiguous-decided q t a)
     ambiguous-decided (head c ps) {k} (well-head {ks = ks} l a s) (in-head b z) = ap (λ js. any-plus sig js ps) (args-same sig k c ks a) ∙ (ambiguous-decided-all ps s (subst (λ js. Ambiguouses sig js ps) (sym (args-same sig k c _ b) ∙ args-same sig k c ks a) z))
 
     pub ambiguous-decided′ : (p : Pattern) {k : ℕ} → WellFormed sig k p → AmbiguousMinus sig k p → ambiguous-minus sig k p ≡ true
@@ -167,8 +167,8 @@ module _ (sig : Signature) where
     ambiguous-decided′ (or p q) {k} (well-or s t) (in-or-left′ a) = or-true-left (ambiguous-minus sig k p) (ambiguous-minus sig k q) (ambiguous-decided′ p s a)
     ambiguous-decided′ (or p q) {k} (well-or s t) (in-or-right′ a) = or-true-right (ambiguous-minus sig k p) (ambiguous-minus sig k q) (ambiguous-decided′ q t a)
     ambiguous-decided′ (and p q) {k} (well-and s t) (here-and e h f g) = rw (e, fail-overlap sig p q s t h f g)
-    ambiguous-decided′ (and p q) {k} (well-and s t) (in-and-left′ a) = or-true-left ((not (is-empty (O (and p q))) && overlap-minus sig k p q) or-else ambiguous-minus sig k p) (ambiguous-minus sig k q) (or-true-right (not (is-empty (O (and p q))) && overlap-minus sig k p q) (ambiguous-minus sig k p) (ambiguous-decided′ p s a))
-    ambiguous-decided′ (and p q) {k} (well-and s t) (in-and-right′ a) = or-true-right ((not (is-empty (O (and p q))) && overlap-minus sig k p q) or-else ambiguous-minus sig k p) (ambiguous-minus sig k q) (ambiguous-decided′ q t a)
+    ambiguous-decided′ (and p q) {k} (well-and s t) (in-and-left′ a) = or-true-left ((not (is-empty (O (and p q))) && overlap-minus sig k p q) || ambiguous-minus sig k p) (ambiguous-minus sig k q) (or-true-right (not (is-empty (O (and p q))) && overlap-minus sig k p q) (ambiguous-minus sig k p) (ambiguous-decided′ p s a))
+    ambiguous-decided′ (and p q) {k} (well-and s t) (in-and-right′ a) = or-true-right ((not (is-empty (O (and p q))) && overlap-minus sig k p q) || ambiguous-minus sig k p) (ambiguous-minus sig k q) (ambiguous-decided′ q t a)
     ambiguous-decided′ (head c ps) {k} (well-head {ks = ks} l a s) (in-head′ b z) = ap (λ js. any-minus sig js ps) (args-same sig k c ks a) ∙ (ambiguous-decided-all′ ps s (subst (λ js. AmbiguousesMinus sig js ps) (sym (args-same sig k c _ b) ∙ args-same sig k c ks a) z))
 
     ambiguous-decided-all : (ps : Patterns) {ks : List ℕ} → AllWellFormed sig ks ps → Ambiguouses sig ks ps → any-plus sig ks ps ≡ true

@@ -1,9 +1,10 @@
 -- The laws of rows hold.
+use mathlib.Core.Logic.{_↔_}
 use mathlib.Core.Path.{_≡_, sym, ap, _∙_}
 use mathlib.Core.Bool.{true, not}
 use Prim.Native.Nat.{ℕ}
 use Rattle.signature.specs.Lawful.{OfKind}
-use Rattle.signature.specs.Lists.{Iff, In}
+use Rattle.signature.specs.Lists.{In}
 use Rattle.signature.specs.Signature.{Signature}
 use Rattle.signature.specs.Value.{Value}
 use Rattle.signature.proofs.LawfulFacts.{sig-facts, small-0, args-small, few}
@@ -31,10 +32,10 @@ use Rattle.row.proofs.RowTheorem.{plus-fits, minus-fits}
 use Rattle.row.proofs.Symmetric.{shares-sym}
 
 module _ (sig : Signature) (k i : ℕ) (p : Pattern) (v : Value) (w : WellFormed sig k p) (h : OfKind sig k v) where
-  fits-row : Iff ((σ : Binds) × Fits p v i σ) ((r : Row) × In r (rows-plus sig k p) × (row-fits r v ≡ true))
+  fits-row : ((σ : Binds) × Fits p v i σ) ↔ ((r : Row) × In r (rows-plus sig k p) × (row-fits r v ≡ true))
   fits-row = (λ f. any-in (λ r. row-fits r v) (rows-plus sig k p) (plus-fits sig p w v h i ∙ fits-decide sig p w h (f .1)), λ r. decide-fits sig p i w h (sym (plus-fits sig p w v h i) ∙ in-any (λ s. row-fits s v) (rows-plus sig k p) (r .0) (r .1) (r .2)))
 
-  fails-row : Iff ((σ : Binds) × Fails p v i σ) ((r : Row) × In r (rows-minus sig k p) × (row-fits r v ≡ true))
+  fails-row : ((σ : Binds) × Fails p v i σ) ↔ ((r : Row) × In r (rows-minus sig k p) × (row-fits r v ≡ true))
   fails-row = (λ f. any-in (λ r. row-fits r v) (rows-minus sig k p) (minus-fits sig p w v h i ∙ ap not (fails-decide sig p w h (f .1))), λ r. decide-fails sig p i w h (not-true (is-fit (decide p v i)) (sym (minus-fits sig p w v h i) ∙ in-any (λ s. row-fits s v) (rows-minus sig k p) (r .0) (r .1) (r .2))))
 
 row-binds-so : (sig : Signature) (k i : ℕ) (p : Pattern) (v : Value) (r : Row) → In r (rows-plus sig k p) → row-fits r v ≡ true → (σ : Binds) × Fits p v i σ × ((x j : ℕ) → binds x j σ ≡ row-binds r v i x j)

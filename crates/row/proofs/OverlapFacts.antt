@@ -2,14 +2,14 @@
 use mathlib.Core.Path.{_≡_, refl, _∙_, sym, ap}
 use mathlib.Core.List.{List, [], _∷_, _++_}
 use mathlib.Core.Option.{some}
-use mathlib.Core.Bool.{true, not, Bool, false, cond, _&&_}
+use mathlib.Core.Bool.{true, not, Bool, false, cond, _&&_, _||_}
 use Prim.Native.Nat.{ℕ, _≤_, _*_, _+_, suc}
 use native.Mathlib.Omega.{arith}
 use lib.Dec.{eqb}
-use lib.ListN.{length}
+use lib.ListN.{length, getElem?}
 use Rattle.signature.specs.Lawful.{OfKind, OfKinds, of-kind, of-kinds-nil, of-kinds-cons}
 use Rattle.signature.specs.Limits.{small-size, argument-limit}
-use Rattle.signature.specs.Lists.{is-empty, somes, All, memb, require, _>>=_, at, keep, none-left, also, _or-else_}
+use Rattle.signature.specs.Lists.{is-empty, somes, All, memb, require, _>>=_, keep, none-left, also}
 use Rattle.signature.specs.Signature.{Signature, arguments-at, heads}
 use Rattle.signature.specs.Value.{Value, size, depth, Values, sizes, depths, con, vnil, vcons}
 use Rattle.signature.proofs.Booleans.{and-left, and-right}
@@ -139,7 +139,7 @@ module _ (sig : Signature) where
     first-shared p q s t [] e g l n = true≢false (sym n)
     first-shared {k} p q s t (r ∷ rs) e (also x g gs) (also y l ls) n =
         let (v, h, f, m, d) = fill r g in
-        let both : (fits-some (rows-plus sig k p) v && fits-some (rows-plus sig k q) v) ≡ true = sym (products-fit (rows-plus sig k p) (rows-plus sig k q) v) ∙ ap (λ z. fits-some z v) e ∙ ap (λ b. b or-else fits-some rs v) f in
+        let both : (fits-some (rows-plus sig k p) v && fits-some (rows-plus sig k q) v) ≡ true = sym (products-fit (rows-plus sig k p) (rows-plus sig k q) v) ∙ ap (λ z. fits-some z v) e ∙ ap (λ b. b || fits-some rs v) f in
         (v, h, sym (plus-fits sig p s v h 0) ∙ and-left (fits-some (rows-plus sig k p) v) (fits-some (rows-plus sig k q) v) both, sym (plus-fits sig q t v h 0) ∙ and-right (fits-some (rows-plus sig k p) v) (fits-some (rows-plus sig k q) v) both, omega arith, omega arith)
 
     pub overlap-shared : {k : ℕ} (p q : Pattern) → Small sig k → WellFormed sig k p → WellFormed sig k q → overlap sig k p q ≡ true → SharedValue k p q

@@ -2,10 +2,10 @@
 use mathlib.Core.Path.{_≡_, ap, _∙_, ap₂, refl, sym}
 use mathlib.Core.List.{List, _++_, [], _∷_}
 use mathlib.Core.Option.{some, Option, none}
-use mathlib.Core.Bool.{_&&_, Bool, true, false, not, cond}
+use mathlib.Core.Bool.{_&&_, Bool, true, false, not, cond, _||_}
 use Prim.Native.Nat.{ℕ, suc, _+_}
 use lib.Dec.{eqb}
-use Rattle.signature.specs.Lists.{_or-else_, memb, require, _>>=_, is-empty, keep, All, none-left, also}
+use Rattle.signature.specs.Lists.{memb, require, _>>=_, is-empty, keep, All, none-left, also}
 use Rattle.signature.specs.Signature.{Signature, heads, arguments}
 use Rattle.signature.specs.Value.{Value, Values, con, vnil, vcons, size}
 use Rattle.signature.proofs.Booleans.{or-last, or-assoc, or-mix, and-left, and-right, or-false, and-or-false}
@@ -22,23 +22,23 @@ use Rattle.row.proofs.Places.{all-each}
 use Rattle.row.proofs.RowMeet.{combine-fits}
 
 abbrev pub Joins : Row → Row → Row → Type 0
-Joins r s t = (v : Value) (i x j : ℕ) → row-binds t v i x j ≡ (row-binds r v i x j or-else row-binds s v i x j)
+Joins r s t = (v : Value) (i x j : ℕ) → row-binds t v i x j ≡ (row-binds r v i x j || row-binds s v i x j)
 
 abbrev pub Joins-all : Rows → Rows → Rows → Type 0
-Joins-all rs ss ts = (vs : Values) (i x j : ℕ) → rows-bind ts vs i x j ≡ (rows-bind rs vs i x j or-else rows-bind ss vs i x j)
+Joins-all rs ss ts = (vs : Values) (i x j : ℕ) → rows-bind ts vs i x j ≡ (rows-bind rs vs i x j || rows-bind ss vs i x j)
 
 joins-named-free : (xs ys ds : List ℕ) (c : ℕ) (rs : Rows) → Joins (named xs c rs) (free ys ds) (named (xs ++ ys) c rs)
-joins-named-free xs ys ds c rs (con d vs) i x j = ap (λ b. b or-else rows-bind rs vs (suc i) x j) (vars-join x j i xs ys) ∙ or-last (memb x xs && eqb j i) (memb x ys && eqb j i) (rows-bind rs vs (suc i) x j)
+joins-named-free xs ys ds c rs (con d vs) i x j = ap (λ b. b || rows-bind rs vs (suc i) x j) (vars-join x j i xs ys) ∙ or-last (memb x xs && eqb j i) (memb x ys && eqb j i) (rows-bind rs vs (suc i) x j)
 
 joins-free-named : (xs ys cs : List ℕ) (d : ℕ) (ss : Rows) → Joins (free xs cs) (named ys d ss) (named (xs ++ ys) d ss)
-joins-free-named xs ys cs d ss (con e vs) i x j = ap (λ b. b or-else rows-bind ss vs (suc i) x j) (vars-join x j i xs ys) ∙ or-assoc (memb x xs && eqb j i) (memb x ys && eqb j i) (rows-bind ss vs (suc i) x j)
+joins-free-named xs ys cs d ss (con e vs) i x j = ap (λ b. b || rows-bind ss vs (suc i) x j) (vars-join x j i xs ys) ∙ or-assoc (memb x xs && eqb j i) (memb x ys && eqb j i) (rows-bind ss vs (suc i) x j)
 
 joins-named : (xs ys : List ℕ) (c d : ℕ) (rs ss ts : Rows) → Joins-all rs ss ts → Joins (named xs c rs) (named ys d ss) (named (xs ++ ys) c ts)
-joins-named xs ys c d rs ss ts f (con e vs) i x j = ap₂ _or-else_ (vars-join x j i xs ys) (f vs (suc i) x j) ∙ or-mix (memb x xs && eqb j i) (memb x ys && eqb j i) (rows-bind rs vs (suc i) x j) (rows-bind ss vs (suc i) x j)
+joins-named xs ys c d rs ss ts f (con e vs) i x j = ap₂ _||_ (vars-join x j i xs ys) (f vs (suc i) x j) ∙ or-mix (memb x xs && eqb j i) (memb x ys && eqb j i) (rows-bind rs vs (suc i) x j) (rows-bind ss vs (suc i) x j)
 
 joins-cons : (r s t : Row) (rs ss ts : Rows) → Joins r s t → Joins-all rs ss ts → Joins-all (rcons r rs) (rcons s ss) (rcons t ts)
 joins-cons r s t rs ss ts f g vnil i x j = refl
-joins-cons r s t rs ss ts f g (vcons v vs) i x j = ap₂ _or-else_ (f v i x j) (g vs (i + size v) x j) ∙ or-mix (row-binds r v i x j) (row-binds s v i x j) (rows-bind rs vs (i + size v) x j) (rows-bind ss vs (i + size v) x j)
+joins-cons r s t rs ss ts f g (vcons v vs) i x j = ap₂ _||_ (f v i x j) (g vs (i + size v) x j) ∙ or-mix (row-binds r v i x j) (row-binds s v i x j) (rows-bind rs vs (i + size v) x j) (rows-bind ss vs (i + size v) x j)
 
 mutual
   pub combine-joins : (r s : Row) → Kept (Joins r s) (combine r s)
@@ -87,7 +87,7 @@ product-means {P} {Q} {R} r s f g k = go (combine r s) (combine-joins r s) (λ v
         joined v i e =
             let (σ, p, a) = f v i (and-left (row-fits r v) (row-fits s v) e) in
             let (τ, q, b) = g v i (and-right (row-fits r v) (row-fits s v) e) in
-            (σ ++ τ, k v i σ τ p q, λ x j. binds-append x j σ τ ∙ ap₂ _or-else_ (a x j) (b x j) ∙ sym (w v i x j))
+            (σ ++ τ, k v i σ τ p q, λ x j. binds-append x j σ τ ∙ ap₂ _||_ (a x j) (b x j) ∙ sym (w v i x j))
 
 -- a row means more
 weaken : {P Q : Value → ℕ → Binds → Type 0} → ((v : Value) (i : ℕ) (σ : Binds) → P v i σ → Q v i σ) → (r : Row) → Means P r → Means Q r
@@ -109,7 +109,7 @@ cons-means p ps r rs f g vnil i e = true≢false (sym e)
 cons-means p ps r rs f g (vcons v vs) i e =
     let (σ, q, a) = f v i (and-left (row-fits r v) (rows-fit rs vs) e) in
     let (τ, q′, b) = g vs (i + size v) (and-right (row-fits r v) (rows-fit rs vs) e) in
-    (σ ++ τ, all-cons q q′, λ x j. binds-append x j σ τ ∙ ap₂ _or-else_ (a x j) (b x j))
+    (σ ++ τ, all-cons q q′, λ x j. binds-append x j σ τ ∙ ap₂ _||_ (a x j) (b x j))
 
 nil-means : Means-all (AllFit pnil) rnil
 nil-means vnil i e = ([], all-nil, λ x j. refl)
@@ -120,7 +120,7 @@ module _ (sig : Signature) where
   here-fails p ps ks r f vnil i e = true≢false (sym e)
   here-fails p ps ks r f (vcons v vs) i e =
       let (σ, q, a) = f v i (and-left (row-fits r v) (rows-fit (open-rows sig ks) vs) e) in
-      (σ, some-here q, λ x j. a x j ∙ sym (or-false (row-binds r v i x j)) ∙ ap (λ b. row-binds r v i x j or-else b) (sym (opens-bind sig ks vs (i + size v) x j)))
+      (σ, some-here q, λ x j. a x j ∙ sym (or-false (row-binds r v i x j)) ∙ ap (λ b. row-binds r v i x j || b) (sym (opens-bind sig ks vs (i + size v) x j)))
 
   there-fails : (p : Pattern) (ps : Patterns) (k : ℕ) (rs : Rows) → Means-all (SomeFails ps) rs → Means-all (SomeFails (pcons p ps)) (rcons (open-row sig k) rs)
   there-fails p ps k rs f vnil i e = true≢false (sym e)

@@ -2,10 +2,10 @@
 use mathlib.Core.Path.{_≡_, refl, _∙_, ap₂, sym}
 use mathlib.Core.List.{List, [], _∷_, map, _++_}
 use mathlib.Core.Option.{Option, none, some}
-use mathlib.Core.Bool.{Bool, _&&_, not}
+use mathlib.Core.Bool.{Bool, _&&_, not, _||_}
 use Prim.Native.Nat.{ℕ}
 use lib.Dec.{eqb}
-use Rattle.signature.specs.Lists.{any, _or-else_, is-some, require, memb, is-empty, keep}
+use Rattle.signature.specs.Lists.{any, is-some, require, memb, is-empty, keep}
 use Rattle.signature.specs.Signature.{Signature}
 use Rattle.signature.proofs.Members.{any-append, any-map, some-both, some-when, meet-sym, somes-some, any-swap, any-ext}
 use Rattle.signature.proofs.Tests.{eqb-sym}
@@ -16,7 +16,7 @@ use Rattle.row.specs.Row.{each, Row, combine, named, combines, free, Row
 
 any-each : {A B C : Type 0} (f : C → Bool) (g : A → B → C) (xs : List A) (ys : List B) → any f (each g xs ys) ≡ any (λ x. any (λ y. f (g x y)) ys) xs
 any-each f g [] ys = refl
-any-each f g (x ∷ xs) ys = any-append f (map (g x) ys) (each g xs ys) ∙ ap₂ _or-else_ (any-map f (g x) ys) (any-each f g xs ys)
+any-each f g (x ∷ xs) ys = any-append f (map (g x) ys) (each g xs ys) ∙ ap₂ _||_ (any-map f (g x) ys) (any-each f g xs ys)
 
 mutual
   pub combine-sym : (r s : Row) → is-some (combine r s) ≡ is-some (combine s r)

@@ -1,10 +1,10 @@
 -- 01, Rows: overlap (12) as existence, and its decision, and that of ambiguity (10), by rows. Laws says that each decides exactly the existence.
 use mathlib.Core.List.{List, [], _∷_}
 use mathlib.Core.Option.{Option, none, some}
-use mathlib.Core.Bool.{Bool, not, false, _&&_}
+use mathlib.Core.Bool.{Bool, not, false, _&&_, _||_}
 use Prim.Native.Nat.{ℕ}
 use Rattle.signature.specs.Lawful.{LawfulBooking}
-use Rattle.signature.specs.Lists.{is-empty, somes, _or-else_}
+use Rattle.signature.specs.Lists.{is-empty, somes}
 use Rattle.signature.specs.Signature.{Signature, arguments}
 use Rattle.signature.specs.Value.{Value}
 use Rattle.pattern.specs.Linear.{E, O}
@@ -29,8 +29,8 @@ abbrev mutual
   ambiguous-plus sig k wild = false
   ambiguous-plus sig k absurd-pat = false
   ambiguous-plus sig k (neg p) = ambiguous-minus sig k p
-  ambiguous-plus sig k (and p q) = ambiguous-plus sig k p or-else ambiguous-plus sig k q
-  ambiguous-plus sig k (or p q) = (not (is-empty (E (or p q))) && overlap sig k p q) or-else ambiguous-plus sig k p or-else ambiguous-plus sig k q
+  ambiguous-plus sig k (and p q) = ambiguous-plus sig k p || ambiguous-plus sig k q
+  ambiguous-plus sig k (or p q) = (not (is-empty (E (or p q))) && overlap sig k p q) || ambiguous-plus sig k p || ambiguous-plus sig k q
   ambiguous-plus sig k (head c ps) = any-plus sig (arguments sig c) ps
 
   pub ambiguous-minus : Signature → ℕ → Pattern → Bool
@@ -38,19 +38,19 @@ abbrev mutual
   ambiguous-minus sig k wild = false
   ambiguous-minus sig k absurd-pat = false
   ambiguous-minus sig k (neg p) = ambiguous-plus sig k p
-  ambiguous-minus sig k (and p q) = (not (is-empty (O (and p q))) && overlap-minus sig k p q) or-else ambiguous-minus sig k p or-else ambiguous-minus sig k q
-  ambiguous-minus sig k (or p q) = ambiguous-minus sig k p or-else ambiguous-minus sig k q
+  ambiguous-minus sig k (and p q) = (not (is-empty (O (and p q))) && overlap-minus sig k p q) || ambiguous-minus sig k p || ambiguous-minus sig k q
+  ambiguous-minus sig k (or p q) = ambiguous-minus sig k p || ambiguous-minus sig k q
   ambiguous-minus sig k (head c ps) = any-minus sig (arguments sig c) ps
 
   pub any-plus : Signature → List ℕ → Patterns → Bool
   any-plus sig ks pnil = false
   any-plus sig [] (pcons p ps) = false
-  any-plus sig (k ∷ ks) (pcons p ps) = ambiguous-plus sig k p or-else any-plus sig ks ps
+  any-plus sig (k ∷ ks) (pcons p ps) = ambiguous-plus sig k p || any-plus sig ks ps
 
   pub any-minus : Signature → List ℕ → Patterns → Bool
   any-minus sig ks pnil = false
   any-minus sig [] (pcons p ps) = false
-  any-minus sig (k ∷ ks) (pcons p ps) = ambiguous-minus sig k p or-else any-minus sig ks ps
+  any-minus sig (k ∷ ks) (pcons p ps) = ambiguous-minus sig k p || any-minus sig ks ps
 
 -- decides: some lawful booking is taken by both
 abbrev pub shared-by : Signature → Option Pattern → Option Pattern → Bool

@@ -2,10 +2,10 @@
 use mathlib.Core.Path.{_≡_}
 use mathlib.Core.List.{List, [], _∷_}
 use mathlib.Core.Option.{Option, none, some}
-use mathlib.Core.Bool.{Bool, _&&_, true, false}
+use mathlib.Core.Bool.{Bool, _&&_, true, false, _||_}
 use Prim.Native.Nat.{ℕ, suc, _+_}
 use lib.Dec.{eqb}
-use Rattle.signature.specs.Lists.{All, memb, any, _or-else_}
+use Rattle.signature.specs.Lists.{All, memb, any}
 use Rattle.signature.specs.Signature.{Signature, arguments-at, heads}
 use Rattle.signature.specs.Value.{Value, con, Values, vnil, vcons, size}
 use Rattle.row.specs.Row.{Row, named, free, Rows, rnil, rcons}
@@ -53,13 +53,13 @@ fits-somes rss vs = any (λ rs. rows-fit rs vs) rss
 -- a row binds x at place j, on a value at place i
 abbrev mutual
   pub row-binds : Row → Value → ℕ → ℕ → ℕ → Bool
-  row-binds (named xs c rs) (con d vs) i x j = (memb x xs && eqb j i) or-else rows-bind rs vs (suc i) x j
+  row-binds (named xs c rs) (con d vs) i x j = (memb x xs && eqb j i) || rows-bind rs vs (suc i) x j
   row-binds (free xs cs) v i x j = memb x xs && eqb j i
 
   pub rows-bind : Rows → Values → ℕ → ℕ → ℕ → Bool
   rows-bind rnil vs i x j = false
   rows-bind (rcons r rs) vnil i x j = false
-  rows-bind (rcons r rs) (vcons v vs) i x j = row-binds r v i x j or-else rows-bind rs vs (i + size v) x j
+  rows-bind (rcons r rs) (vcons v vs) i x j = row-binds r v i x j || rows-bind rs vs (i + size v) x j
 
 module _ (sig : Signature) where
   -- a row of kind k: its constructors are of the kinds of their places, and each place has one that is allowed

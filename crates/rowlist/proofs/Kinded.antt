@@ -3,7 +3,7 @@ use borrow.Author.Tests.{ltb-true, ltb-false}
 use mathlib.Core.Path.{_≡_, refl, ap, _∙_, sym, subst}
 use mathlib.Core.List.{List}
 use mathlib.Core.Option.{some}
-use mathlib.Core.Bool.{Bool, true, false}
+use mathlib.Core.Bool.{Bool, true, false, cond}
 use Prim.Native.Nat.{ℕ, zero, suc, _+_, _≤_, _<_}
 use native.Mathlib.Nat.{add-zero}
 use native.Mathlib.Omega.{arith}
@@ -12,7 +12,7 @@ use lib.ListN.{length}
 use Rattle.signature.specs.Decoded.{Known, count-of}
 use Rattle.signature.specs.Lawful.{KindsRise, rise-end, rise-same, rise-next, KindsStart, start-0}
 use Rattle.signature.specs.Lists.{memb, is-empty, first}
-use Rattle.signature.specs.Set.{bit, bit-if}
+use Rattle.signature.specs.Set.{bit}
 use Rattle.signature.specs.Signature.{Signature, heads, arguments-at}
 use Rattle.signature.proofs.Heads.{Consecutive, consecutive-nil, consecutive-cons, consecutive-of, has-head, has-kind, constructor-of}
 use Rattle.signature.proofs.KnownFacts.{words-of, arity-is, is-constructor, few-constructors, long}
@@ -92,15 +92,15 @@ module _ {t : List ℕ} (g : Known t) where
     }
 
     -- the set of the numbers below the count of the kind's heads is that of the heads
-    pub full-set : (s : ℕ) → ((j : ℕ) → bit s j ≡ bit-if (ltb j (count-of t k)) 1 0) → s ≡ mask (first (heads (g .sig) k)) (heads (g .sig) k)
+    pub full-set : (s : ℕ) → ((j : ℕ) → bit s j ≡ cond (ltb j (count-of t k)) 1 0) → s ≡ mask (first (heads (g .sig) k)) (heads (g .sig) k)
     full-set s h = bit-ext _ _ (λ i.
         h i
-        ∙ ap (λ (n : ℕ). bit-if (ltb i n) 1 0) (g .decoded .head-count k l)
+        ∙ ap (λ (n : ℕ). cond (ltb i n) 1 0) (g .decoded .head-count k l)
         ∙ one-is (ltb i (length (heads (g .sig) k)))
         ∙ ap one-if (sym (memb-run i run-of))
         ∙ sym (bit-mask (first (heads (g .sig) k)) i (heads (g .sig) k) within-kind))
       where
-        one-is : (b : Bool) → bit-if b 1 0 ≡ one-if b
+        one-is : (b : Bool) → cond b 1 0 ≡ one-if b
         one-is true = refl
         one-is false = refl
 

@@ -7,9 +7,9 @@ use Prim.Native.Nat.{ℕ, zero, suc, _+_, _-_, _≤_, _<_}
 use native.Mathlib.Numerals.{add-one}
 use native.Mathlib.Omega.{arith}
 use lib.Dec.{leb}
-use lib.ListN.{length, getD, drop, take, set, length-drop}
+use lib.ListN.{length, getElem?, getD, drop, take, set, length-drop}
 use lib.Seq.{take-all}
-use Rattle.signature.specs.Lists.{_>>=_, require, at}
+use Rattle.signature.specs.Lists.{_>>=_, require}
 use Rattle.signature.proofs.ListFacts.{at-getD, at-out}
 use Rattle.signature.proofs.Tests.{leb-yes, leb-no}
 use Rattle.pattern.specs.Limits.{last-variable}
@@ -34,10 +34,10 @@ bound-end zero m ws visits places h = refl
 bound-end (suc n) m ws visits places h = absurd (omega arith)
 
 module _ (n m : ℕ) (ws visits places : List ℕ) (h : 0 < n) (l : 2 ≤ length ws) where
-  first-pair : bound n m ws visits places ≡ (require (leb m (getD ws 0 0) && leb (getD ws 0 0) last-variable) >>= λ u. at visits (getD ws 1 0) >>= λ i. bound (n - 1) (getD ws 0 0 + 1) (drop 2 ws) visits (set places (getD ws 0 0) i))
+  first-pair : bound n m ws visits places ≡ (require (leb m (getD ws 0 0) && leb (getD ws 0 0) last-variable) >>= λ u. getElem? visits (getD ws 1 0) >>= λ i. bound (n - 1) (getD ws 0 0 + 1) (drop 2 ws) visits (set places (getD ws 0 0) i))
   first-pair = go n ws h l
     where
-      go : (n : ℕ) (ws : List ℕ) → 0 < n → 2 ≤ length ws → bound n m ws visits places ≡ (require (leb m (getD ws 0 0) && leb (getD ws 0 0) last-variable) >>= λ u. at visits (getD ws 1 0) >>= λ i. bound (n - 1) (getD ws 0 0 + 1) (drop 2 ws) visits (set places (getD ws 0 0) i))
+      go : (n : ℕ) (ws : List ℕ) → 0 < n → 2 ≤ length ws → bound n m ws visits places ≡ (require (leb m (getD ws 0 0) && leb (getD ws 0 0) last-variable) >>= λ u. getElem? visits (getD ws 1 0) >>= λ i. bound (n - 1) (getD ws 0 0 + 1) (drop 2 ws) visits (set places (getD ws 0 0) i))
       go zero ws h l = absurd (omega arith)
       go (suc n) [] h l = absurd (omega arith)
       go (suc n) (x ∷ []) h l = absurd (omega arith)

@@ -8,10 +8,10 @@ use native.Mathlib.Nat.{add-zero}
 use native.Mathlib.Numerals.{add-one}
 use native.Mathlib.Omega.{arith}
 use lib.Dec.{eqb, leb, ltb}
-use lib.ListN.{length, drop, length-drop, length-append}
+use lib.ListN.{length, drop, length-drop, length-append, getElem?}
 use lib.Seq.{drop-drop}
 use Rattle.signature.specs.Lawful.{OfKinds, of-kinds-cons, of-kind}
-use Rattle.signature.specs.Lists.{_>>=_, require, at, first}
+use Rattle.signature.specs.Lists.{_>>=_, require, first}
 use Rattle.signature.specs.Signature.{Signature, heads}
 use Rattle.signature.specs.Value.{Values, vnil, vcons, con, size, code, codes}
 use Rattle.signature.proofs.KnownFacts.{at-below}
@@ -98,15 +98,15 @@ module _ (dft : ℕ) (sig : Signature) (tree : List ℕ) where
   test-law : (i : ℕ) (vs : Values) (j : ℕ) (visits : List ℕ) {ks : List ℕ} → OfKinds sig ks vs → i ≤ length tree → Leads i vs j visits (at-test sig tree run-from i vs j visits) (test-step sig (drop i tree) i vs)
   test-law i vnil j visits k l = refl
   test-law i (vcons (con c us) rest) j visits (of-kinds-cons {ks = ks} (of-kind {ks = js} e p) k) l =
-      leads-bind i (vcons (con c us) rest) j visits (at sig c) (at sig c) _ _ refl
-      (λ d. leads-bind i (vcons (con c us) rest) j visits (at tree (i + 1)) (at (drop i tree) 1) _ _ (at-drop tree i 1)
-      (λ f. leads-bind i (vcons (con c us) rest) j visits (at tree (i + 2)) (at (drop i tree) 2) _ _ (at-drop tree i 2)
+      leads-bind i (vcons (con c us) rest) j visits (getElem? sig c) (getElem? sig c) _ _ refl
+      (λ d. leads-bind i (vcons (con c us) rest) j visits (getElem? tree (i + 1)) (getElem? (drop i tree) 1) _ _ (at-drop tree i 1)
+      (λ f. leads-bind i (vcons (con c us) rest) j visits (getElem? tree (i + 2)) (getElem? (drop i tree) 2) _ _ (at-drop tree i 2)
       (λ n. leads-when i (vcons (con c us) rest) j visits (eqb f (first (heads sig (d .kind))) && eqb n (length (heads sig (d .kind)))) _ _
-      (λ u. leads-bind i (vcons (con c us) rest) j visits (at tree (i + 3 + (c - f))) (at (drop i tree) (3 + (c - f))) _ _ (there f)
+      (λ u. leads-bind i (vcons (con c us) rest) j visits (getElem? tree (i + 3 + (c - f))) (getElem? (drop i tree) (3 + (c - f))) _ _ (there f)
       (λ link. leads-when i (vcons (con c us) rest) j visits (ltb i link) _ _ (λ q. on link (le-of (suc i) link q) (leb (link - i) (length (drop i tree))) refl))))))
     where
-      there : (f : ℕ) → at tree (i + 3 + (c - f)) ≡ at (drop i tree) (3 + (c - f))
-      there f = let m : i + 3 + (c - f) ≡ i + (3 + (c - f)) = omega arith in ap (at tree) m ∙ at-drop tree i (3 + (c - f))
+      there : (f : ℕ) → getElem? tree (i + 3 + (c - f)) ≡ getElem? (drop i tree) (3 + (c - f))
+      there f = let m : i + 3 + (c - f) ≡ i + (3 + (c - f)) = omega arith in ap (getElem? tree) m ∙ at-drop tree i (3 + (c - f))
 
       on : (link : ℕ) → i < link → (b : Bool) → leb (link - i) (length (drop i tree)) ≡ b → Leads i (vcons (con c us) rest) j visits (run-from link (vjoin us rest) (suc j) (visits ++ (j ∷ []))) (link-step (require b >>= λ u. some (link - i)))
       on link m false q = outside link (vjoin us rest) (suc j) (visits ++ (j ∷ [])) (omega (arith, lt-of-not (link - i) (length (drop i tree)) q, length-drop i tree))
@@ -125,8 +125,8 @@ module _ (dft : ℕ) (sig : Signature) (tree : List ℕ) where
           }
 
   pub step-law : (i : ℕ) (vs : Values) (j : ℕ) (visits : List ℕ) {ks : List ℕ} → OfKinds sig ks vs → i ≤ length tree → Leads i vs j visits (run-from i vs j visits) (step-at sig (drop i tree) i vs)
-  step-law i vs j visits k l = subst (λ r. Leads i vs j visits r (step-at sig (drop i tree) i vs)) (sym (unrolled i vs j visits)) (go (at (drop i tree) 0) (ap (at tree) (sym (add-zero i)) ∙ at-drop tree i 0))
+  step-law i vs j visits k l = subst (λ r. Leads i vs j visits r (step-at sig (drop i tree) i vs)) (sym (unrolled i vs j visits)) (go (getElem? (drop i tree) 0) (ap (getElem? tree) (sym (add-zero i)) ∙ at-drop tree i 0))
     where
-      go : (o : Option ℕ) → at tree i ≡ o → Leads i vs j visits (run dft (suc (length tree)) sig tree i vs j visits) (word-step sig (drop i tree) i vs o)
+      go : (o : Option ℕ) → getElem? tree i ≡ o → Leads i vs j visits (run dft (suc (length tree)) sig tree i vs j visits) (word-step sig (drop i tree) i vs o)
       go none e = rw e
       go (some w) e = rw e (leads-cond i vs j visits (eqb w 0) _ _ _ _ refl (leads-cond i vs j visits (eqb w 1) _ _ _ _ (hit-law i vs j visits) (leads-cond i vs j visits (eqb w 2) _ _ _ _ (test-law i vs j visits k l) (leads-cond i vs j visits (eqb w 3) _ _ _ _ (skip-law i vs j visits k (at-below tree i w e)) refl))))

@@ -4,8 +4,8 @@ use mathlib.Core.Option.{Option, some}
 use mathlib.Core.Bool.{_&&_}
 use Prim.Native.Nat.{ℕ}
 use lib.Dec.{leb}
-use lib.ListN.{drop}
-use Rattle.signature.specs.Lists.{_>>=_, require, at}
+use lib.ListN.{drop, getElem?}
+use Rattle.signature.specs.Lists.{_>>=_, require}
 use Rattle.pattern.specs.Places.{unbound}
 use Rattle.tree.specs.Answer.{Answer}
 use Rattle.tree.specs.Limits.{last-number}
@@ -20,8 +20,8 @@ hit-binds r p n ws visits = do
 -- a hit leaf with no booking left, after these visits
 abbrev pub hit-at : List ℕ → List ℕ → Option Answer
 hit-at t visits = do
-  r ← at t 1
-  p ← at t 2
-  n ← at t 3
+  r ← getElem? t 1
+  p ← getElem? t 2
+  n ← getElem? t 3
   _ ← require (leb 1 r && leb r last-number)
   hit-binds r p n (drop 4 t) visits

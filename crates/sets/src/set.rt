@@ -1,9 +1,10 @@
 // A set of numbers below 64, in a u64: i is a member where bit i is set.
+ghost use mathlib.Core.Bool.{cond};
 ghost use mathlib.Core.Path.{_≡_};
 ghost use Prim.Native.Nat.{ℕ, _<_, _≤_, min, max};
 ghost use lib.Dec.{eqb, ltb};
 ghost use lib.ListN.{length};
-ghost use Rattle.signature.specs.Set.{set-limit, bit, bit-if, members, Lowest};
+ghost use Rattle.signature.specs.Set.{set-limit, bit, members, Lowest};
 
 pub const SET_LIMIT: u32 = 64;
 
@@ -16,14 +17,14 @@ pub fn has(s: u64, i: u32) -> bool
 
 pub fn with(s: u64, i: u32) -> u64
     requires { ⌜ i < set-limit ⌝ }
-    ensures { λ r. ⌜ ((j : ℕ) → bit r j ≡ bit-if (eqb j i) 1 (bit s j)) ⌝ }
+    ensures { λ r. ⌜ ((j : ℕ) → bit r j ≡ cond (eqb j i) 1 (bit s j)) ⌝ }
 {
     s | (1 << i)
 }
 
 pub fn without(s: u64, i: u32) -> u64
     requires { ⌜ i < set-limit ⌝ }
-    ensures { λ r. ⌜ ((j : ℕ) → bit r j ≡ bit-if (eqb j i) 0 (bit s j)) ⌝ }
+    ensures { λ r. ⌜ ((j : ℕ) → bit r j ≡ cond (eqb j i) 0 (bit s j)) ⌝ }
 {
     s & !(1 << i)
 }
@@ -56,7 +57,7 @@ pub fn lowest(s: u64) -> u32
 // The numbers below n. A shift by 64 is none, so all 64 are written out.
 pub fn full(n: u32) -> u64
     requires { ⌜ n ≤ set-limit ⌝ }
-    ensures { λ r. ⌜ ((j : ℕ) → bit r j ≡ bit-if (ltb j n) 1 0) ⌝ }
+    ensures { λ r. ⌜ ((j : ℕ) → bit r j ≡ cond (ltb j n) 1 0) ⌝ }
 {
     if n == SET_LIMIT {
         return !0;

@@ -7,10 +7,10 @@ use Prim.Native.Nat.{ℕ, _+_, zero, suc, _≤_, _*_, _<_, _-_}
 use native.Mathlib.Nat.{add-zero, suc-add, add-suc, zero-add}
 use native.Mathlib.Omega.{arith}
 use lib.Dec.{eqb}
-use lib.ListN.{length}
+use lib.ListN.{length, getElem?}
 use Rattle.signature.specs.Lawful.{OfKind, of-kind, OfKinds, of-kinds-nil, of-kinds-cons}
 use Rattle.signature.specs.Limits.{small-size, argument-limit}
-use Rattle.signature.specs.Lists.{at, memb, require, is-empty, All, none-left, also, first, all}
+use Rattle.signature.specs.Lists.{memb, require, is-empty, All, none-left, also, first, all}
 use Rattle.signature.specs.Read.{kinds-from, count-kinds}
 use Rattle.signature.specs.Signature.{arguments-at, Signature, Constructor, heads-from, heads, arguments}
 use Rattle.signature.specs.Value.{Value, size, con, Values, sizes, depths, vnil, vcons}
@@ -24,7 +24,7 @@ module _ (sig : Signature) where
   same-args k c d {ks} {js} e e′ p = same-some js ks (arguments-at sig k d) e′ (rw p at e)
 
 -- the constructors of a kind
-numbered-has : (sig : Signature) (n i k : ℕ) (c : Constructor) → at sig i ≡ some c → eqb (c .kind) k ≡ true → memb (n + i) (heads-from n sig k) ≡ true
+numbered-has : (sig : Signature) (n i k : ℕ) (c : Constructor) → getElem? sig i ≡ some c → eqb (c .kind) k ≡ true → memb (n + i) (heads-from n sig k) ≡ true
 numbered-has [] n i k c e q = none≢some e
 numbered-has (d ∷ ds) n zero k c e q =
     let h : eqb (d .kind) k ≡ true = ap (λ x. eqb (x .kind) k) (some-inj d c e) ∙ q in
@@ -37,9 +37,9 @@ numbered-has (d ∷ ds) n (suc i) k c e q = go (eqb (d .kind) k) refl (rw (suc-a
 
 module _ (sig : Signature) where
   -- a constructor with arguments at a kind
-  pub constructor-of : (k c : ℕ) (ks : List ℕ) → arguments-at sig k c ≡ some ks → (d : Constructor) × (at sig c ≡ some d) × (eqb (d .kind) k ≡ true) × (d .args ≡ ks)
+  pub constructor-of : (k c : ℕ) (ks : List ℕ) → arguments-at sig k c ≡ some ks → (d : Constructor) × (getElem? sig c ≡ some d) × (eqb (d .kind) k ≡ true) × (d .args ≡ ks)
   constructor-of k c ks e =
-      let (d, e₁, f₁) = bind-some (at sig c) _ ks e in
+      let (d, e₁, f₁) = bind-some (getElem? sig c) _ ks e in
       let (u, e₂, f₂) = bind-some (require (eqb (d .kind) k)) _ ks f₁ in
       (d, e₁, require-some (eqb (d .kind) k) u e₂, some-inj (d .args) ks f₂)
 
@@ -69,14 +69,14 @@ module _ (sig : Signature) where
       go (con c vs) (of-kind {ks = ks} e h) = none-there c (heads sig k) (has-kind sig k c ks e)
 
 -- a constructor of the list of a kind's is of that kind
-numbered-only : (ds : Signature) (n c k : ℕ) → memb c (heads-from n ds k) ≡ true → (i : ℕ) × (d : Constructor) × (c ≡ n + i) × (at ds i ≡ some d) × (eqb (d .kind) k ≡ true)
+numbered-only : (ds : Signature) (n c k : ℕ) → memb c (heads-from n ds k) ≡ true → (i : ℕ) × (d : Constructor) × (c ≡ n + i) × (getElem? ds i ≡ some d) × (eqb (d .kind) k ≡ true)
 numbered-only [] n c k e = true≢false (sym e)
 numbered-only (d ∷ ds) n c k e = go (eqb (d .kind) k) (eqb c n) refl refl (numbered-only ds (suc n) c k)
   where
-    later : (i : ℕ) × (b : Constructor) × (c ≡ suc n + i) × (at ds i ≡ some b) × (eqb (b .kind) k ≡ true) → (i : ℕ) × (b : Constructor) × (c ≡ n + i) × (at (d ∷ ds) i ≡ some b) × (eqb (b .kind) k ≡ true)
+    later : (i : ℕ) × (b : Constructor) × (c ≡ suc n + i) × (getElem? ds i ≡ some b) × (eqb (b .kind) k ≡ true) → (i : ℕ) × (b : Constructor) × (c ≡ n + i) × (getElem? (d ∷ ds) i ≡ some b) × (eqb (b .kind) k ≡ true)
     later (i, b, p, q, r) = (suc i, b, omega arith, q, r)
 
-    go : (a b : Bool) → eqb (d .kind) k ≡ a → eqb c n ≡ b → (memb c (heads-from (suc n) ds k) ≡ true → (i : ℕ) × (b : Constructor) × (c ≡ suc n + i) × (at ds i ≡ some b) × (eqb (b .kind) k ≡ true)) → (i : ℕ) × (b : Constructor) × (c ≡ n + i) × (at (d ∷ ds) i ≡ some b) × (eqb (b .kind) k ≡ true)
+    go : (a b : Bool) → eqb (d .kind) k ≡ a → eqb c n ≡ b → (memb c (heads-from (suc n) ds k) ≡ true → (i : ℕ) × (b : Constructor) × (c ≡ suc n + i) × (getElem? ds i ≡ some b) × (eqb (b .kind) k ≡ true)) → (i : ℕ) × (b : Constructor) × (c ≡ n + i) × (getElem? (d ∷ ds) i ≡ some b) × (eqb (b .kind) k ≡ true)
     go true true p q f = (0, d, omega (arith, eqb-eq c n q), refl, p)
     go true false p q f = later (f (rw (p, q) at e))
     go false b p q f = later (f (rw p at e))
@@ -85,7 +85,7 @@ module _ (sig : Signature) where
   pub kind-of-head : (k c : ℕ) → memb c (heads sig k) ≡ true → (js : List ℕ) × (arguments-at sig k c ≡ some js)
   kind-of-head k c e = go (numbered-only sig 0 c k e)
     where
-      go : (i : ℕ) × (d : Constructor) × (c ≡ 0 + i) × (at sig i ≡ some d) × (eqb (d .kind) k ≡ true) → (js : List ℕ) × (arguments-at sig k c ≡ some js)
+      go : (i : ℕ) × (d : Constructor) × (c ≡ 0 + i) × (getElem? sig i ≡ some d) × (eqb (d .kind) k ≡ true) → (js : List ℕ) × (arguments-at sig k c ≡ some js)
       go (i, d, p, q, r) = (d .args, rw (p ∙ zero-add i, q, r))
 
 module _ (sig : Signature) where
@@ -163,11 +163,11 @@ consecutive-least c (consecutive-cons {f = f} {xs = xs} r) e = go (eqb c f) refl
     go true q h = omega (arith, eqb-eq c f q)
     go false q h = omega (arith, h (rw q at e))
 
-consecutive-at : {f : ℕ} {xs : List ℕ} (c : ℕ) → Consecutive f xs → memb c xs ≡ true → at xs (c - f) ≡ some c
+consecutive-at : {f : ℕ} {xs : List ℕ} (c : ℕ) → Consecutive f xs → memb c xs ≡ true → getElem? xs (c - f) ≡ some c
 consecutive-at c consecutive-nil e = true≢false (sym e)
 consecutive-at c (consecutive-cons {f = f} {xs = xs} r) e = go (eqb c f) refl (consecutive-at c r) (consecutive-least c r)
   where
-    go : (b : Bool) → eqb c f ≡ b → (memb c xs ≡ true → at xs (c - suc f) ≡ some c) → (memb c xs ≡ true → suc f ≤ c) → at (f ∷ xs) (c - f) ≡ some c
+    go : (b : Bool) → eqb c f ≡ b → (memb c xs ≡ true → getElem? xs (c - suc f) ≡ some c) → (memb c xs ≡ true → suc f ≤ c) → getElem? (f ∷ xs) (c - f) ≡ some c
     go true q h l =
         let z : c - f ≡ 0 = omega (arith, eqb-eq c f q) in
         rw z (ap some (sym (eqb-eq c f q)))
@@ -183,12 +183,12 @@ consecutive-first c (consecutive-cons r) e = refl
 module _ (sig : Signature) where
   -- constructors of a kind are numbered without gaps
   abbrev pub Dense : Type 0
-  Dense = (k c : ℕ) (js : List ℕ) → arguments-at sig k c ≡ some js → at (heads sig k) (c - first (heads sig k)) ≡ some c
+  Dense = (k c : ℕ) (js : List ℕ) → arguments-at sig k c ≡ some js → getElem? (heads sig k) (c - first (heads sig k)) ≡ some c
 
 pub dense-of : (sig : Signature) (m : ℕ) → count-kinds sig ≡ some m → Dense sig
 dense-of sig m e k c js a = go (consecutive-of sig k m e) (has-kind sig k c js a)
   where
-    go : (f : ℕ) × Consecutive f (heads sig k) → memb c (heads sig k) ≡ true → at (heads sig k) (c - first (heads sig k)) ≡ some c
+    go : (f : ℕ) × Consecutive f (heads sig k) → memb c (heads sig k) ≡ true → getElem? (heads sig k) (c - first (heads sig k)) ≡ some c
     go (f, r) h = rw (consecutive-first c r h) (consecutive-at c r h)
 
 module _ (sig : Signature) where

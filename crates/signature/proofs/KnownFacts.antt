@@ -4,11 +4,10 @@ use mathlib.Core.List.{List, [], _∷_}
 use mathlib.Core.Option.{some, none}
 use Prim.Native.Nat.{ℕ, zero, suc, _≤_, _<_}
 use native.Mathlib.Omega.{arith}
-use lib.ListN.{length, getD}
+use lib.ListN.{length, getD, getElem?}
 use Rattle.signature.specs.Decoded.{Known, decoded-length, kind-of, arity-of, argument-of, constructors-of}
 use Rattle.signature.specs.Lawful.{SignatureWords}
 use Rattle.signature.specs.Limits.{argument-limit, constructor-limit, kind-limit}
-use Rattle.signature.specs.Lists.{at}
 use Rattle.signature.specs.Signature.{Constructor, arguments, arguments-at}
 use Rattle.signature.proofs.Heads.{constructor-of}
 use Rattle.signature.proofs.ListFacts.{all-at, at-getD, at-out}
@@ -16,12 +15,12 @@ use Rattle.signature.proofs.SignatureBack.{signature-is}
 use Rattle.signature.proofs.Tests.{none≢some, eqb-self, eqb-no}
 
 -- there is something at each place below the length
-pub at-some : {A : Type 0} (xs : List A) (i : ℕ) → i < length xs → (a : A) × (at xs i ≡ some a)
+pub at-some : {A : Type 0} (xs : List A) (i : ℕ) → i < length xs → (a : A) × (getElem? xs i ≡ some a)
 at-some [] i l = absurd (omega arith)
 at-some (x ∷ xs) zero l = (x, refl)
 at-some (x ∷ xs) (suc i) l = at-some xs i (omega arith)
 
-pub at-below : {A : Type 0} (xs : List A) (i : ℕ) (a : A) → at xs i ≡ some a → i < length xs
+pub at-below : {A : Type 0} (xs : List A) (i : ℕ) (a : A) → getElem? xs i ≡ some a → i < length xs
 at-below [] i a e = none≢some e
 at-below (x ∷ xs) zero a e = omega arith
 at-below (x ∷ xs) (suc i) a e = omega (arith, at-below xs i a e)
@@ -49,13 +48,13 @@ module _ {t : List ℕ} (g : Known t) where
     pub argument-is : (j : ℕ) → j < length (arguments (g .sig) c) → argument-of t c j ≡ getD (arguments (g .sig) c) j 0
     argument-is j h = let (d, e) = at-some (g .sig) c l in go d e (rw e at h)
       where
-        go : (d : Constructor) → at (g .sig) c ≡ some d → j < length (d .args) → argument-of t c j ≡ getD (arguments (g .sig) c) j 0
+        go : (d : Constructor) → getElem? (g .sig) c ≡ some d → j < length (d .args) → argument-of t c j ≡ getD (arguments (g .sig) c) j 0
         go d e h′ = rw e (g .decoded .argument c j (getD (d .args) j 0) d e (at-getD (d .args) j h′))
 
     pub argument-small : (j : ℕ) → j < length (arguments (g .sig) c) → argument-of t c j < kind-limit
     argument-small j h = let (d, e) = at-some (g .sig) c l in go d e (rw e at h)
       where
-        go : (d : Constructor) → at (g .sig) c ≡ some d → j < length (d .args) → argument-of t c j < kind-limit
+        go : (d : Constructor) → getElem? (g .sig) c ≡ some d → j < length (d .args) → argument-of t c j < kind-limit
         go d e h′ =
             let k = getD (d .args) j 0 in
             let p : k < words-of .n = all-at (all-at (words-of .args-exist) c d e) j k (at-getD (d .args) j h′) in

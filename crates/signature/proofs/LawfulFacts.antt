@@ -6,9 +6,9 @@ use mathlib.Core.Bool.{true, _&&_, Bool, false}
 use Prim.Native.Nat.{ℕ, _≤_, _<_, suc, zero}
 use native.Mathlib.Omega.{arith}
 use lib.Dec.{ltb, leb, eqb, leb→le}
-use lib.ListN.{length}
+use lib.ListN.{length, getElem?}
 use Rattle.signature.specs.Limits.{constructor-limit, kind-limit, heads-limit, small-size, argument-limit}
-use Rattle.signature.specs.Lists.{all, All, count-up, require, _>>=_, at, none-left, also}
+use Rattle.signature.specs.Lists.{all, All, count-up, require, _>>=_, none-left, also}
 use Rattle.signature.specs.Read.{count-kinds, least, Signed, read-constructors, lawful-kinds, lawful, kinds-from}
 use Rattle.signature.specs.Signature.{Signature, heads, Constructor, arguments-at}
 use Rattle.signature.proofs.Booleans.{and-right, and-left}
@@ -55,11 +55,11 @@ kinds-above [] m e = none≢some e
 kinds-above (c ∷ cs) m e = let (u, e₁, e₂) = bind-some (require (eqb (c .kind) 0)) _ m e in rising-above 0 m cs e₂
 
 -- a constructor's kind exists
-rising-kind : (k m i : ℕ) (cs : Signature) (d : Constructor) → kinds-from k cs ≡ some m → at cs i ≡ some d → d .kind < m
+rising-kind : (k m i : ℕ) (cs : Signature) (d : Constructor) → kinds-from k cs ≡ some m → getElem? cs i ≡ some d → d .kind < m
 rising-kind k m i [] d e a = none≢some a
 rising-kind k m i (c ∷ cs) d e a = go (eqb (c .kind) k) refl i a (λ i′. rising-kind k m i′ cs d) (λ i′. rising-kind (suc k) m i′ cs d)
   where
-    go : (b : Bool) → eqb (c .kind) k ≡ b → (i : ℕ) → at (c ∷ cs) i ≡ some d → ((i′ : ℕ) → kinds-from k cs ≡ some m → at cs i′ ≡ some d → d .kind < m) → ((i′ : ℕ) → kinds-from (suc k) cs ≡ some m → at cs i′ ≡ some d → d .kind < m) → d .kind < m
+    go : (b : Bool) → eqb (c .kind) k ≡ b → (i : ℕ) → getElem? (c ∷ cs) i ≡ some d → ((i′ : ℕ) → kinds-from k cs ≡ some m → getElem? cs i′ ≡ some d → d .kind < m) → ((i′ : ℕ) → kinds-from (suc k) cs ≡ some m → getElem? cs i′ ≡ some d → d .kind < m) → d .kind < m
     go true q zero a′ f g = let z : c .kind ≡ d .kind = ap (λ x. x .kind) (some-inj c d a′) in omega (arith, eqb-eq (c .kind) k q, rising-above k m cs (rw q at e))
     go true q (suc j) a′ f g = f j (rw q at e) a′
     go false q zero a′ f g =
@@ -70,11 +70,11 @@ rising-kind k m i (c ∷ cs) d e a = go (eqb (c .kind) k) refl i a (λ i′. ris
         let (u, e₁, e₂) = bind-some (require (eqb (c .kind) (suc k))) _ m (rw q at e) in
         g j e₂ a′
 
-pub kinds-kind : (sig : Signature) (m i : ℕ) (d : Constructor) → count-kinds sig ≡ some m → at sig i ≡ some d → d .kind < m
+pub kinds-kind : (sig : Signature) (m i : ℕ) (d : Constructor) → count-kinds sig ≡ some m → getElem? sig i ≡ some d → d .kind < m
 kinds-kind [] m i d e a = none≢some e
 kinds-kind (c ∷ cs) m i d e a = go i a (bind-some (require (eqb (c .kind) 0)) _ m e)
   where
-    go : (i : ℕ) → at (c ∷ cs) i ≡ some d → (u : Unit {0}) × (require (eqb (c .kind) 0) ≡ some u) × (kinds-from 0 cs ≡ some m) → d .kind < m
+    go : (i : ℕ) → getElem? (c ∷ cs) i ≡ some d → (u : Unit {0}) × (require (eqb (c .kind) 0) ≡ some u) × (kinds-from 0 cs ≡ some m) → d .kind < m
     go zero a′ (u, e₁, e₂) = let z : c .kind ≡ d .kind = ap (λ x. x .kind) (some-inj c d a′) in omega (arith, eqb-eq (c .kind) 0 (require-some (eqb (c .kind) 0) u e₁), rising-above 0 m cs e₂)
     go (suc j) a′ (u, e₁, e₂) = rising-kind 0 m j cs d e₂ a′
 

@@ -8,10 +8,10 @@ use native.Mathlib.Decide.{decLe}
 use native.Mathlib.Nat.{suc-add, add-suc, add-zero, zero-add}
 use native.Mathlib.Omega.{arith}
 use lib.Dec.{leb, leb→le, eqb}
-use lib.ListN.{length}
+use lib.ListN.{length, getElem?}
 use Rattle.signature.specs.Lawful.{OfKind, OfKinds, of-kinds-nil, of-kinds-cons, of-kind, EveryKindSmall}
 use Rattle.signature.specs.Limits.{small-size, over-small, argument-limit}
-use Rattle.signature.specs.Lists.{All, none-left, require, split, also, at, all}
+use Rattle.signature.specs.Lists.{All, none-left, require, split, also, all}
 use Rattle.signature.specs.Read.{read-constructors, total, best, least}
 use Rattle.signature.specs.Signature.{Signature, Constructor, arguments-at}
 use Rattle.signature.specs.Value.{Value, size, Values, sizes, vnil, vcons, con, depth, depths}
@@ -39,13 +39,13 @@ module _ (sig : Signature) where
   Value≤ k m = (v : Value) × OfKind sig k v × (size v ≤ m)
 
   abbrev Least≤ : List ℕ → Type 0
-  Least≤ table = (k m : ℕ) → at table k ≡ some m → m ≤ small-size → Value≤ k m
+  Least≤ table = (k m : ℕ) → getElem? table k ≡ some m → m ≤ small-size → Value≤ k m
 
   total-small : (table : List ℕ) → Least≤ table → (js : List ℕ) → total table js ≤ small-size → (vs : Values) × OfKinds sig js vs × (sizes vs ≤ total table js)
   total-small table f [] l = (vnil, of-kinds-nil, omega arith)
-  total-small table f (j ∷ js) l = go (at table j) refl (total-small table f js)
+  total-small table f (j ∷ js) l = go (getElem? table j) refl (total-small table f js)
     where
-      go : (o : Option ℕ) → at table j ≡ o → (total table js ≤ small-size → (vs : Values) × OfKinds sig js vs × (sizes vs ≤ total table js)) → (vs : Values) × OfKinds sig (j ∷ js) vs × (sizes vs ≤ total table (j ∷ js))
+      go : (o : Option ℕ) → getElem? table j ≡ o → (total table js ≤ small-size → (vs : Values) × OfKinds sig js vs × (sizes vs ≤ total table js)) → (vs : Values) × OfKinds sig (j ∷ js) vs × (sizes vs ≤ total table (j ∷ js))
       go none e g = absurd (let z : over-small ≤ small-size = rw e at l in omega arith)
       go (some n) e g =
           let l′ : n + total table js ≤ small-size = rw e at l in
@@ -55,13 +55,13 @@ module _ (sig : Signature) where
 
   -- the constructor by which a kind has its least value
   abbrev By : List ℕ → ℕ → ℕ → Type 0
-  By table k m = (i : ℕ) × (c : Constructor) × (at sig i ≡ some c) × (eqb (c .kind) k ≡ true) × (suc (total table (c .args)) ≤ m)
+  By table k m = (i : ℕ) × (c : Constructor) × (getElem? sig i ≡ some c) × (eqb (c .kind) k ≡ true) × (suc (total table (c .args)) ≤ m)
 
-  best-by : (table : List ℕ) (k : ℕ) (cs : Signature) (n : ℕ) → ((i : ℕ) (c : Constructor) → at cs i ≡ some c → at sig (n + i) ≡ some c) → best cs table k ≤ small-size → By table k (best cs table k)
+  best-by : (table : List ℕ) (k : ℕ) (cs : Signature) (n : ℕ) → ((i : ℕ) (c : Constructor) → getElem? cs i ≡ some c → getElem? sig (n + i) ≡ some c) → best cs table k ≤ small-size → By table k (best cs table k)
   best-by table k [] n f l = absurd (omega arith)
   best-by table k (c ∷ cs) n f l = go (eqb (c .kind) k) (decLe (suc (total table (c .args))) (best cs table k)) refl (best-by table k cs (suc n) (λ i d e. rw (suc-add n i, ← add-suc n i) (f (suc i) d e)))
     where
-      first-one : at sig n ≡ some c
+      first-one : getElem? sig n ≡ some c
       first-one = rw (add-zero n) at (f 0 c refl)
 
       go : (b : Bool) → Dec (suc (total table (c .args)) ≤ best cs table k) → eqb (c .kind) k ≡ b → (best cs table k ≤ small-size → By table k (best cs table k)) → By table k (best (c ∷ cs) table k)
@@ -88,18 +88,18 @@ module _ (sig : Signature) where
   -- every kind has a value of at most 6 words
   pub kinds-small : (n : ℕ) → all (λ m. leb m small-size) (least small-size sig n) ≡ true → (k : ℕ) → k < n → Small sig k
   kinds-small n h k l =
-      let e : at (least small-size sig n) k ≡ some (min over-small (best sig (least (small-size - 1) sig n) (0 + k))) = at-count (λ j. min over-small (best sig (least (small-size - 1) sig n) j)) 0 n k l in
+      let e : getElem? (least small-size sig n) k ≡ some (min over-small (best sig (least (small-size - 1) sig n) (0 + k))) = at-count (λ j. min over-small (best sig (least (small-size - 1) sig n) j)) 0 n k l in
       let m : ℕ = min over-small (best sig (least (small-size - 1) sig n) (0 + k)) in
       let q : m ≤ small-size = leb→le m small-size (T-of (leb m small-size) (test-at (λ j. leb j small-size) (least small-size sig n) k m h e)) in
       let (v, g, b) = least-small n small-size k m e q in
       (v, g, omega arith)
 
 -- the best of a kind is at most what any of its constructors gives
-best-most : (table : List ℕ) (k i : ℕ) (cs : Signature) (d : Constructor) → at cs i ≡ some d → eqb (d .kind) k ≡ true → best cs table k ≤ suc (total table (d .args))
+best-most : (table : List ℕ) (k i : ℕ) (cs : Signature) (d : Constructor) → getElem? cs i ≡ some d → eqb (d .kind) k ≡ true → best cs table k ≤ suc (total table (d .args))
 best-most table k i [] d a q = none≢some a
 best-most table k i (c ∷ cs) d a q = go (eqb (c .kind) k) refl i a (λ j b. best-most table k j cs d b q)
   where
-    go : (b : Bool) → eqb (c .kind) k ≡ b → (i : ℕ) → at (c ∷ cs) i ≡ some d → ((j : ℕ) → at cs j ≡ some d → best cs table k ≤ suc (total table (d .args))) → best (c ∷ cs) table k ≤ suc (total table (d .args))
+    go : (b : Bool) → eqb (c .kind) k ≡ b → (i : ℕ) → getElem? (c ∷ cs) i ≡ some d → ((j : ℕ) → getElem? cs j ≡ some d → best cs table k ≤ suc (total table (d .args))) → best (c ∷ cs) table k ≤ suc (total table (d .args))
     go true r zero a′ f = rw (r, some-inj c d a′) (omega arith)
     go true r (suc j) a′ f = rw r (omega (arith, f j a′))
     go false r zero a′ f = true≢false (sym q ∙ ap (λ x. eqb (x .kind) k) (sym (some-inj c d a′)) ∙ r)
@@ -107,18 +107,18 @@ best-most table k i (c ∷ cs) d a q = go (eqb (c .kind) k) refl i a (λ j b. be
 
 -- 01, Signature: every kind has a value of at most 6 words, said as existence, and as it is decided
 module _ (sig : Signature) (n : ℕ) where
-  at-least : (d k : ℕ) → k < n → (m : ℕ) × (at (least d sig n) k ≡ some m)
+  at-least : (d k : ℕ) → k < n → (m : ℕ) × (getElem? (least d sig n) k ≡ some m)
   at-least zero k l = (over-small, at-count (λ j. over-small) 0 n k l)
   at-least (suc d) k l = (min over-small (best sig (least d sig n) (0 + k)), at-count (λ j. min over-small (best sig (least d sig n) j)) 0 n k l)
 
 module _ (sig : Signature) (n : ℕ) where
   module _ (exist : (k c : ℕ) (js : List ℕ) → arguments-at sig k c ≡ some js → All (λ j. j < n) js) where
     mutual
-      least-most : {k : ℕ} {v : Value} → OfKind sig k v → (d : ℕ) → k < n → depth v ≤ d → (m : ℕ) → at (least d sig n) k ≡ some m → m ≤ size v
+      least-most : {k : ℕ} {v : Value} → OfKind sig k v → (d : ℕ) → k < n → depth v ≤ d → (m : ℕ) → getElem? (least d sig n) k ≡ some m → m ≤ size v
       least-most (of-kind e h) zero l g m a = absurd (omega arith)
       least-most (of-kind {k = k} {c = c} {ks = js} {vs = vs} e h) (suc d) l g m a =
           let (b, e₁, q, z) = constructor-of sig k c js e in
-          let r : at (least (suc d) sig n) k ≡ some (min over-small (best sig (least d sig n) (0 + k))) = at-count (λ j. min over-small (best sig (least d sig n) j)) 0 n k l in
+          let r : getElem? (least (suc d) sig n) k ≡ some (min over-small (best sig (least d sig n) (0 + k))) = at-count (λ j. min over-small (best sig (least d sig n) j)) 0 n k l in
           let w : min over-small (best sig (least d sig n) k) ≡ m = rw (zero-add k) at (some-inj (min over-small (best sig (least d sig n) (0 + k))) m (sym r ∙ a)) in
           let x : best sig (least d sig n) k ≤ suc (total (least d sig n) (b .args)) = best-most (least d sig n) k c sig b e₁ q in
           let y : total (least d sig n) js ≤ sizes vs = total-most h d (exist k c js e) (omega arith) in

@@ -7,11 +7,11 @@ use Prim.Native.Nat.{ℕ, zero, suc, _≤_, _<_, min}
 use native.Mathlib.Nat.{zero-add}
 use native.Mathlib.Decide.{decLe}
 use native.Mathlib.Omega.{arith}
-use lib.ListN.{length, getD}
+use lib.ListN.{length, getD, getElem?}
 use lib.Dec.{eqb, leb, ltb}
 use Rattle.signature.specs.Lawful.{OfKind, of-kind, OfKinds, of-kinds-nil, of-kinds-cons}
 use Rattle.signature.specs.Limits.{small-size, over-small}
-use Rattle.signature.specs.Lists.{All, none-left, also, at, all, memb, first, keep}
+use Rattle.signature.specs.Lists.{All, none-left, also, all, memb, first, keep}
 use Rattle.signature.specs.Read.{best, least, total, count-kinds, Signed}
 use Rattle.signature.specs.Signature.{Signature, Constructor, arguments-at, arguments, heads}
 use Rattle.signature.specs.Value.{Value, Values, con, vnil, vcons, size, sizes, depth, depths}
@@ -27,7 +27,7 @@ use Rattle.signature.proofs.LawfulFacts.{SigFacts, sig-facts}
 use Rattle.signature.proofs.Counting.{counted-length, getD-counted}
 
 -- the best of a kind is at most what each of its constructors gives
-best-below : (table : List ℕ) (k i : ℕ) (cs : Signature) (d : Constructor) → at cs i ≡ some d → eqb (d .kind) k ≡ true → best cs table k ≤ suc (total table (d .args))
+best-below : (table : List ℕ) (k i : ℕ) (cs : Signature) (d : Constructor) → getElem? cs i ≡ some d → eqb (d .kind) k ≡ true → best cs table k ≤ suc (total table (d .args))
 best-below table k i [] d a q = none≢some a
 best-below table k zero (c ∷ cs) d a q =
     let e : c ≡ d = some-inj c d a in
@@ -53,7 +53,7 @@ first-kept f c cs e = go (keep f cs) e
     go (d ∷ ds) m = rw (eqb-self d)
 
 module _ (sig : Signature) (n : ℕ) (exist : (k c : ℕ) (js : List ℕ) → arguments-at sig k c ≡ some js → All (λ j. j < n) js) where
-  size-at : (d k : ℕ) → k < n → at (least d sig n) k ≡ some (getD (least d sig n) k 0)
+  size-at : (d k : ℕ) → k < n → getElem? (least d sig n) k ≡ some (getD (least d sig n) k 0)
   size-at d k l = at-getD (least d sig n) k (omega (arith, long d))
     where
       long : (d : ℕ) → length (least d sig n) ≡ n

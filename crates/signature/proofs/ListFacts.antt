@@ -3,13 +3,13 @@ use mathlib.Core.Path.{_≡_, refl, ap₂, ap, sym, _∙_, subst}
 use mathlib.Core.Logic.{_⊎_, inl, inr}
 use mathlib.Core.List.{List, _++_, map, [], _∷_}
 use mathlib.Core.Option.{Option, none, some}
-use mathlib.Core.Bool.{Bool, true, false, cond, _&&_}
+use mathlib.Core.Bool.{Bool, true, false, cond, _&&_, _||_}
 use Prim.Native.Nat.{ℕ, _≤_, _<_, suc, zero, _+_}
 use native.Mathlib.Nat.{add-zero, add-suc, suc-add, zero-add}
 use native.Mathlib.Omega.{arith}
 use lib.Dec.{eqb}
-use lib.ListN.{length, getD, replicate, drop, take}
-use Rattle.signature.specs.Lists.{All, none-left, also, somes, _>>=_, require, keep, split, at, count-up, all, any, In, in-here, in-there, _or-else_}
+use lib.ListN.{length, getD, replicate, drop, take, getElem?}
+use Rattle.signature.specs.Lists.{All, none-left, also, somes, _>>=_, require, keep, split, count-up, all, any, In, in-here, in-there}
 use Rattle.signature.proofs.Booleans.{and-left, and-right, or-left, or-right}
 use Rattle.signature.proofs.Tests.{true≢false, some-inj, none≢some, bind-some, eqb-eq}
 
@@ -80,22 +80,22 @@ length-split (suc n) (x ∷ xs) r e =
     ap (λ z. length (z .0)) (sym (some-inj (x ∷ a .0, a .1) r e₂)) ∙ ap suc (length-split n xs a e₁)
 
 -- small values
-pub at-count-is : {A : Type 0} (f : ℕ → A) (i n j : ℕ) (a : A) → at (map f (count-up i n)) j ≡ some a → f (i + j) ≡ a
+pub at-count-is : {A : Type 0} (f : ℕ → A) (i n j : ℕ) (a : A) → getElem? (map f (count-up i n)) j ≡ some a → f (i + j) ≡ a
 at-count-is f i zero j a e = none≢some e
 at-count-is f i (suc n) zero a e = rw (add-zero i) (some-inj (f i) a e)
 at-count-is f i (suc n) (suc j) a e = rw (add-suc i j, ← suc-add i j) (at-count-is f (suc i) n j a e)
 
-pub at-count : {A : Type 0} (f : ℕ → A) (i n j : ℕ) → j < n → at (map f (count-up i n)) j ≡ some (f (i + j))
+pub at-count : {A : Type 0} (f : ℕ → A) (i n j : ℕ) → j < n → getElem? (map f (count-up i n)) j ≡ some (f (i + j))
 at-count f i zero j l = absurd (omega arith)
 at-count f i (suc n) zero l = rw (add-zero i)
 at-count f i (suc n) (suc j) l = rw (add-suc i j, ← suc-add i j) (at-count f (suc i) n j (omega arith))
 
-pub all-at : {A : Type 0} {P : A → Type 0} {xs : List A} → All P xs → (i : ℕ) (a : A) → at xs i ≡ some a → P a
+pub all-at : {A : Type 0} {P : A → Type 0} {xs : List A} → All P xs → (i : ℕ) (a : A) → getElem? xs i ≡ some a → P a
 all-at none-left i a e = none≢some e
 all-at {P = P} (also x p ps) zero a e = subst P (some-inj x a e) p
 all-at (also x p ps) (suc i) a e = all-at ps i a e
 
-pub test-at : {A : Type 0} (f : A → Bool) (xs : List A) (i : ℕ) (a : A) → all f xs ≡ true → at xs i ≡ some a → f a ≡ true
+pub test-at : {A : Type 0} (f : A → Bool) (xs : List A) (i : ℕ) (a : A) → all f xs ≡ true → getElem? xs i ≡ some a → f a ≡ true
 test-at f [] i a h e = none≢some e
 test-at f (x ∷ xs) zero a h e = ap f (sym (some-inj x a e)) ∙ and-left (f x) (all f xs) h
 test-at f (x ∷ xs) (suc i) a h e = test-at f xs i a (and-right (f x) (all f xs) h) e
@@ -151,22 +151,22 @@ pub all-with : {A : Type 0} {P Q : A → Type 0} (f : A → Bool) → ((a : A) �
 all-with f g none-left e = none-left
 all-with f g (also x {xs = xs} p ps) e = also x (g x p (or-left (f x) (any f xs) e)) (all-with f g ps (or-right (f x) (any f xs) e))
 
-pub at-drop : {A : Type 0} (l : List A) (i m : ℕ) → at l (i + m) ≡ at (drop i l) m
+pub at-drop : {A : Type 0} (l : List A) (i m : ℕ) → getElem? l (i + m) ≡ getElem? (drop i l) m
 at-drop l zero m = rw (zero-add m)
 at-drop [] (suc i) m = refl
 at-drop (x ∷ xs) (suc i) m = rw (suc-add i m) (at-drop xs i m)
 
-pub at-getD : (l : List ℕ) (i : ℕ) → i < length l → at l i ≡ some (getD l i 0)
+pub at-getD : (l : List ℕ) (i : ℕ) → i < length l → getElem? l i ≡ some (getD l i 0)
 at-getD [] i h = absurd (omega arith)
 at-getD (x ∷ xs) zero h = refl
 at-getD (x ∷ xs) (suc i) h = at-getD xs i (omega arith)
 
-pub at-left : {A : Type 0} (xs ys : List A) (i : ℕ) (a : A) → at xs i ≡ some a → at (xs ++ ys) i ≡ some a
+pub at-left : {A : Type 0} (xs ys : List A) (i : ℕ) (a : A) → getElem? xs i ≡ some a → getElem? (xs ++ ys) i ≡ some a
 at-left [] ys i a e = none≢some e
 at-left (x ∷ xs) ys zero a e = e
 at-left (x ∷ xs) ys (suc i) a e = at-left xs ys i a e
 
-pub at-out : {A : Type 0} (xs : List A) (i : ℕ) → length xs ≤ i → at xs i ≡ none
+pub at-out : {A : Type 0} (xs : List A) (i : ℕ) → length xs ≤ i → getElem? xs i ≡ none
 at-out [] i l = refl
 at-out (x ∷ xs) zero l = absurd (omega arith)
 at-out (x ∷ xs) (suc i) l = at-out xs i (omega arith)
@@ -264,6 +264,6 @@ pub in-any : {A : Type 0} (f : A → Bool) (rs : List A) (r : A) → In r rs →
 in-any f (s ∷ rs) r in-here e = rw e
 in-any f (s ∷ rs) r (in-there i) e = rw (in-any f rs r i e) (go (f s))
   where
-    go : (b : Bool) → (b or-else true) ≡ true
+    go : (b : Bool) → (b || true) ≡ true
     go true = refl
     go false = refl

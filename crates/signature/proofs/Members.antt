@@ -2,16 +2,16 @@
 use mathlib.Core.Path.{_≡_, refl, ap, _∙_, sym, ap₂}
 use mathlib.Core.List.{List, _++_, [], _∷_, map}
 use mathlib.Core.Option.{Option, none, some}
-use mathlib.Core.Bool.{Bool, true, false, _&&_, not, cond}
+use mathlib.Core.Bool.{Bool, true, false, _&&_, not, cond, _||_}
 use Prim.Native.Nat.{ℕ}
 use lib.Dec.{eqb}
-use Rattle.signature.specs.Lists.{memb, _or-else_, is-empty, all, keep, any, All, none-left, also, somes, is-some, require, _>>=_}
+use Rattle.signature.specs.Lists.{memb, is-empty, all, keep, any, All, none-left, also, somes, is-some, require, _>>=_}
 use Rattle.signature.proofs.Booleans.{or-assoc, Imp, imp-left, imp-right, and-right, and-left, and-false, or-true, and-or}
 use Rattle.signature.proofs.Tests.{true≢false, eqb-eq, eqb-self, eqb-sym}
 
-pub memb-append : (x : ℕ) (xs ys : List ℕ) → memb x (xs ++ ys) ≡ (memb x xs or-else memb x ys)
+pub memb-append : (x : ℕ) (xs ys : List ℕ) → memb x (xs ++ ys) ≡ (memb x xs || memb x ys)
 memb-append x [] ys = refl
-memb-append x (y ∷ xs) ys = ap (λ z. eqb x y or-else z) (memb-append x xs ys) ∙ sym (or-assoc (eqb x y) (memb x xs) (memb x ys))
+memb-append x (y ∷ xs) ys = ap (λ z. eqb x y || z) (memb-append x xs ys) ∙ sym (or-assoc (eqb x y) (memb x xs) (memb x ys))
 
 pub imp-append-left : (b : Bool) (x : ℕ) (xs ys : List ℕ) → Imp b (memb x xs) → Imp b (memb x (xs ++ ys))
 imp-append-left b x xs ys f = rw (memb-append x xs ys) (imp-left b (memb x xs) (memb x ys) f)
@@ -56,15 +56,15 @@ memb-empty x [] e = refl
 memb-empty x (c ∷ cs) e = true≢false (sym e)
 
 module _ {A : Type 0} where
-  pub any-append : (f : A → Bool) (xs ys : List A) → any f (xs ++ ys) ≡ (any f xs or-else any f ys)
+  pub any-append : (f : A → Bool) (xs ys : List A) → any f (xs ++ ys) ≡ (any f xs || any f ys)
   any-append f [] ys = refl
-  any-append f (x ∷ xs) ys = ap (λ b. f x or-else b) (any-append f xs ys) ∙ sym (or-assoc (f x) (any f xs) (any f ys))
+  any-append f (x ∷ xs) ys = ap (λ b. f x || b) (any-append f xs ys) ∙ sym (or-assoc (f x) (any f xs) (any f ys))
 
 pub all-of : {P : ℕ → Type 0} (cs : List ℕ) → ((d : ℕ) → memb d cs ≡ true → P d) → All P cs
 all-of [] f = none-left
 all-of (c ∷ cs) f = also c (f c (rw (eqb-self c))) (all-of cs (λ d m. f d (rw m (or-true (eqb d c)))))
 
-pub vars-join : (x j i : ℕ) (xs ys : List ℕ) → (memb x (xs ++ ys) && eqb j i) ≡ ((memb x xs && eqb j i) or-else (memb x ys && eqb j i))
+pub vars-join : (x j i : ℕ) (xs ys : List ℕ) → (memb x (xs ++ ys) && eqb j i) ≡ ((memb x xs && eqb j i) || (memb x ys && eqb j i))
 vars-join x j i xs ys = ap (λ b. b && eqb j i) (memb-append x xs ys) ∙ and-or (memb x xs) (memb x ys) (eqb j i)
 
 module _ {A : Type 0} where
@@ -72,11 +72,11 @@ module _ {A : Type 0} where
   any-nothing [] = refl
   any-nothing (x ∷ xs) = any-nothing xs
 
-  any-or : (f g : A → Bool) (xs : List A) → any (λ x. f x or-else g x) xs ≡ (any f xs or-else any g xs)
+  any-or : (f g : A → Bool) (xs : List A) → any (λ x. f x || g x) xs ≡ (any f xs || any g xs)
   any-or f g [] = refl
-  any-or f g (x ∷ xs) = ap (λ b. (f x or-else g x) or-else b) (any-or f g xs) ∙ or-mix (f x) (g x) (any f xs) (any g xs)
+  any-or f g (x ∷ xs) = ap (λ b. (f x || g x) || b) (any-or f g xs) ∙ or-mix (f x) (g x) (any f xs) (any g xs)
     where
-      or-mix : (a b c d : Bool) → ((a or-else b) or-else (c or-else d)) ≡ ((a or-else c) or-else (b or-else d))
+      or-mix : (a b c d : Bool) → ((a || b) || (c || d)) ≡ ((a || c) || (b || d))
       or-mix true b c d = refl
       or-mix false true true d = refl
       or-mix false true false d = refl
@@ -85,15 +85,15 @@ module _ {A : Type 0} where
 module _ {A B : Type 0} where
   pub any-swap : (P : A → B → Bool) (xs : List A) (ys : List B) → any (λ x. any (λ y. P x y) ys) xs ≡ any (λ y. any (λ x. P x y) xs) ys
   any-swap P [] ys = sym (any-nothing ys)
-  any-swap P (x ∷ xs) ys = ap (λ b. any (λ y. P x y) ys or-else b) (any-swap P xs ys) ∙ sym (any-or (λ y. P x y) (λ y. any (λ z. P z y) xs) ys)
+  any-swap P (x ∷ xs) ys = ap (λ b. any (λ y. P x y) ys || b) (any-swap P xs ys) ∙ sym (any-or (λ y. P x y) (λ y. any (λ z. P z y) xs) ys)
 
 pub any-ext : {A : Type 0} (f g : A → Bool) → ((a : A) → f a ≡ g a) → (xs : List A) → any f xs ≡ any g xs
 any-ext f g h [] = refl
-any-ext f g h (x ∷ xs) = ap₂ _or-else_ (h x) (any-ext f g h xs)
+any-ext f g h (x ∷ xs) = ap₂ _||_ (h x) (any-ext f g h xs)
 
 pub any-map : {A B : Type 0} (f : B → Bool) (g : A → B) (xs : List A) → any f (map g xs) ≡ any (λ x. f (g x)) xs
 any-map f g [] = refl
-any-map f g (x ∷ xs) = ap (λ b. f (g x) or-else b) (any-map f g xs)
+any-map f g (x ∷ xs) = ap (λ b. f (g x) || b) (any-map f g xs)
 
 pub somes-some : {A : Type 0} (os : List (Option A)) → not (is-empty (somes os)) ≡ any is-some os
 somes-some [] = refl
@@ -105,13 +105,13 @@ keep-some : (f : ℕ → Bool) (cs : List ℕ) → not (is-empty (keep f cs)) �
 keep-some f [] = refl
 keep-some f (c ∷ cs) = go (f c) (keep-some f cs)
   where
-    go : (b : Bool) → not (is-empty (keep f cs)) ≡ any f cs → not (is-empty (cond b (c ∷ keep f cs) (keep f cs))) ≡ (b or-else any f cs)
+    go : (b : Bool) → not (is-empty (keep f cs)) ≡ any f cs → not (is-empty (cond b (c ∷ keep f cs) (keep f cs))) ≡ (b || any f cs)
     go true h = refl
     go false h = h
 
 memb-any : (c : ℕ) (ds : List ℕ) → memb c ds ≡ any (λ d. eqb c d) ds
 memb-any c [] = refl
-memb-any c (d ∷ ds) = ap (λ b. eqb c d or-else b) (memb-any c ds)
+memb-any c (d ∷ ds) = ap (λ b. eqb c d || b) (memb-any c ds)
 
 pub meet-sym : (cs ds : List ℕ) → not (is-empty (keep (λ c. memb c ds) cs)) ≡ not (is-empty (keep (λ d. memb d cs) ds))
 meet-sym cs ds =

@@ -1,6 +1,6 @@
 -- Sets of numbers below 64.
 use mathlib.Core.Path.{_≡_, refl, sym, ap, _∙_}
-use mathlib.Core.Bool.{Bool, true, false, cond}
+use mathlib.Core.Bool.{Bool, true, false, cond, _||_}
 use mathlib.Core.List.{_∷_}
 use Prim.Native.Nat.{ℕ, zero, suc, _+_, _-_, _*_, _/_, _%_, _^_, _≤_, _<_, min, max, suc-le-suc}
 use native.Mathlib.Nat.{pow-suc, add-zero, zero-add, add-suc, suc-add, one-mul}
@@ -13,8 +13,8 @@ use lib.Count.{ones, ones-step, trailingZeros, under}
 use lib.Dec.{eqb, ltb}
 use lib.ListN.{length}
 use borrow.Author.Tests.{eq-eqb, ne-eqb, eqb-true, eqb-false, ltb-true, ltb-false}
-use Rattle.signature.specs.Lists.{keep, count-up, memb, _or-else_}
-use Rattle.signature.specs.Set.{bit, bit-if, members, set-limit}
+use Rattle.signature.specs.Lists.{keep, count-up, memb}
+use Rattle.signature.specs.Set.{bit, members, set-limit}
 use Rattle.signature.proofs.Members.{memb-keep}
 
 -- a bit is 0 or 1
@@ -134,17 +134,17 @@ trailing-low (suc k) a h p =
 pub one-shl : (i : ℕ) → i < 64 → (1 * 2 ^ i) % 2 ^ 64 ≡ 2 ^ i
 one-shl i h = shl-exact {a = 1} 1 i 64 (omega arith) (omega arith) ∙ one-mul (2 ^ i)
 
-pub bit-with : (s i j : ℕ) → i < 64 → bit (bitOr s ((1 * 2 ^ i) % 2 ^ 64)) j ≡ bit-if (eqb j i) 1 (bit s j)
+pub bit-with : (s i j : ℕ) → i < 64 → bit (bitOr s ((1 * 2 ^ i) % 2 ^ 64)) j ≡ cond (eqb j i) 1 (bit s j)
 bit-with s i j h = rw (one-shl i h, bit-or) (go (eqb j i) refl)
   where
-    go : (t : Bool) → eqb j i ≡ t → max (bit s j) (bit (2 ^ i) j) ≡ bit-if t 1 (bit s j)
+    go : (t : Bool) → eqb j i ≡ t → max (bit s j) (bit (2 ^ i) j) ≡ cond t 1 (bit s j)
     go true e = rw (eqb-true j i e, bit-one-same i) (omega (arith, bit-lt s i))
     go false e = rw (bit-one-other i j (eqb-false j i e)) (omega arith)
 
-pub bit-without : (s i j : ℕ) → s < 2 ^ 64 → i < 64 → bit (bitAnd s (2 ^ 64 - 1 - (1 * 2 ^ i) % 2 ^ 64)) j ≡ bit-if (eqb j i) 0 (bit s j)
+pub bit-without : (s i j : ℕ) → s < 2 ^ 64 → i < 64 → bit (bitAnd s (2 ^ 64 - 1 - (1 * 2 ^ i) % 2 ^ 64)) j ≡ cond (eqb j i) 0 (bit s j)
 bit-without s i j l h = rw (one-shl i h, bit-and) (go (ltb j 64) refl (eqb j i) refl)
   where
-    go : (u : Bool) → ltb j 64 ≡ u → (t : Bool) → eqb j i ≡ t → min (bit s j) (bit (2 ^ 64 - 1 - 2 ^ i) j) ≡ bit-if t 0 (bit s j)
+    go : (u : Bool) → ltb j 64 ≡ u → (t : Bool) → eqb j i ≡ t → min (bit s j) (bit (2 ^ 64 - 1 - 2 ^ i) j) ≡ cond t 0 (bit s j)
     go true f true e =
         let m : j ≡ i = eqb-true j i e in
         rw (bit-not 64 (2 ^ i) j (pow-lt h) (ltb-true j 64 f), m, bit-one-same i) (omega arith)
@@ -170,7 +170,7 @@ ones-less (suc k) (suc i) a b h g e f r =
     rw (ones-step a, ones-step b, low, rest) (omega arith)
 
 -- the same from what `without` ensures
-pub ones-without : (a b i : ℕ) → a < 2 ^ 64 → b < 2 ^ 64 → bit a i ≡ 1 → ((j : ℕ) → bit b j ≡ bit-if (eqb j i) 0 (bit a j)) → ones a ≡ 1 + ones b
+pub ones-without : (a b i : ℕ) → a < 2 ^ 64 → b < 2 ^ 64 → bit a i ≡ 1 → ((j : ℕ) → bit b j ≡ cond (eqb j i) 0 (bit a j)) → ones a ≡ 1 + ones b
 ones-without a b i h g e r =
     ones-less 64 i a b h g e (rw (eq-eqb i i refl) at (r i)) (λ j n. rw (ne-eqb j i n) at (r j))
 
@@ -199,7 +199,7 @@ counted : (i n c : ℕ) → i ≤ c → c < i + n → memb c (count-up i n) ≡ 
 counted i zero c l h = absurd (omega arith)
 counted i (suc n) c l h = go (eqb c i) refl (λ m. counted (suc i) n c m (omega arith))
   where
-    go : (t : Bool) → eqb c i ≡ t → (suc i ≤ c → memb c (count-up (suc i) n) ≡ true) → (t or-else memb c (count-up (suc i) n)) ≡ true
+    go : (t : Bool) → eqb c i ≡ t → (suc i ≤ c → memb c (count-up (suc i) n) ≡ true) → (t || memb c (count-up (suc i) n)) ≡ true
     go true e f = refl
     go false e f = let d : c ≡ i → ⊥ = eqb-false c i e in f (omega arith)
 
@@ -208,19 +208,19 @@ members-has s i h = memb-keep (λ j. eqb (bit s j) 1) i (count-up 0 set-limit) �
 
 -- ---- the numbers below n
 
-pub bit-below : (n j : ℕ) → bit (2 ^ n - 1) j ≡ bit-if (ltb j n) 1 0
+pub bit-below : (n j : ℕ) → bit (2 ^ n - 1) j ≡ cond (ltb j n) 1 0
 bit-below n j = go (ltb j n) refl
   where
-    go : (t : Bool) → ltb j n ≡ t → bit (2 ^ n - 1) j ≡ bit-if t 1 0
+    go : (t : Bool) → ltb j n ≡ t → bit (2 ^ n - 1) j ≡ cond t 1 0
     go true e =
         let z : 2 ^ n - 1 - 0 ≡ 2 ^ n - 1 = omega arith in
         rw (← z) (bit-not n 0 j (pow-pos n) (ltb-true j n e) ∙ rw (bit-zero j))
     go false e = bit-high n (2 ^ n - 1) j (omega (arith, pow-pos n)) (ltb-false j n e)
 
-pub bit-all : (n j : ℕ) → n ≡ set-limit → bit (2 ^ 64 - 1) j ≡ bit-if (ltb j n) 1 0
+pub bit-all : (n j : ℕ) → n ≡ set-limit → bit (2 ^ 64 - 1) j ≡ cond (ltb j n) 1 0
 bit-all n j e = rw e (bit-below 64 j)
 
-pub bit-full : (n j : ℕ) → n < set-limit → bit ((1 * 2 ^ n) % 2 ^ 64 - 1) j ≡ bit-if (ltb j n) 1 0
+pub bit-full : (n j : ℕ) → n < set-limit → bit ((1 * 2 ^ n) % 2 ^ 64 - 1) j ≡ cond (ltb j n) 1 0
 bit-full n j h = rw (one-shl n h) (bit-below n j)
 
 -- ---- sets below 2 ^ 64

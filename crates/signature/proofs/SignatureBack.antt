@@ -7,10 +7,10 @@ use Prim.Native.Nat.{ℕ, suc, zero, _≤_, _<_, _+_}
 use native.Mathlib.Nat.{zero-add}
 use native.Mathlib.Omega.{arith}
 use lib.Dec.{eqb, leb, ltb}
-use lib.ListN.{length}
+use lib.ListN.{length, getElem?}
 use Rattle.signature.specs.Lawful.{KindsRise, rise-end, rise-same, rise-next, KindsStart, start-0, constructor-words, SignatureWords}
 use Rattle.signature.specs.Limits.{constructor-limit, kind-limit, heads-limit, small-size, argument-limit}
-use Rattle.signature.specs.Lists.{at, require, split, All, none-left, also, all, count-up, _>>=_}
+use Rattle.signature.specs.Lists.{require, split, All, none-left, also, all, count-up, _>>=_}
 use Rattle.signature.specs.Read.{kinds-from, count-kinds, read-constructors, read-signature, lawful-kinds, least, lawful}
 use Rattle.signature.specs.Signature.{Signature, arguments-at, heads}
 use Rattle.signature.proofs.Booleans.{and-left, and-right}

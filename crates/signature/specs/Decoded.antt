@@ -4,10 +4,10 @@ use mathlib.Core.List.{List, _++_}
 use mathlib.Core.Option.{some}
 use Prim.Native.Nat.{ℕ, suc, _+_, _*_, _<_}
 use lib.Dec.{eqb}
-use lib.ListN.{length, getD}
+use lib.ListN.{length, getD, getElem?}
 use Rattle.signature.specs.Limits.{argument-limit, constructor-limit, kind-limit, small-size}
 use Rattle.signature.specs.Lawful.{OfKind}
-use Rattle.signature.specs.Lists.{at, first, keep}
+use Rattle.signature.specs.Lists.{first, keep}
 use Rattle.signature.specs.Read.{count-kinds, least, total, Signed}
 use Rattle.signature.specs.Signature.{Signature, Constructor, heads, arguments}
 use Rattle.signature.specs.Value.{Value, code}
@@ -73,9 +73,9 @@ pub record Decoded (sig : Signature) (t : List ℕ) : Type 0 where
   pub long : length t ≡ decoded-length
   pub kind-count : kinds-of t ≡ n
   pub constructor-count : constructors-of t ≡ length sig
-  pub kind : (c : ℕ) (d : Constructor) → at sig c ≡ some d → kind-of t c ≡ d .kind
-  pub arity : (c : ℕ) (d : Constructor) → at sig c ≡ some d → arity-of t c ≡ length (d .args)
-  pub argument : (c j k : ℕ) (d : Constructor) → at sig c ≡ some d → at (d .args) j ≡ some k → argument-of t c j ≡ k
+  pub kind : (c : ℕ) (d : Constructor) → getElem? sig c ≡ some d → kind-of t c ≡ d .kind
+  pub arity : (c : ℕ) (d : Constructor) → getElem? sig c ≡ some d → arity-of t c ≡ length (d .args)
+  pub argument : (c j k : ℕ) (d : Constructor) → getElem? sig c ≡ some d → getElem? (d .args) j ≡ some k → argument-of t c j ≡ k
   pub first-head : (k : ℕ) → k < n → first-of t k ≡ first (heads sig k)
   pub head-count : (k : ℕ) → k < n → count-of t k ≡ length (heads sig k)
   pub lowest-least : (k : ℕ) → k < n → least-head-of t k ≡ least-head sig n k

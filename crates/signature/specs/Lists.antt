@@ -1,7 +1,7 @@
 -- What all layers say of options, tests and lists.
 use mathlib.Core.List.{List, [], _∷_, _++_}
 use mathlib.Core.Option.{Option, none, some}
-use mathlib.Core.Bool.{Bool, true, false, _&&_, cond}
+use mathlib.Core.Bool.{Bool, true, false, _&&_, _||_, cond}
 use Prim.Native.Nat.{ℕ, zero, suc}
 use lib.Dec.{eqb}
 
@@ -16,16 +16,10 @@ abbrev pub require : Bool → Option (Unit {0})
 require true = some tt
 require false = none
 
--- one of two tests
-infixl 30 _or-else_
-abbrev pub _or-else_ : Bool → Bool → Bool
-true or-else b = true
-false or-else b = b
-
 -- x is one of the list
 abbrev pub memb : ℕ → List ℕ → Bool
 memb x [] = false
-memb x (y ∷ ys) = eqb x y or-else memb x ys
+memb x (y ∷ ys) = eqb x y || memb x ys
 
 module _ {A : Type 0} where
   -- the test passes for each
@@ -36,13 +30,7 @@ module _ {A : Type 0} where
   -- the test passes for some
   abbrev pub any : (A → Bool) → List A → Bool
   any f [] = false
-  any f (x ∷ xs) = f x or-else any f xs
-
-  -- the element at an index
-  abbrev pub at : List A → ℕ → Option A
-  at [] i = none
-  at (x ∷ xs) zero = some x
-  at (x ∷ xs) (suc i) = at xs i
+  any f (x ∷ xs) = f x || any f xs
 
   -- the first n elements and the others, where there are n
   abbrev pub split : ℕ → List A → Option (List A × List A)
@@ -99,7 +87,3 @@ pub data All {A : Type 0} (P : A → Type 0) : List A → Type 0 where
 pub data In {A : Type 0} (x : A) : List A → Type 0 where
   in-here : {xs : List A} → In x (x ∷ xs)
   in-there : {y : A} {xs : List A} → In x xs → In x (y ∷ xs)
-
--- both ways
-abbrev pub Iff : Type 0 → Type 0 → Type 0
-Iff A B = (A → B) × (B → A)

@@ -5,9 +5,9 @@ use mathlib.Core.Option.{Option, some, none}
 use mathlib.Core.Bool.{cond, Bool, false, _&&_}
 use Prim.Native.Nat.{ℕ, zero, suc, _+_, min}
 use lib.Dec.{leb, eqb, ltb}
-use lib.ListN.{length}
+use lib.ListN.{length, getElem?}
 use Rattle.signature.specs.Limits.{booking-limit, depth-limit, constructor-limit, kind-limit, heads-limit, small-size, over-small, argument-limit}
-use Rattle.signature.specs.Lists.{_>>=_, require, split, at, count-up, all, whole}
+use Rattle.signature.specs.Lists.{_>>=_, require, split, count-up, all, whole}
 use Rattle.signature.specs.Signature.{Signature, heads, arguments-at}
 use Rattle.signature.specs.Value.{Value, Values, vnil, vcons, con}
 
@@ -41,7 +41,7 @@ with-arg (some n) t = n + t
 -- the fewest words of arguments of these kinds, by the kinds' fewest words
 abbrev pub total : List ℕ → List ℕ → ℕ
 total least [] = 0
-total least (k ∷ ks) = with-arg (at least k) (total least ks)
+total least (k ∷ ks) = with-arg (getElem? least k) (total least ks)
 
 -- the fewest words of a value of kind k, by the kinds' fewest words
 abbrev pub best : Signature → List ℕ → ℕ → ℕ

@@ -15,10 +15,6 @@ unfoldable pub bit : ℕ → ℕ → ℕ
 bit s zero = s % 2
 bit s (suc i) = bit (s / 2) i
 
-abbrev pub bit-if : Bool → ℕ → ℕ → ℕ
-bit-if true a b = a
-bit-if false a b = b
-
 -- the members, rising
 abbrev pub members : ℕ → List ℕ
 members s = keep (λ i. eqb (bit s i) 1) (count-up 0 set-limit)

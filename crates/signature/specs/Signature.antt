@@ -1,10 +1,11 @@
 -- 01, Signature: constructors and kinds. What follows in all layers speaks of the heads of a kind and of their argument kinds, and of constructors only here.
+use lib.ListN.{getElem?}
 use mathlib.Core.List.{List, [], _∷_}
 use mathlib.Core.Option.{Option, some, none}
 use mathlib.Core.Bool.{cond}
 use Prim.Native.Nat.{ℕ, suc}
 use lib.Dec.{eqb}
-use Rattle.signature.specs.Lists.{_>>=_, at, require}
+use Rattle.signature.specs.Lists.{_>>=_, require}
 
 -- "for each constructor its kind, its number of arguments and the argument kinds"
 pub record Constructor : Type 0 where
@@ -27,7 +28,7 @@ heads sig k = heads-from 0 sig k
 -- the argument kinds of the head c, if it is a head of kind k
 abbrev pub arguments-at : Signature → ℕ → ℕ → Option (List ℕ)
 arguments-at sig k c = do
-  d ← at sig c
+  d ← getElem? sig c
   _ ← require (eqb (d .kind) k)
   some (d .args)
 
@@ -38,4 +39,4 @@ arguments-or-none (some d) = d .args
 
 -- the argument kinds of a head
 abbrev pub arguments : Signature → ℕ → List ℕ
-arguments sig c = arguments-or-none (at sig c)
+arguments sig c = arguments-or-none (getElem? sig c)

@@ -1,4 +1,5 @@
 -- The laws of the words of a table. The function `laws` promises them.
+use mathlib.Core.Logic.{_↔_}
 use mathlib.Core.Path.{_≡_}
 use mathlib.Core.List.{List, [], _∷_, _++_}
 use mathlib.Core.Option.{none, some}
@@ -6,7 +7,7 @@ use mathlib.Core.Bool.{_&&_, true, false}
 use Prim.Native.Nat.{ℕ, suc, _+_, _-_, _<_, _≤_}
 use lib.Dec.{eqb, leb}
 use lib.ListN.{length, getD, take, drop, replicate}
-use Rattle.signature.specs.Lists.{Iff, All, all, is-some, require, _>>=_}
+use Rattle.signature.specs.Lists.{All, all, is-some, require, _>>=_}
 use Rattle.signature.specs.Signature.{Signature}
 use Rattle.pattern.specs.Limits.{pattern-limit}
 use Rattle.row.specs.Admitted.{refusal-of-pattern}
@@ -18,7 +19,7 @@ use Rattle.store.specs.Place.{rule-head, RuleAt, Walked, Step}
 
 pub record Laws : Type 0 where
   -- exactly the tables with that layout are read, and what was read is there
-  pub laid-holds : (table : List ℕ) (rs : List Rule) → Iff (laid table ≡ some rs) (Holds table rs)
+  pub laid-holds : (table : List ℕ) (rs : List Rule) → ((laid table ≡ some rs) ↔ (Holds table rs))
   pub one-list : (table : List ℕ) (rs qs : List Rule) → Holds table rs → Holds table qs → rs ≡ qs
   pub is-laid : (table : List ℕ) → is-some (laid table) ≡ true → (rs : List Rule) × Holds table rs
   pub not-laid : (sig : Signature) (table : List ℕ) → is-some (laid table) ≡ false → sound sig table ≡ none

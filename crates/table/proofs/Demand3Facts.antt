@@ -2,12 +2,12 @@
 use mathlib.Core.Path.{_≡_, refl, ap, _∙_, sym, ap₂, subst}
 use mathlib.Core.List.{List, [], _++_}
 use mathlib.Core.Option.{some}
-use mathlib.Core.Bool.{Bool, true, false, cond}
+use mathlib.Core.Bool.{Bool, true, false, cond, _||_}
 use Prim.Native.Nat.{ℕ, suc, _≤_, _<_}
 use native.Mathlib.Omega.{arith}
 use lib.Dec.{ltb}
 use lib.ListN.{length, drop, take}
-use Rattle.signature.specs.Lists.{_or-else_, All}
+use Rattle.signature.specs.Lists.{All}
 use Rattle.signature.specs.Read.{read-signature, read-booking}
 use Rattle.signature.specs.Signature.{Signature}
 use Rattle.signature.specs.Value.{Value, vcons, vnil}
@@ -121,7 +121,7 @@ module _ (ss : List ℕ) (sig : Signature) (lawful : read-signature ss ≡ some 
       trees s space space′ out out′ n n′ len len′ q k k′ =
           let st : start ss (long-table last) last ≡ begin sig (rules-left sig ds []) = last-start ss sig lawful lent emptied last ns cs h c ∙ ap (begin sig) (equal s) in
           let st′ : start ss (long-table last′) last′ ≡ begin sig (rules-left sig ds []) = last-start ss sig lawful lent′ emptied′ last′ ms ds h′ c′ in
-          let same-large : too-large (tree-words default-plan sig (rules-left sig ds [])) space ≡ too-large (tree-words default-plan sig (rules-left sig ds [])) space′ = ap (λ m. ltb m (length (tree-words default-plan sig (rules-left sig ds []))) or-else ltb tree-limit (length (tree-words default-plan sig (rules-left sig ds [])))) q in
+          let same-large : too-large (tree-words default-plan sig (rules-left sig ds [])) space ≡ too-large (tree-words default-plan sig (rules-left sig ds [])) space′ = ap (λ m. ltb m (length (tree-words default-plan sig (rules-left sig ds []))) || ltb tree-limit (length (tree-words default-plan sig (rules-left sig ds [])))) q in
           let en : n ≡ n′ = k .number-is ∙ ap (λ z. compile-number z space) st ∙ ap (λ z. cond z 14 0) same-large ∙ sym (k′ .number-is ∙ ap (λ z. compile-number z space′) st′) in
           let el : len ≡ len′ = k .length-is ∙ ap (λ z. compile-length z space) st ∙ ap (λ z. cond z 0 (length (tree-words default-plan sig (rules-left sig ds [])))) same-large ∙ sym (k′ .length-is ∙ ap (λ z. compile-length z space′) st′) in
           (en, el, λ e. tree-out ss sig lawful lent emptied last ns cs h c space out len (subst (λ m. Compile ss last space m len out) e k) ∙ ap (tree-words default-plan sig) (equal s) ∙ sym (tree-out ss sig lawful lent′ emptied′ last′ ms ds h′ c′ space′ out′ len′ (subst (λ m. Compile ss last′ space′ m len′ out′) (sym en ∙ e) k′)))

@@ -1,11 +1,11 @@
 -- The laws of tables and of the tree of their rules hold, and so does demand 2.
+use mathlib.Core.Logic.{_↔_}
 use mathlib.Core.Path.{_≡_, refl, ap, sym, _∙_}
 use mathlib.Core.List.{List}
 use mathlib.Core.Option.{some}
 use mathlib.Core.Bool.{Bool, true, false, cond}
 use Prim.Native.Nat.{ℕ}
 use lib.ListN.{length}
-use Rattle.signature.specs.Lists.{Iff}
 use Rattle.signature.specs.Read.{read-signature, Signed}
 use Rattle.signature.specs.Signature.{Signature}
 use Rattle.signature.proofs.LawfulFacts.{sig-facts}
@@ -46,7 +46,7 @@ module _ (ss : List ℕ) (sig : Signature) (lawful : read-signature ss ≡ some 
           let st : enter-start ss table witness ≡ refused 2 = rw (lawful, leb-yes table-length (length table) (h .long), q) in
           k .number-is ∙ ap (λ z. enter-number z n ws) st ∙ sym (ap (λ b. cond b (entry-refusal sig n ws rs) 2) q)
 
-  twelve : (n plan : ℕ) (ws witness after witness′ : List ℕ) (e : Entered) → Enter ss n plan ws table witness e after witness′ → Iff (e .number ≡ 12) (Earlier sig n ws witness rs × SharesHeld sig ws rs)
+  twelve : (n plan : ℕ) (ws witness after witness′ : List ℕ) (e : Entered) → Enter ss n plan ws table witness e after witness′ → ((e .number ≡ 12) ↔ (Earlier sig n ws witness rs × SharesHeld sig ws rs))
   twelve n plan ws witness after witness′ e k =
       let q = entered-number n plan ws witness after witness′ e k in
       (λ t. twelve-of ss sig lawful n plan ws witness rs (sym q ∙ t), λ t. q ∙ of-twelve ss sig lawful n plan ws witness rs (t .0) (t .1))

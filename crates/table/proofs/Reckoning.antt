@@ -3,12 +3,12 @@ use mathlib.Core.Path.{_≡_, refl, ap, _∙_, sym, ap₂, subst}
 use mathlib.Core.Logic.{_⊎_, inl, inr}
 use mathlib.Core.List.{List, [], _∷_}
 use mathlib.Core.Option.{Option, none, some}
-use mathlib.Core.Bool.{not, _&&_, Bool, true, false, cond}
+use mathlib.Core.Bool.{not, _&&_, Bool, true, false, cond, _||_}
 use Prim.Native.Nat.{ℕ, suc, _+_, _≤_, _*_, _<_}
 use native.Mathlib.Omega.{arith}
 use lib.Dec.{leb, eqb, ltb}
 use lib.ListN.{length, length-append, length-replicate, drop}
-use Rattle.signature.specs.Lists.{_or-else_, any, All, none-left, also, In, in-here, in-there}
+use Rattle.signature.specs.Lists.{any, All, none-left, also, In, in-here, in-there}
 use Rattle.signature.specs.Read.{read-signature}
 use Rattle.signature.specs.Signature.{Signature}
 use Rattle.signature.proofs.Booleans.{not-false, or-right, and-left, and-right, or-left}
@@ -51,7 +51,7 @@ module _ (sig : Signature) where
       none-of (not (leb 1 n && leb n last-number)) 4 _ 3 (λ z. omega arith)
       (λ e₁. none-of (held n rs) 5 _ 3 (λ z. omega arith)
       (λ e₂. none-of (not (eqb (refusal-of-pattern sig ws) 0)) (refusal-of-pattern sig ws) _ 3 (pattern-not-3 ws)
-      (λ e₃. none-of (leb rule-limit (length rs) or-else ltb weight-limit (weight sig ws + total-weight sig rs)) 11 _ 3 (λ z. omega arith)
+      (λ e₃. none-of (leb rule-limit (length rs) || ltb weight-limit (weight sig ws + total-weight sig rs)) 11 _ 3 (λ z. omega arith)
       (λ e₄. none-of (any (λ r. shares sig ws (r .pattern)) rs) 12 0 3 (λ z. omega arith) (λ z. omega arith) e₄) e₃) e₂) e₁) e
 
   pub reckon-not-3 : (c : ListCall) (rs : List Rule) → reckon-number sig c rs ≡ 3 → ⊥
@@ -184,7 +184,7 @@ module _ (ss : List ℕ) (sig : Signature) (lawful : read-signature ss ≡ some 
           let (a, e₁) = past (not (leb 1 n && leb n last-number)) 4 _ 12 (λ z. omega arith) e₀ in
           let (b, e₂) = past (held n rs) 5 _ 12 (λ z. omega arith) e₁ in
           let (c, e₃) = past-own (refusal-of-pattern sig ws) _ 12 (pattern-not-12 sig ws) e₂ in
-          let (d, e₄) = past (leb rule-limit (length rs) or-else ltb weight-limit (weight sig ws + total-weight sig rs)) 11 _ 12 (λ z. omega arith) e₃ in
+          let (d, e₄) = past (leb rule-limit (length rs) || ltb weight-limit (weight sig ws + total-weight sig rs)) 11 _ 12 (λ z. omega arith) e₃ in
           let l : (leb 1 n && leb n last-number) ≡ true = not-false (leb 1 n && leb n last-number) a in
           let w : weight sig ws + total-weight sig rs < suc weight-limit = lt-of-not (suc weight-limit) (weight sig ws + total-weight sig rs) (or-right (leb rule-limit (length rs)) (ltb weight-limit (weight sig ws + total-weight sig rs)) d) in
           (record { witness-long = le-of witness-length (length witness) q; low = le-of 1 n (and-left (leb 1 n) (leb n last-number) l); high = le-of n last-number (and-right (leb 1 n) (leb n last-number) l); new = b; good = passed-of sig ws c; room = lt-of-not rule-limit (length rs) (or-left (leb rule-limit (length rs)) (ltb weight-limit (weight sig ws + total-weight sig rs)) d); light = omega arith }, shared (any (λ r. shares sig ws (r .pattern)) rs) refl e₄)
@@ -198,7 +198,7 @@ module _ (ss : List ℕ) (sig : Signature) (lawful : read-signature ss ≡ some 
       let (a, e₁) = past (not (leb 1 n && leb n last-number)) 4 _ 12 (λ z. omega arith) e₀ in
       let (b, e₂) = past (held n rs) 5 _ 12 (λ z. omega arith) e₁ in
       let (c, e₃) = past-own (refusal-of-pattern sig ws) _ 12 (pattern-not-12 sig ws) e₂ in
-      let (d, e₄) = past (leb rule-limit (length rs) or-else ltb weight-limit (weight sig ws + total-weight sig rs)) 11 _ 12 (λ z. omega arith) e₃ in
+      let (d, e₄) = past (leb rule-limit (length rs) || ltb weight-limit (weight sig ws + total-weight sig rs)) 11 _ 12 (λ z. omega arith) e₃ in
       go (any (λ r. shares sig ws (r .pattern)) rs) refl e₄
     where
       go : (b : Bool) → any (λ r. shares sig ws (r .pattern)) rs ≡ b → cond {A = ℕ} (any (λ r. shares sig ws (r .pattern)) rs) 12 0 ≡ 12 → any (λ r. shares sig ws (r .pattern)) rs ≡ true

@@ -2,11 +2,10 @@
 use mathlib.Core.Path.{_≡_, _∙_, ap, sym, subst}
 use mathlib.Core.List.{List}
 use mathlib.Core.Option.{some}
-use mathlib.Core.Bool.{cond}
+use mathlib.Core.Bool.{cond, _||_}
 use Prim.Native.Nat.{ℕ}
 use lib.Dec.{ltb}
 use lib.ListN.{length, take}
-use Rattle.signature.specs.Lists.{_or-else_}
 use Rattle.signature.specs.Read.{read-signature}
 use Rattle.signature.specs.Signature.{Signature}
 use Rattle.tree.specs.Limits.{tree-limit, default-plan}
@@ -23,7 +22,7 @@ sound-same-tree ss sig lawful table table′ rs qs a b s space space′ out out�
     let e : rs ≡ qs = rises-same (sound-valid sig (ss, lawful) table rs a .0 .rises) (sound-valid sig (ss, lawful) table′ qs b .0 .rises) (s .to) (s .from) in
     let st : start ss (long-table table) table ≡ begin sig qs = sound-start ss sig lawful table rs a ∙ ap (begin sig) e in
     let st′ : start ss (long-table table′) table′ ≡ begin sig qs = sound-start ss sig lawful table′ qs b in
-    let same-large : too-large (tree-words default-plan sig qs) space ≡ too-large (tree-words default-plan sig qs) space′ = ap (λ m. ltb m (length (tree-words default-plan sig qs)) or-else ltb tree-limit (length (tree-words default-plan sig qs))) q in
+    let same-large : too-large (tree-words default-plan sig qs) space ≡ too-large (tree-words default-plan sig qs) space′ = ap (λ m. ltb m (length (tree-words default-plan sig qs)) || ltb tree-limit (length (tree-words default-plan sig qs))) q in
     let en : n ≡ n′ = k .number-is ∙ ap (λ z. compile-number z space) st ∙ ap (λ z. cond z 14 0) same-large ∙ sym (k′ .number-is ∙ ap (λ z. compile-number z space′) st′) in
     let el : len ≡ len′ = k .length-is ∙ ap (λ z. compile-length z space) st ∙ ap (λ z. cond z 0 (length (tree-words default-plan sig qs))) same-large ∙ sym (k′ .length-is ∙ ap (λ z. compile-length z space′) st′) in
     (en, el, λ z. sound-tree ss sig lawful table rs a space out len (subst (λ m. Compile ss table space m len out) z k) ∙ ap (tree-words default-plan sig) e ∙ sym (sound-tree ss sig lawful table′ qs b space′ out′ len′ (subst (λ m. Compile ss table′ space′ m len′ out′) (sym en ∙ z) k′)))

@@ -3,12 +3,12 @@ use mathlib.Core.Path.{_≡_, refl, ap, _∙_}
 use mathlib.Core.Logic.{_≢_}
 use mathlib.Core.List.{List, _++_, append-assoc, _∷_, []}
 use mathlib.Core.Option.{some}
-use mathlib.Core.Bool.{true, Bool, false, cond, not, _&&_}
+use mathlib.Core.Bool.{true, Bool, false, cond, not, _&&_, _||_}
 use Prim.Native.Nat.{ℕ, _≤_, _*_, _-_, suc, _<_, _+_}
 use native.Mathlib.Omega.{arith}
 use lib.Dec.{eqb, ltb, leb}
 use lib.ListN.{length, replicate, length-append, drop, length-replicate}
-use Rattle.signature.specs.Lists.{all, All, none-left, also, keep, any, _or-else_}
+use Rattle.signature.specs.Lists.{all, All, none-left, also, keep, any}
 use Rattle.signature.specs.Signature.{Signature}
 use Rattle.signature.proofs.Booleans.{and-right, and-left, or-right, or-left, not-false}
 use Rattle.signature.proofs.ListFacts.{zeros, split-append, take-exact, drop-exact}
@@ -197,7 +197,7 @@ module _ (sig : Signature) where
         let (a, e₁) = pass (not (leb 1 n && leb n last-number)) 4 _ (λ z. omega arith) e in
         let (b, e₂) = pass (held n rs) 5 _ (λ z. omega arith) e₁ in
         let (c, e₃) = pass-own (refusal-of-pattern sig ws) _ e₂ in
-        let (d, e₄) = pass (leb rule-limit (length rs) or-else ltb weight-limit (weight sig ws + total-weight sig rs)) 11 _ (λ z. omega arith) e₃ in
+        let (d, e₄) = pass (leb rule-limit (length rs) || ltb weight-limit (weight sig ws + total-weight sig rs)) 11 _ (λ z. omega arith) e₃ in
         let (f, e₅) = pass (any (λ r. shares sig ws (r .pattern)) rs) 12 0 (λ z. omega arith) e₄ in
         let l : (leb 1 n && leb n last-number) ≡ true = not-false (leb 1 n && leb n last-number) a in
         let w : weight sig ws + total-weight sig rs < suc weight-limit = lt-of-not (suc weight-limit) (weight sig ws + total-weight sig rs) (or-right (leb rule-limit (length rs)) (ltb weight-limit (weight sig ws + total-weight sig rs)) d) in

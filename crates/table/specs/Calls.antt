@@ -3,11 +3,11 @@
 use mathlib.Core.Path.{_≡_}
 use mathlib.Core.List.{List, [], _++_}
 use mathlib.Core.Option.{Option, none, some}
-use mathlib.Core.Bool.{Bool, cond, _&&_}
+use mathlib.Core.Bool.{Bool, cond, _&&_, _||_}
 use Prim.Native.Nat.{ℕ, _<_}
 use lib.Dec.{leb, eqb, ltb}
 use lib.ListN.{length, drop}
-use Rattle.signature.specs.Lists.{In, _or-else_}
+use Rattle.signature.specs.Lists.{In}
 use Rattle.signature.specs.Read.{read-signature, read-booking}
 use Rattle.signature.specs.Signature.{Signature}
 use Rattle.signature.specs.Value.{Value}
@@ -115,7 +115,7 @@ pub record Withdraw (ss : List ℕ) (n : ℕ) (before : List ℕ) (number : ℕ)
 
 -- 14: "The tree exceeds the lent slice or 32,768 words."
 abbrev pub too-large : List ℕ → List ℕ → Bool
-too-large tree space = ltb (length space) (length tree) or-else ltb tree-limit (length tree)
+too-large tree space = ltb (length space) (length tree) || ltb tree-limit (length tree)
 
 -- compile: 1 to 3 and 14
 abbrev pub compile-number : Start → List ℕ → ℕ

@@ -1,11 +1,12 @@
 -- Demand 3, "a single claim about whole lists": its statement.
+use mathlib.Core.Logic.{_↔_}
 use mathlib.Core.Path.{_≡_}
 use mathlib.Core.List.{List, [], _++_}
 use mathlib.Core.Option.{none, some}
 use mathlib.Core.Bool.{false}
 use Prim.Native.Nat.{ℕ, _≤_, _<_, _+_}
 use lib.ListN.{length, take, drop}
-use Rattle.signature.specs.Lists.{In, All, Iff}
+use Rattle.signature.specs.Lists.{In, All}
 use Rattle.signature.specs.Read.{read-booking, read-signature}
 use Rattle.signature.specs.Signature.{Signature}
 use Rattle.signature.specs.Value.{Value}
@@ -49,9 +50,9 @@ pub record AfterList (ss : List ℕ) (sig : Signature) (lent : List ℕ) (cs : L
   pub rest-is : drop table-length last ≡ drop table-length lent
   pub in-force : sound sig last ≡ some (rules-left sig cs [])
   -- "An entry that passes the earlier checks is refused for overlap exactly when some lawful booking is taken by it and by a rule in force."
-  pub twelve : (n plan : ℕ) (ws witness after witness′ : List ℕ) (e : Entered) → Enter ss n plan ws last witness e after witness′ → Iff (e .number ≡ 12) (Earlier sig n ws witness (rules-left sig cs []) × SharesHeld sig ws (rules-left sig cs []))
+  pub twelve : (n plan : ℕ) (ws witness after witness′ : List ℕ) (e : Entered) → Enter ss n plan ws last witness e after witness′ → ((e .number ≡ 12) ↔ (Earlier sig n ws witness (rules-left sig cs []) × SharesHeld sig ws (rules-left sig cs [])))
   -- compile gives 0, or 14 exactly where the tree exceeds the lent slice or 32,768 words
-  pub compiles : (space space′ : List ℕ) (number len : ℕ) → Compile ss last space number len space′ → Iff (number ≡ 0) ((length (tree-words default-plan sig (rules-left sig cs [])) ≤ length space) × (length (tree-words default-plan sig (rules-left sig cs [])) ≤ tree-limit))
+  pub compiles : (space space′ : List ℕ) (number len : ℕ) → Compile ss last space number len space′ → ((number ≡ 0) ↔ ((length (tree-words default-plan sig (rules-left sig cs [])) ≤ length space) × (length (tree-words default-plan sig (rules-left sig cs [])) ≤ tree-limit)))
   -- "A run of a lawful booking over a tree compiled after a list gives 0, and answers by the rules that this list left"
   pub runs : (space space′ behind bs : List ℕ) (len number : ℕ) (v : Value) (a : Answer) → Compile ss last space 0 len space′ → read-booking sig bs ≡ some v → RunCall ss (take len space′ ++ behind) bs number a → (number ≡ 0) × Answered default-plan sig (rules-left sig cs []) bs a
   -- deciding from the table answers so too

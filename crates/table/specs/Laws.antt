@@ -1,11 +1,12 @@
 -- The laws of tables and of the tree of their rules. The function `laws` promises them; demands 2 and 3 have functions of their own.
+use mathlib.Core.Logic.{_↔_}
 use mathlib.Core.Path.{_≡_}
 use mathlib.Core.List.{List, [], _∷_, _++_}
 use mathlib.Core.Option.{some}
 use mathlib.Core.Bool.{true, false}
 use Prim.Native.Nat.{ℕ, _<_}
 use lib.ListN.{length, take}
-use Rattle.signature.specs.Lists.{Iff, In, any}
+use Rattle.signature.specs.Lists.{In, any}
 use Rattle.signature.specs.Read.{read-booking, read-signature, Signed}
 use Rattle.signature.specs.Signature.{Signature}
 use Rattle.signature.specs.Value.{Value}
@@ -24,11 +25,11 @@ use Rattle.table.specs.Sound.{sound, SoundTable}
 
 pub record Laws : Type 0 where
   -- 3: exactly the sound tables are read, and what was read was there
-  pub sound-table : (sig : Signature) → Signed sig → (table : List ℕ) (rs : List Rule) → Iff (sound sig table ≡ some rs) (SoundTable sig table rs)
+  pub sound-table : (sig : Signature) → Signed sig → (table : List ℕ) (rs : List Rule) → ((sound sig table ≡ some rs) ↔ (SoundTable sig table rs))
   -- rules of a sound table, stored into any words, are read back
   pub stored-read : (sig : Signature) → Signed sig → (table lent : List ℕ) (rs : List Rule) → SoundTable sig table rs → sound sig (stored rs lent) ≡ some rs
   -- 12, for every sound table that is handed in
-  pub twelve : (ss : List ℕ) (sig : Signature) → read-signature ss ≡ some sig → (table : List ℕ) (rs : List Rule) → SoundTable sig table rs → (n plan : ℕ) (ws witness after witness′ : List ℕ) (e : Entered) → Enter ss n plan ws table witness e after witness′ → Iff (e .number ≡ 12) (Earlier sig n ws witness rs × SharesHeld sig ws rs)
+  pub twelve : (ss : List ℕ) (sig : Signature) → read-signature ss ≡ some sig → (table : List ℕ) (rs : List Rule) → SoundTable sig table rs → (n plan : ℕ) (ws witness after witness′ : List ℕ) (e : Entered) → Enter ss n plan ws table witness e after witness′ → ((e .number ≡ 12) ↔ (Earlier sig n ws witness rs × SharesHeld sig ws rs))
   -- "the lowest such number"
   pub lowest : (sig : Signature) → Signed sig → (table : List ℕ) (rs : List Rule) → SoundTable sig table rs → (ws : List ℕ) → any (λ r. shares sig ws (r .pattern)) rs ≡ true → (r : Rule) × In r rs × (sharer sig ws rs ≡ r .number) × (shares sig ws (r .pattern) ≡ true) × ((s : Rule) → In s rs → s .number < r .number → shares sig ws (s .pattern) ≡ false)
   -- the tree of a sound table's rules obeys the four rules, and no other tree does

@@ -1,10 +1,10 @@
 -- 01, Turned down, in checking order: the refusals of entries and withdrawals, 4 to 12.
 use mathlib.Core.List.{List, [], _∷_}
-use mathlib.Core.Bool.{cond, not, _&&_}
+use mathlib.Core.Bool.{cond, not, _&&_, _||_}
 use Prim.Native.Nat.{ℕ, _+_}
 use lib.Dec.{leb, eqb, ltb}
 use lib.ListN.{length}
-use Rattle.signature.specs.Lists.{_or-else_, any}
+use Rattle.signature.specs.Lists.{any}
 use Rattle.signature.specs.Signature.{Signature}
 use Rattle.pattern.specs.Weight.{weight}
 use Rattle.row.specs.Admitted.{refusal-of-pattern}
@@ -21,7 +21,7 @@ entry-refusal sig n ws rs =
     (cond (held n rs) 5
     (let q = refusal-of-pattern sig ws in
     cond (not (eqb q 0)) q
-    (cond (leb rule-limit (length rs) or-else ltb weight-limit (weight sig ws + total-weight sig rs)) 11
+    (cond (leb rule-limit (length rs) || ltb weight-limit (weight sig ws + total-weight sig rs)) 11
     (cond (any (λ r. shares sig ws (r .pattern)) rs) 12 0))))
 
 -- 12: "the lowest such number"

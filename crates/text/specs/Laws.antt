@@ -1,11 +1,11 @@
 -- The laws of the text. The function `laws` promises them.
+use mathlib.Core.Logic.{_↔_}
 use mathlib.Core.Path.{_≡_}
 use mathlib.Core.List.{List, []}
 use mathlib.Core.Option.{some}
 use mathlib.Core.Bool.{true, cond}
 use Prim.Native.Nat.{ℕ, _≤_}
 use lib.Dec.{eqb}
-use Rattle.signature.specs.Lists.{Iff}
 use Rattle.signature.specs.Signature.{Signature}
 use Rattle.table.specs.Calls.{long-witness}
 use Rattle.table.specs.ListsOfCalls.{numbers-reckoned, rules-left}
@@ -17,7 +17,7 @@ use Rattle.text.specs.Print.{decimal, entries, first-refusal, enter-all,
 
 pub record Laws : Type 0 where
   -- 17: exactly the texts of the format are read, and what was read was there
-  pub text : (bytes : List ℕ) (t : Text) → Iff (read-text bytes ≡ some t) (TextBytes bytes t)
+  pub text : (bytes : List ℕ) (t : Text) → ((read-text bytes ≡ some t) ↔ (TextBytes bytes t))
   -- numbers are read back as they are printed, and no other bytes are read as them
   pub number-read : (n : ℕ) → n ≤ last-word → number (decimal n) ≡ some n
   pub number-was : (bytes : List ℕ) (n : ℕ) → number bytes ≡ some n → (bytes ≡ decimal n) × (n ≤ last-word)

@@ -2,13 +2,13 @@
 use mathlib.Core.Path.{_≡_, ap, _∙_, sym, ap₂, refl, subst}
 use mathlib.Core.List.{List, _∷_, [], _++_, map}
 use mathlib.Core.Option.{Option, none, some}
-use mathlib.Core.Bool.{not, Bool, true, false}
+use mathlib.Core.Bool.{not, Bool, true, false, _||_}
 use Prim.Native.Nat.{ℕ, suc, _+_, _≤_, _*_, _<_, zero}
 use native.Mathlib.Omega.{arith}
 use lib.Dec.{eqb}
 use lib.ListN.{length, length-append}
 use Rattle.signature.specs.Limits.{argument-limit}
-use Rattle.signature.specs.Lists.{All, also, all, memb, somes, _or-else_, any, none-left}
+use Rattle.signature.specs.Lists.{All, also, all, memb, somes, any, none-left}
 use Rattle.signature.specs.Signature.{Signature, arguments, heads, arguments-at}
 use Rattle.signature.proofs.Heads.{open-refs, same-args, args-same, kind-of-head}
 use Rattle.signature.proofs.Members.{all-of}
@@ -112,7 +112,7 @@ module _ (sig : Signature) where
   refs-somes ks none os = omega arith
   refs-somes ks (some l) os = refl
 
-tick-or : (a b : Bool) → tick (a or-else b) ≤ tick a + tick b
+tick-or : (a b : Bool) → tick (a || b) ≤ tick a + tick b
 tick-or true b = omega arith
 tick-or false b = omega arith
 

@@ -3,7 +3,7 @@ use mathlib.Core.Path.{_≡_, refl, subst, _∙_, ap, sym, ap₂}
 use mathlib.Core.Logic.{_⊎_, inl, inr}
 use mathlib.Core.List.{List, map, [], _∷_, _++_}
 use mathlib.Core.Option.{Option, some, none}
-use mathlib.Core.Bool.{true, Bool, false, _&&_}
+use mathlib.Core.Bool.{true, Bool, false, _&&_, _||_}
 use Prim.Native.Nat.{ℕ, _<_, suc, _≤_, _+_}
 use native.Mathlib.Decide.{decLe}
 use native.Mathlib.Omega.{arith}
@@ -11,7 +11,7 @@ use lib.Dec.{eqb}
 use lib.ListN.{length, getD, length-append, List·getD-append}
 use lib.Seq.{getD-append-seam}
 use Rattle.signature.specs.Lawful.{OfKinds, of-kinds-nil, of-kinds-cons, of-kind, OfKind}
-use Rattle.signature.specs.Lists.{In, somes, in-there, in-here, _or-else_, All, any}
+use Rattle.signature.specs.Lists.{In, somes, in-there, in-here, All, any}
 use Rattle.signature.specs.Signature.{Signature, arguments-at}
 use Rattle.signature.specs.Value.{Values, vnil, vcons, con, Value, size}
 use Rattle.signature.proofs.Booleans.{or-false}
@@ -107,7 +107,7 @@ in-placed : (visits : List ℕ) {bs : Binds} (x u : ℕ) → In (x, u) bs → bi
 in-placed visits x u in-here = rw (eqb-self x, eqb-self (getD visits u 0))
 in-placed visits x u (in-there {y = b} i) = rw (in-placed visits x u i) (or-true (eqb x (b .0) && eqb (getD visits u 0) (getD visits (b .1) 0)))
   where
-    or-true : (a : Bool) → (a or-else true) ≡ true
+    or-true : (a : Bool) → (a || true) ≡ true
     or-true true = refl
     or-true false = refl
 
@@ -202,12 +202,12 @@ module _ (sig : Signature) where
 all-false : (f : Line → Bool) (ls : List Line) (l : Line) → any f ls ≡ false → In l ls → f l ≡ false
 all-false f (m ∷ ls) l e in-here = or-first (f m) (any f ls) e
   where
-    or-first : (a b : Bool) → (a or-else b) ≡ false → a ≡ false
+    or-first : (a b : Bool) → (a || b) ≡ false → a ≡ false
     or-first true b q = true≢false q
     or-first false b q = refl
 all-false f (m ∷ ls) l e (in-there i) = all-false f ls l (or-second (f m) (any f ls) e) i
   where
-    or-second : (a b : Bool) → (a or-else b) ≡ false → b ≡ false
+    or-second : (a b : Bool) → (a || b) ≡ false → b ≡ false
     or-second true b q = true≢false q
     or-second false b q = q
 

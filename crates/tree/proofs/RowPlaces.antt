@@ -2,11 +2,11 @@
 use mathlib.Core.Path.{_≡_, refl, ap, _∙_, sym}
 use mathlib.Core.List.{[], _∷_, List}
 use mathlib.Core.Option.{some}
-use mathlib.Core.Bool.{_&&_, Bool, cond, true, false}
+use mathlib.Core.Bool.{_&&_, Bool, cond, true, false, _||_}
 use Prim.Native.Nat.{ℕ, suc, _+_, _≤_}
 use native.Mathlib.Omega.{arith}
 use lib.Dec.{eqb, leb}
-use Rattle.signature.specs.Lists.{_or-else_, memb}
+use Rattle.signature.specs.Lists.{memb}
 use Rattle.signature.specs.Read.{read-booking}
 use Rattle.signature.specs.Signature.{Signature}
 use Rattle.signature.specs.Value.{Value, con, Values, vnil, vcons, size}
@@ -25,27 +25,27 @@ use Rattle.tree.specs.Tree.{insert, inserts}
 use Rattle.tree.proofs.TreeFacts.{final, finals}
 use Rattle.tree.proofs.TreeRuns.{times-inserts}
 
-binds-insert : (x j y i : ℕ) (bs : Binds) → binds x j (insert (y, i) bs) ≡ ((eqb x y && eqb j i) or-else binds x j bs)
+binds-insert : (x j y i : ℕ) (bs : Binds) → binds x j (insert (y, i) bs) ≡ ((eqb x y && eqb j i) || binds x j bs)
 binds-insert x j y i [] = refl
 binds-insert x j y i (b ∷ bs) = go (leb y (b .0)) (binds-insert x j y i bs)
   where
-    go : (c : Bool) → binds x j (insert (y, i) bs) ≡ ((eqb x y && eqb j i) or-else binds x j bs) → binds x j (cond c ((y, i) ∷ (b ∷ bs)) (b ∷ insert (y, i) bs)) ≡ ((eqb x y && eqb j i) or-else ((eqb x (b .0) && eqb j (b .1)) or-else binds x j bs))
+    go : (c : Bool) → binds x j (insert (y, i) bs) ≡ ((eqb x y && eqb j i) || binds x j bs) → binds x j (cond c ((y, i) ∷ (b ∷ bs)) (b ∷ insert (y, i) bs)) ≡ ((eqb x y && eqb j i) || ((eqb x (b .0) && eqb j (b .1)) || binds x j bs))
     go true h = refl
-    go false h = ap (λ z. (eqb x (b .0) && eqb j (b .1)) or-else z) h ∙ or-swap (eqb x (b .0) && eqb j (b .1)) (eqb x y && eqb j i) (binds x j bs)
+    go false h = ap (λ z. (eqb x (b .0) && eqb j (b .1)) || z) h ∙ or-swap (eqb x (b .0) && eqb j (b .1)) (eqb x y && eqb j i) (binds x j bs)
 
-binds-inserts : (x j i : ℕ) (xs : List ℕ) (bs : Binds) → binds x j (inserts i xs bs) ≡ ((memb x xs && eqb j i) or-else binds x j bs)
+binds-inserts : (x j i : ℕ) (xs : List ℕ) (bs : Binds) → binds x j (inserts i xs bs) ≡ ((memb x xs && eqb j i) || binds x j bs)
 binds-inserts x j i [] bs = refl
-binds-inserts x j i (y ∷ xs) bs = binds-insert x j y i (inserts i xs bs) ∙ ap (λ z. (eqb x y && eqb j i) or-else z) (binds-inserts x j i xs bs) ∙ split-and (eqb x y) (memb x xs) (eqb j i) (binds x j bs)
+binds-inserts x j i (y ∷ xs) bs = binds-insert x j y i (inserts i xs bs) ∙ ap (λ z. (eqb x y && eqb j i) || z) (binds-inserts x j i xs bs) ∙ split-and (eqb x y) (memb x xs) (eqb j i) (binds x j bs)
 
 mutual
-  pub final-binds : (r : Row) (v : Value) (i x j : ℕ) (σ : Binds) → binds x j (final r v i σ) ≡ (row-binds r v i x j or-else binds x j σ)
-  final-binds (named xs c rs) (con d us) i x j σ = finals-bind rs us (suc i) x j (inserts i xs σ) ∙ ap (λ z. rows-bind rs us (suc i) x j or-else z) (binds-inserts x j i xs σ) ∙ or-turn (rows-bind rs us (suc i) x j) (memb x xs && eqb j i) (binds x j σ)
+  pub final-binds : (r : Row) (v : Value) (i x j : ℕ) (σ : Binds) → binds x j (final r v i σ) ≡ (row-binds r v i x j || binds x j σ)
+  final-binds (named xs c rs) (con d us) i x j σ = finals-bind rs us (suc i) x j (inserts i xs σ) ∙ ap (λ z. rows-bind rs us (suc i) x j || z) (binds-inserts x j i xs σ) ∙ or-turn (rows-bind rs us (suc i) x j) (memb x xs && eqb j i) (binds x j σ)
   final-binds (free xs cs) v i x j σ = binds-inserts x j i xs σ
 
-  finals-bind : (rs : Rows) (vs : Values) (i x j : ℕ) (σ : Binds) → binds x j (finals rs vs i σ) ≡ (rows-bind rs vs i x j or-else binds x j σ)
+  finals-bind : (rs : Rows) (vs : Values) (i x j : ℕ) (σ : Binds) → binds x j (finals rs vs i σ) ≡ (rows-bind rs vs i x j || binds x j σ)
   finals-bind rnil vs i x j σ = refl
   finals-bind (rcons r rs) vnil i x j σ = refl
-  finals-bind (rcons r rs) (vcons v vs) i x j σ = finals-bind rs vs (i + size v) x j (final r v i σ) ∙ ap (λ z. rows-bind rs vs (i + size v) x j or-else z) (final-binds r v i x j σ) ∙ or-turn (rows-bind rs vs (i + size v) x j) (row-binds r v i x j) (binds x j σ)
+  finals-bind (rcons r rs) (vcons v vs) i x j σ = finals-bind rs vs (i + size v) x j (final r v i σ) ∙ ap (λ z. rows-bind rs vs (i + size v) x j || z) (final-binds r v i x j σ) ∙ or-turn (rows-bind rs vs (i + size v) x j) (row-binds r v i x j) (binds x j σ)
 
 mutual
   pub final-times : (r : Row) (v : Value) (i x : ℕ) (σ : Binds) → times x (final r v i σ) ≤ occurs x r + times x σ

@@ -8,10 +8,10 @@ use native.Mathlib.Nat.{add-zero}
 use native.Mathlib.Numerals.{add-one}
 use native.Mathlib.Omega.{arith}
 use lib.Dec.{eqb}
-use lib.ListN.{length, length-append, set, getD, drop}
+use lib.ListN.{length, length-append, set, getD, drop, getElem?}
 use lib.Seq.{drop-drop, drop-append-seam}
 use Rattle.signature.specs.Lawful.{OfKinds, of-kinds-nil, of-kinds-cons, of-kind}
-use Rattle.signature.specs.Lists.{first, at}
+use Rattle.signature.specs.Lists.{first}
 use Rattle.signature.specs.Signature.{heads, arguments, Signature, arguments-at, Constructor}
 use Rattle.signature.specs.Value.{Values, vnil, vcons, con, size}
 use Rattle.signature.proofs.Heads.{constructor-of, args-same, Dense}
@@ -79,14 +79,14 @@ module _ (sig : Signature) (tree : List ℕ) where
   pub record Child (ts : Trees) (base idx c t : ℕ) (ks : List ℕ) : Type 0 where
     pub child : Tree
     pub link : ℕ
-    pub linked : at (links ts base) idx ≡ some link
+    pub linked : getElem? (links ts base) idx ≡ some link
     pub above : base ≤ link
     pub stands : Stands child link
     pub treed : Treed sig (arguments sig c ++ ks) (suc t) child
     pub within : words child ≤ words-all ts
     pub walks : (vs : Values) (j : ℕ) (visits : List ℕ) → walk-nth ts idx vs j visits ≡ walk child vs j visits
 
-  child-of : {ks cs : List ℕ} {t : ℕ} {ts : Trees} (base idx c : ℕ) → Treeds sig ks t cs ts → at cs idx ≡ some c → StandAll ts base → Child ts base idx c t ks
+  child-of : {ks cs : List ℕ} {t : ℕ} {ts : Trees} (base idx c : ℕ) → Treeds sig ks t cs ts → getElem? cs idx ≡ some c → StandAll ts base → Child ts base idx c t ks
   child-of base idx c treeds-nil e s = none≢some e
   child-of {ks} {t = t} base zero c (treeds-cons {c = d} {tr = tr} {ts = ts} h g) e (tail, s) =
       record { child = tr; link = base; linked = refl; above = omega arith; stands = (layout-all ts (base + words tr) ++ tail, s ∙ append-assoc (layout tr base) (layout-all ts (base + words tr)) tail); treed = subst (λ x. Treed sig (arguments sig x ++ ks) (suc t) tr) (some-inj d c e) h; within = omega arith; walks = λ vs j visits. refl }
@@ -96,11 +96,11 @@ module _ (sig : Signature) (tree : List ℕ) where
       record { child = r .child; link = r .link; linked = r .linked; above = omega arith; stands = r .stands; treed = r .treed; within = omega (arith, r .within); walks = r .walks }
 
   -- the m-th word of a tree that stands at i
-  word : (i m : ℕ) (ws : List ℕ) → drop i tree ≡ ws → at tree (i + m) ≡ at ws m
-  word i m ws s = at-drop tree i m ∙ ap (λ l. at l m) s
+  word : (i m : ℕ) (ws : List ℕ) → drop i tree ≡ ws → getElem? tree (i + m) ≡ getElem? ws m
+  word i m ws s = at-drop tree i m ∙ ap (λ l. getElem? l m) s
 
-  word-0 : (i : ℕ) (ws : List ℕ) → drop i tree ≡ ws → at tree i ≡ at ws 0
-  word-0 i ws s = ap (at tree) (sym (add-zero i)) ∙ word i 0 ws s
+  word-0 : (i : ℕ) (ws : List ℕ) → drop i tree ≡ ws → getElem? tree i ≡ getElem? ws 0
+  word-0 i ws s = ap (getElem? tree) (sym (add-zero i)) ∙ word i 0 ws s
 
 module _ (dft : ℕ) (sig : Signature) (tree : List ℕ) where
   abbrev Runs : ℕ → Type 0
@@ -122,14 +122,14 @@ module _ (dft : ℕ) (sig : Signature) (tree : List ℕ) where
         below : drop (i + 3 + count ts) tree ≡ layout-all ts (i + 3 + count ts) ++ tail
         below = sym (drop-drop (count ts) (i + 3) tree) ∙ ap (drop (count ts)) (s₃ ∙ append-assoc (links ts (i + 3 + count ts)) (layout-all ts (i + 3 + count ts)) tail) ∙ ap (λ m. drop m (links ts (i + 3 + count ts) ++ (layout-all ts (i + 3 + count ts) ++ tail))) (sym (length-links ts (i + 3 + count ts))) ∙ drop-append-seam (links ts (i + 3 + count ts)) (layout-all ts (i + 3 + count ts) ++ tail)
 
-        on : Child sig tree ts (i + 3 + count ts) (c - f) c (length visits) ks → (d : Constructor) → at sig c ≡ some d → d .kind ≡ k → at-test sig tree (λ i′ vs′ j′ visits′. run dft n sig tree i′ vs′ j′ visits′) i (vcons (con c us) rest) j visits ≡ some (to-answer dft (walk-nth ts (c - f) (vjoin us rest) (suc j) (visits ++ (j ∷ []))))
+        on : Child sig tree ts (i + 3 + count ts) (c - f) c (length visits) ks → (d : Constructor) → getElem? sig c ≡ some d → d .kind ≡ k → at-test sig tree (λ i′ vs′ j′ visits′. run dft n sig tree i′ vs′ j′ visits′) i (vcons (con c us) rest) j visits ≡ some (to-answer dft (walk-nth ts (c - f) (vjoin us rest) (suc j) (visits ++ (j ∷ []))))
         on ch d e₁ q =
             let up : i < ch .link = omega (arith, ch .above) in
-            let w : at tree (i + 3 + (c - f)) ≡ some (ch .link) = word sig tree (i + 3) (c - f) _ s₃ ∙ at-left (links ts (i + 3 + count ts) ++ layout-all ts (i + 3 + count ts)) tail (c - f) (ch .link) (at-left (links ts (i + 3 + count ts)) (layout-all ts (i + 3 + count ts)) (c - f) (ch .link) (ch .linked)) in
+            let w : getElem? tree (i + 3 + (c - f)) ≡ some (ch .link) = word sig tree (i + 3) (c - f) _ s₃ ∙ at-left (links ts (i + 3 + count ts) ++ layout-all ts (i + 3 + count ts)) tail (c - f) (ch .link) (at-left (links ts (i + 3 + count ts)) (layout-all ts (i + 3 + count ts)) (c - f) (ch .link) (ch .linked)) in
             rw (e₁, word sig tree i 1 (layout (test f ts) i ++ tail) s, word sig tree i 2 (layout (test f ts) i ++ tail) s, q, ← ef, eqb-self f, treeds-count sig h, eqb-self (length (heads sig k)), w, ltb-yes i (ch .link) up, ch .walks (vjoin us rest) (suc j) (visits ++ (j ∷ [])))
             (g (ch .child) (js ++ ks) (ch .link) (suc j) (vjoin us rest) (visits ++ (j ∷ [])) (rw (args-same sig k c js e, more visits j) at (ch .treed)) (kindeds-join sig a b) (omega (arith, ch .within)) (ch .stands))
 
-        go : (d : Constructor) × (at sig c ≡ some d) × (eqb (d .kind) k ≡ true) × (d .args ≡ js) → at-test sig tree (λ i′ vs′ j′ visits′. run dft n sig tree i′ vs′ j′ visits′) i (vcons (con c us) rest) j visits ≡ some (to-answer dft (walk-nth ts (c - f) (vjoin us rest) (suc j) (visits ++ (j ∷ []))))
+        go : (d : Constructor) × (getElem? sig c ≡ some d) × (eqb (d .kind) k ≡ true) × (d .args ≡ js) → at-test sig tree (λ i′ vs′ j′ visits′. run dft n sig tree i′ vs′ j′ visits′) i (vcons (con c us) rest) j visits ≡ some (to-answer dft (walk-nth ts (c - f) (vjoin us rest) (suc j) (visits ++ (j ∷ []))))
         go (d, e₁, q, z) = on (child-of sig tree (i + 3 + count ts) (c - f) c h (rw (← ef) at (dense k c js e)) (tail, below)) d e₁ (eqb-eq (d .kind) k q)
 
     pub run-walks : (n : ℕ) → Runs dft sig tree n

@@ -6,8 +6,8 @@ use mathlib.Core.Bool.{_&&_, cond}
 use Prim.Native.Nat.{ℕ, _<_, _+_, _-_, suc, _≤_, zero}
 use native.Mathlib.Omega.{arith}
 use lib.Dec.{eqb, ltb}
-use lib.ListN.{length}
-use Rattle.signature.specs.Lists.{at, first}
+use lib.ListN.{length, getElem?}
+use Rattle.signature.specs.Lists.{first}
 use Rattle.signature.specs.Signature.{Signature, heads}
 use Rattle.signature.specs.Value.{Values, vnil, vcons, con, size}
 use Rattle.signature.proofs.ListFacts.{at-out}
@@ -23,7 +23,7 @@ module _ (sig : Signature) (tree : List ℕ) where
   test-same : (f g : Run) (i : ℕ) (vs : Values) (j : ℕ) (visits : List ℕ) → Above i f g → at-test sig tree f i vs j visits ≡ at-test sig tree g i vs j visits
   test-same f g i vnil j visits h = refl
   test-same f g i (vcons (con c us) rest) j visits h =
-      bind-same (at sig c) _ _ (λ d. bind-same (at tree (i + 1)) _ _ (λ a. bind-same (at tree (i + 2)) _ _ (λ n. when-same (eqb a (first (heads sig (d .kind))) && eqb n (length (heads sig (d .kind)))) _ _ (λ q. bind-same (at tree (i + 3 + (c - a))) _ _ (λ link. when-same (ltb i link) _ _ (λ l. h link (vjoin us rest) (suc j) (visits ++ (j ∷ [])) (le-of (suc i) link l)))))))
+      bind-same (getElem? sig c) _ _ (λ d. bind-same (getElem? tree (i + 1)) _ _ (λ a. bind-same (getElem? tree (i + 2)) _ _ (λ n. when-same (eqb a (first (heads sig (d .kind))) && eqb n (length (heads sig (d .kind)))) _ _ (λ q. bind-same (getElem? tree (i + 3 + (c - a))) _ _ (λ link. when-same (ltb i link) _ _ (λ l. h link (vjoin us rest) (suc j) (visits ++ (j ∷ [])) (le-of (suc i) link l)))))))
 
 skip-same : (f g : Run) (i : ℕ) (vs : Values) (j : ℕ) (visits : List ℕ) → Above i f g → at-skip f i vs j visits ≡ at-skip g i vs j visits
 skip-same f g i vnil j visits h = refl
@@ -37,4 +37,4 @@ module _ (dft : ℕ) (sig : Signature) (tree : List ℕ) where
   run-enough zero zero i vs j visits a b = refl
   run-enough zero (suc m) i vs j visits a b = rw (at-out tree i (omega arith))
   run-enough (suc n) zero i vs j visits a b = rw (at-out tree i (omega arith))
-  run-enough (suc n) (suc m) i vs j visits a b = bind-same (at tree i) _ _ (λ w. node-same (λ i′ vs′ j′ visits′. run dft n sig tree i′ vs′ j′ visits′) (λ i′ vs′ j′ visits′. run dft m sig tree i′ vs′ j′ visits′) i w vs j visits (λ i′ vs′ j′ visits′ l. run-enough n m i′ vs′ j′ visits′ (omega arith) (omega arith)))
+  run-enough (suc n) (suc m) i vs j visits a b = bind-same (getElem? tree i) _ _ (λ w. node-same (λ i′ vs′ j′ visits′. run dft n sig tree i′ vs′ j′ visits′) (λ i′ vs′ j′ visits′. run dft m sig tree i′ vs′ j′ visits′) i w vs j visits (λ i′ vs′ j′ visits′ l. run-enough n m i′ vs′ j′ visits′ (omega arith) (omega arith)))

@@ -7,10 +7,10 @@ use Prim.Native.Nat.{ℕ, _-_, suc, _+_, zero, _<_}
 use native.Mathlib.Nat.{add-zero, add-assoc}
 use native.Mathlib.Omega.{arith}
 use lib.Dec.{leb, eqb}
-use lib.ListN.{getD, length, List·getD-append, length-append}
+use lib.ListN.{getD, length, List·getD-append, length-append, getElem?}
 use lib.Seq.{getD-append-seam}
 use Rattle.signature.specs.Lawful.{OfKinds, of-kinds-nil, of-kinds-cons, OfKind, of-kind}
-use Rattle.signature.specs.Lists.{All, none-left, also, at, memb, all, somes, first, any}
+use Rattle.signature.specs.Lists.{All, none-left, also, memb, all, somes, first, any}
 use Rattle.signature.specs.Signature.{arguments-at, Signature, heads, arguments}
 use Rattle.signature.specs.Value.{Values, vnil, vcons, con, size, Value, sizes}
 use Rattle.signature.proofs.Booleans.{and-assoc, not-false}
@@ -208,7 +208,7 @@ module _ (sig : Signature) where
   pub after-shaped : (t : ℕ) {ks js : List ℕ} (step : Rows → Option (List ℕ × Rows)) (l : Line) → Shaped sig ks t l → Kept (λ r. Roweds sig js (r .1)) (step (l .cells)) → Kept (Shaped sig js (suc t)) (after t step l)
   after-shaped t step l h p = kept-bind _ (λ r q. kept (record { rule = l .rule; plan = l .plan; binds = inserts t (r .0) (l .binds); cells = r .1 }) (record { cells = q; made = inserts-made (suc t) t (r .0) (omega arith) (made-more t (h .made)) })) p
 
-walk-children : (child : ℕ → Tree) (cs : List ℕ) (i c : ℕ) (vs : Values) (j : ℕ) (visits : List ℕ) → at cs i ≡ some c → walk-nth (children child cs) i vs j visits ≡ walk (child c) vs j visits
+walk-children : (child : ℕ → Tree) (cs : List ℕ) (i c : ℕ) (vs : Values) (j : ℕ) (visits : List ℕ) → getElem? cs i ≡ some c → walk-nth (children child cs) i vs j visits ≡ walk (child c) vs j visits
 walk-children child [] i c vs j visits e = none≢some e
 walk-children child (d ∷ ds) zero c vs j visits e = ap (λ x. walk (child x) vs j visits) (some-inj d c e)
 walk-children child (d ∷ ds) (suc i) c vs j visits e = walk-children child ds i c vs j visits e

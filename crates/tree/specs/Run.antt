@@ -4,8 +4,8 @@ use mathlib.Core.Option.{Option, some, none}
 use mathlib.Core.Bool.{_&&_, cond}
 use Prim.Native.Nat.{ℕ, zero, suc, _+_, _-_}
 use lib.Dec.{leb, eqb, ltb}
-use lib.ListN.{set, drop, length}
-use Rattle.signature.specs.Lists.{_>>=_, require, at, first}
+use lib.ListN.{set, drop, length, getElem?}
+use Rattle.signature.specs.Lists.{_>>=_, require, first}
 use Rattle.signature.specs.Read.{read-booking}
 use Rattle.signature.specs.Signature.{Signature, heads}
 use Rattle.signature.specs.Value.{Values, vnil, vcons, con, size}
@@ -26,7 +26,7 @@ bound (suc n) m [] visits places = none
 bound (suc n) m (x ∷ []) visits places = none
 bound (suc n) m (x ∷ (t ∷ ws)) visits places = do
   _ ← require (leb m x && leb x last-variable)
-  i ← at visits t
+  i ← getElem? visits t
   bound n (suc x) ws visits (set places x i)
 
 -- how a run goes on: at the node at an index, with these parts of the booking left, the first of them at a place,
@@ -38,9 +38,9 @@ Run = ℕ → Values → ℕ → List ℕ → Option Answer
 abbrev pub at-hit : List ℕ → Run
 at-hit tree i (vcons v us) j visits = none
 at-hit tree i vnil j visits = do
-  r ← at tree (i + 1)
-  p ← at tree (i + 2)
-  n ← at tree (i + 3)
+  r ← getElem? tree (i + 1)
+  p ← getElem? tree (i + 2)
+  n ← getElem? tree (i + 3)
   _ ← require (leb 1 r && leb r last-number)
   places ← bound n 0 (drop (i + 4) tree) visits unbound
   some (record { rule = r; plan = p; places = places })
@@ -50,11 +50,11 @@ at-hit tree i vnil j visits = do
 abbrev pub at-test : Signature → List ℕ → Run → Run
 at-test sig tree next i vnil j visits = none
 at-test sig tree next i (vcons (con c us) rest) j visits = do
-  d ← at sig c
-  f ← at tree (i + 1)
-  n ← at tree (i + 2)
+  d ← getElem? sig c
+  f ← getElem? tree (i + 1)
+  n ← getElem? tree (i + 2)
   _ ← require (eqb f (first (heads sig (d .kind))) && eqb n (length (heads sig (d .kind))))
-  link ← at tree (i + 3 + (c - f))
+  link ← getElem? tree (i + 3 + (c - f))
   _ ← require (ltb i link)
   next link (vjoin us rest) (suc j) (visits ++ (j ∷ []))
 
@@ -68,7 +68,7 @@ module _ (dft : ℕ) where
   abbrev pub run : ℕ → Signature → List ℕ → Run
   run zero sig tree i vs j visits = none
   run (suc n) sig tree i vs j visits = do
-    w ← at tree i
+    w ← getElem? tree i
     let next : Run = λ i′ vs′ j′ visits′. run n sig tree i′ vs′ j′ visits′
     cond (eqb w 0) (some (no-rule dft)) (cond (eqb w 1) (at-hit tree i vs j visits) (cond (eqb w 2) (at-test sig tree next i vs j visits) (cond (eqb w 3) (at-skip next i vs j visits) none)))
 

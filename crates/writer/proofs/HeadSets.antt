@@ -1,12 +1,12 @@
 -- The heads that a place allows, as a list and as a set in a word.
 use mathlib.Core.Path.{_≡_, refl, sym, ap, _∙_}
 use mathlib.Core.List.{List, [], _∷_}
-use mathlib.Core.Bool.{Bool, true, false, _&&_, not}
+use mathlib.Core.Bool.{Bool, true, false, _&&_, not, _||_}
 use Prim.Native.Nat.{ℕ, _+_, _-_, _≤_, _<_}
 use native.Mathlib.Omega.{arith}
 use borrow.Author.Tests.{eq-eqb}
 use lib.Dec.{eqb}
-use Rattle.signature.specs.Lists.{memb, all, first, _or-else_}
+use Rattle.signature.specs.Lists.{memb, all, first}
 use Rattle.signature.specs.Set.{bit}
 use Rattle.signature.specs.Signature.{Signature, heads}
 use Rattle.signature.proofs.Booleans.{and-left, and-right, or-false}
@@ -45,7 +45,7 @@ low-within : (f c : ℕ) (cs : List ℕ) → Within f cs → memb c cs ≡ true 
 low-within f c [] w e = absurd (let z : _≡_ {A = ℕ} 0 1 = cc in omega arith)
 low-within f c (d ∷ cs) w e = go (λ q. low-within f c cs (w .2) q) (eqb c d) refl e
   where
-    go : (memb c cs ≡ true → f ≤ c) → (b : Bool) → eqb c d ≡ b → (b or-else memb c cs) ≡ true → f ≤ c
+    go : (memb c cs ≡ true → f ≤ c) → (b : Bool) → eqb c d ≡ b → (b || memb c cs) ≡ true → f ≤ c
     go ih true q e = omega (arith, eqb-eq c d q, w .0)
     go ih false q e = ih e
 

@@ -1,7 +1,7 @@
 -- What the table of a signature says of a kind's heads.
 use mathlib.Core.Path.{_≡_, refl, sym, ap, ap₂, subst, _∙_}
 use mathlib.Core.List.{List, [], _∷_}
-use mathlib.Core.Bool.{Bool, true, false}
+use mathlib.Core.Bool.{Bool, true, false, _||_}
 use mathlib.Core.Option.{some}
 use Prim.Native.Nat.{ℕ, zero, suc, _+_, _-_, _≤_, _<_}
 use native.Mathlib.Omega.{arith}
@@ -9,7 +9,7 @@ use lib.Dec.{eqb}
 use lib.ListN.{length}
 use Rattle.signature.specs.Decoded.{Known, first-of, count-of, arity-of}
 use Rattle.signature.specs.Limits.{kind-limit, argument-limit, constructor-limit, heads-limit}
-use Rattle.signature.specs.Lists.{memb, first, count-up, All, is-empty, _or-else_}
+use Rattle.signature.specs.Lists.{memb, first, count-up, All, is-empty}
 use Rattle.signature.specs.Signature.{heads, arguments, arguments-at}
 use Rattle.signature.proofs.Heads.{Consecutive, consecutive-nil, consecutive-cons, consecutive-of, kind-of-head, args-same}
 use Rattle.signature.proofs.KnownFacts.{words-of, is-constructor, few-constructors, arity-is, few-arguments}
@@ -30,7 +30,7 @@ memb-up f j zero h = absurd (omega arith)
 memb-up f zero (suc m) h = let q : f + 0 ≡ f = omega arith in rw (q, eqb-self f)
 memb-up f (suc j) (suc m) h = let q : f + suc j ≡ suc f + j = omega arith in rw q (go (eqb (suc f + j) f) (memb-up (suc f) j m (omega arith)))
   where
-    go : (b : Bool) → memb (suc f + j) (count-up (suc f) m) ≡ true → (b or-else memb (suc f + j) (count-up (suc f) m)) ≡ true
+    go : (b : Bool) → memb (suc f + j) (count-up (suc f) m) ≡ true → (b || memb (suc f + j) (count-up (suc f) m)) ≡ true
     go true e = refl
     go false e = e
 

@@ -5,9 +5,9 @@ use mathlib.Core.Option.{Option, none, some}
 use mathlib.Core.Bool.{Bool, true}
 use Prim.Native.Nat.{ℕ, zero, suc, _+_, _-_, _*_, _≤_, _<_}
 use native.Mathlib.Omega.{arith}
-use lib.ListN.{length, getD, drop, length-append, length-drop}
+use lib.ListN.{length, getD, drop, length-append, length-drop, getElem?}
 use Rattle.signature.specs.Decoded.{Known}
-use Rattle.signature.specs.Lists.{All, none-left, also, at, somes, _>>=_}
+use Rattle.signature.specs.Lists.{All, none-left, also, somes, _>>=_}
 use Rattle.signature.specs.Signature.{Signature}
 use Rattle.signature.proofs.LawfulFacts.{kinds-above}
 use Rattle.signature.proofs.KnownFacts.{at-some}
@@ -33,15 +33,15 @@ module _ {B : Type 0} where
 
 module _ {A B : Type 0} where
   -- the elements of a list, by their numbers
-  listed : (h : A → B) (xs : List A) → somes (options (λ r. at xs r >>= λ a. some (h a)) 0 (length xs)) ≡ map h xs
+  listed : (h : A → B) (xs : List A) → somes (options (λ r. getElem? xs r >>= λ a. some (h a)) 0 (length xs)) ≡ map h xs
   listed h [] = refl
-  listed h (x ∷ xs) = ap (λ (l : List B). h x ∷ l) (ap somes (options-on (λ r. at (x ∷ xs) r >>= λ a. some (h a)) 0 (length xs)) ∙ listed h xs)
+  listed h (x ∷ xs) = ap (λ (l : List B). h x ∷ l) (ap somes (options-on (λ r. getElem? (x ∷ xs) r >>= λ a. some (h a)) 0 (length xs)) ∙ listed h xs)
 
 module _ {t a tab : List ℕ} {n : ℕ} (g : GivenRows t a tab n) where
   -- row r, and its place
   record RowAt (r : ℕ) : Type 0 where
     e : RuleRow
-    there : at (g .rows) r ≡ some e
+    there : getElem? (g .rows) r ≡ some e
     fit : Fit (g .known .sig) t e
     place : Placed (g .known .sig) t a tab r e
 
@@ -65,7 +65,7 @@ module _ {t a tab : List ℕ} {n : ℕ} (g : GivenRows t a tab n) where
   }
 
   abbrev pub start-lines : ℕ → Option Line
-  start-lines r = at (g .rows) r >>= λ e. some (line-of e)
+  start-lines r = getElem? (g .rows) r >>= λ e. some (line-of e)
 
   line-at : (vis : List ℕ) (r : ℕ) (w : RowAt r) → LineAt (g .known .sig) t a tab n vis r 0 (0 ∷ []) (line-of (w .e))
   line-at vis r w =

@@ -5,9 +5,9 @@ use mathlib.Core.Option.{some}
 use mathlib.Core.Bool.{Bool, true, false, _&&_, cond}
 use Prim.Native.Nat.{ℕ, _+_, _-_, _*_, _≤_, _<_}
 use lib.Dec.{leb}
-use lib.ListN.{length, getD, drop}
+use lib.ListN.{length, getD, drop, getElem?}
 use Rattle.signature.specs.Decoded.{Known}
-use Rattle.signature.specs.Lists.{All, at}
+use Rattle.signature.specs.Lists.{All}
 use Rattle.signature.specs.Signature.{Signature}
 use Rattle.pattern.specs.Limits.{pattern-limit}
 use Rattle.row.specs.Row.{Row, rcons, rnil}
@@ -77,7 +77,7 @@ pub record Placed (sig : Signature) (t a rows : List ℕ) (r : ℕ) (e : RuleRow
   pub indexed : RowIndexed t a rows r start (length (code (kinds-of sig) (e .row) 0)) (e .rule) (e .plan)
 
 abbrev pub AllPlaced : Signature → List ℕ → List ℕ → List ℕ → List RuleRow → Type 0
-AllPlaced sig t a rows es = (r : ℕ) (e : RuleRow) → at es r ≡ some e → Placed sig t a rows r e
+AllPlaced sig t a rows es = (r : ℕ) (e : RuleRow) → getElem? es r ≡ some e → Placed sig t a rows r e
 
 -- ---- all rows
 
