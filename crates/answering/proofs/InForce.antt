@@ -14,7 +14,7 @@ use Rattle.signature.proofs.Tests.{leb-yes, pair-first, pair-second}
 use Rattle.row.proofs.Symmetric.{shares-sym}
 use Rattle.tree.specs.Answer.{Answer}
 use Rattle.table.specs.Calls.{Entered, Empty, Enter, DecideCall, start, begin, enter-start, enter-number, enter-table, decide-from, decide-booking}
-use Rattle.table.specs.Limits.{table-length, witness-length}
+use Rattle.table.specs.Limits.{limits, table-length, witness-length}
 use Rattle.table.specs.Refusals.{entry-refusal}
 use Rattle.table.specs.Rule.{Rule, stored, add-rule}
 use Rattle.table.specs.Sound.{sound}
@@ -24,29 +24,29 @@ use Rattle.table.proofs.TableFacts.{Valid, sound-stored, admitted, valid-entry}
 use Rattle.text.specs.Print.{print-decided, print-refused, print-answer}
 
 -- a table just emptied
-pub emptied : (sig : Signature) (lent after : List ℕ) (number : ℕ) → table-length ≤ length lent → Empty lent number after → sound sig after ≡ some []
-emptied sig lent after number h e = ap (sound sig) (e .table-is ∙ ap (λ b. cond b (stored [] lent) lent) (leb-yes table-length (length lent) h)) ∙ sound-stored sig [] lent (valid-nil sig)
+pub emptied : (sig : Signature) (lent after : List ℕ) (number : ℕ) → table-length limits ≤ length lent → Empty limits lent number after → sound limits sig after ≡ some []
+emptied sig lent after number h e = ap (sound limits sig) (e .table-is ∙ ap (λ b. cond b (stored limits [] lent) lent) (leb-yes (table-length limits) (length lent) h)) ∙ sound-stored sig [] lent (valid-nil sig)
 
-module _ (ss : List ℕ) (sig : Signature) (lawful : read-signature ss ≡ some sig) (table : List ℕ) (rs : List Rule) (in-force : sound sig table ≡ some rs) where
+module _ (ss : List ℕ) (sig : Signature) (lawful : read-signature ss ≡ some sig) (table : List ℕ) (rs : List Rule) (in-force : sound limits sig table ≡ some rs) where
   valid : Valid sig rs
   valid = sound-valid sig (ss, lawful) table rs in-force .0
 
   -- 1 to 3 do not apply to an entry
-  begun : (witness : List ℕ) → witness-length ≤ length witness → enter-start ss table witness ≡ begin sig rs
-  begun witness h = ap₂ (λ x y. start ss (x && y) table) (leb-yes table-length (length table) (sound-valid sig (ss, lawful) table rs in-force .1)) (leb-yes witness-length (length witness) h) ∙ rw (lawful, in-force)
+  begun : (witness : List ℕ) → witness-length ≤ length witness → enter-start limits ss table witness ≡ begin sig rs
+  begun witness h = ap₂ (λ x y. start limits ss (x && y) table) (leb-yes (table-length limits) (length table) (sound-valid sig (ss, lawful) table rs in-force .1)) (leb-yes witness-length (length witness) h) ∙ rw (lawful, in-force)
 
-  module _ (n plan : ℕ) (ws witness : List ℕ) (long : witness-length ≤ length witness) (e : Entered) (after witness′ : List ℕ) (did : Enter ss n plan ws table witness e after witness′) where
-    pub entry-number : entry-refusal sig n ws rs ≡ e .number
-    entry-number = sym (did .number-is ∙ ap (λ s. enter-number s n ws) (begun witness long))
+  module _ (n plan : ℕ) (ws witness : List ℕ) (long : witness-length ≤ length witness) (e : Entered) (after witness′ : List ℕ) (did : Enter limits ss n plan ws table witness e after witness′) where
+    pub entry-number : entry-refusal limits sig n ws rs ≡ e .number
+    entry-number = sym (did .number-is ∙ ap (λ s. enter-number limits s n ws) (begun witness long))
 
-    pub entry-stored : e .number ≡ 0 → sound sig after ≡ some (add-rule (record { number = n; plan = plan; pattern = ws }) rs)
+    pub entry-stored : e .number ≡ 0 → sound limits sig after ≡ some (add-rule (record { number = n; plan = plan; pattern = ws }) rs)
     entry-stored z =
-        let q : entry-refusal sig n ws rs ≡ 0 = entry-number ∙ z in
-        ap (sound sig) (did .table-is ∙ ap (λ s. enter-table s n plan ws table) (begun witness long) ∙ ap (λ i. cond (eqb i 0) (stored (add-rule (record { number = n; plan = plan; pattern = ws }) rs) table) table) q)
+        let q : entry-refusal limits sig n ws rs ≡ 0 = entry-number ∙ z in
+        ap (sound limits sig) (did .table-is ∙ ap (λ s. enter-table limits s n plan ws table) (begun witness long) ∙ ap (λ i. cond (eqb i 0) (stored limits (add-rule (record { number = n; plan = plan; pattern = ws }) rs) table) table) q)
         ∙ sound-stored sig (add-rule (record { number = n; plan = plan; pattern = ws }) rs) table (valid-entry sig (shares-sym sig) n plan ws rs (admitted sig (shares-sym sig) n ws rs q) valid)
 
   -- 13, or the answer
-  module _ (bs : List ℕ) (number : ℕ) (a : Answer) (did : DecideCall ss table bs number a) where
+  module _ (bs : List ℕ) (number : ℕ) (a : Answer) (did : DecideCall limits ss table bs number a) where
     result : (number, a) ≡ decide-booking sig rs (read-booking sig bs)
     result = did .result-is ∙ ap (λ s. decide-from s bs) (sound-start ss sig lawful table rs in-force)
 

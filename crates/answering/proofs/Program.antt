@@ -10,6 +10,7 @@ use Rattle.signature.specs.Lists.{is-some}
 use Rattle.signature.specs.Read.{read-booking, read-signature}
 use Rattle.signature.specs.Signature.{Signature}
 use Rattle.signature.proofs.Tests.{true≢false, eqb-no}
+use Rattle.table.specs.Limits.{limits}
 use Rattle.table.specs.Refusals.{entry-refusal}
 use Rattle.table.specs.Rule.{Rule, add-rule}
 use Rattle.text.specs.Format.{Text, read-text, after-key, key-rule}
@@ -57,7 +58,7 @@ module _ {text : List ℕ} {sig : Signature} {t : List ℕ} {held : List Rule} (
       go [] q p = true≢false (e ∙ laws .book-last t (g .book) q .key)
       go (q ∷ qs) l p = record { rule = q; more = qs; lines = laws .rule-next t q qs (g .book) l; prints = p }
 
-  module _ (d : Due) (n : ℕ) (number : entry-refusal sig (d .rule .number) (d .rule .pattern) held ≡ n) where
+  module _ (d : Due) (n : ℕ) (number : entry-refusal limits sig (d .rule .number) (d .rule .pattern) held ≡ n) where
     -- "the first refusal n prints refused=n only"
     pub refused : (n ≡ 0 → ⊥) → printed text ≡ print-refused n
     refused h = d .prints ∙ ap (print-entered sig (g .book)) (ap₂ (λ b i. cond b (enter-all sig (d .more) (add-rule (d .rule) held)) (stopped i)) (ap (λ i. eqb i 0) number ∙ eqb-no n 0 h) number)
@@ -67,7 +68,7 @@ module _ {text : List ℕ} {sig : Signature} {t : List ℕ} {held : List Rule} (
       due = d .more;
       book = g .book;
       left = d .lines .rest;
-      prints = d .prints ∙ ap (print-entered sig (g .book)) (ap (λ i. cond (eqb i 0) (enter-all sig (d .more) (add-rule (d .rule) held)) (stopped (entry-refusal sig (d .rule .number) (d .rule .pattern) held))) (number ∙ h));
+      prints = d .prints ∙ ap (print-entered sig (g .book)) (ap (λ i. cond (eqb i 0) (enter-all sig (d .more) (add-rule (d .rule) held)) (stopped (entry-refusal limits sig (d .rule .number) (d .rule .pattern) held))) (number ∙ h));
     }
 
   -- book= is next, and last

@@ -14,7 +14,7 @@ use Rattle.signature.specs.Read.{read-signature}
 use Rattle.booking.proofs.PartLaws.{missing, there as found}
 use Rattle.tree.specs.Answer.{Answer}
 use Rattle.table.specs.Calls.{Empty, Enter, DecideCall}
-use Rattle.table.specs.Limits.{table-length, witness-length}
+use Rattle.table.specs.Limits.{limits, table-length, witness-length}
 use Rattle.table.specs.Refusals.{entry-refusal}
 use Rattle.table.specs.Rule.{Rule, add-rule}
 use Rattle.entry.specs.Entry.{answer-of, Numbered}
@@ -101,9 +101,9 @@ module _ {text : List ℕ} {at : ℕ} {ss table : List ℕ} (r : Ready text at s
           rule-is : record { number = n; plan = p; pattern = take m w′ } ≡ here .rule
           rule-is = same-rule (here .rule) n p (take m w′) (values .0) (values .1) pattern-is
 
-          module _ (witness : List ℕ) (long : witness-length ≤ length witness) (y : Entry) (after witness′ : List ℕ) (did : Enter ss n p (take m w′) table witness (answer-of y) after witness′) (numbered : Numbered y) where
-            number-is : entry-refusal (r .sig) (here .rule .number) (here .rule .pattern) (r .held) ≡ answer-of y .number
-            number-is = ap₂ (λ i ws. entry-refusal (r .sig) i ws (r .held)) (values .0) (sym pattern-is) ∙ entry-number ss (r .sig) (r .lawful) table (r .held) (r .in-force) n p (take m w′) witness long (answer-of y) after witness′ did
+          module _ (witness : List ℕ) (long : witness-length ≤ length witness) (y : Entry) (after witness′ : List ℕ) (did : Enter limits ss n p (take m w′) table witness (answer-of y) after witness′) (numbered : Numbered y) where
+            number-is : entry-refusal limits (r .sig) (here .rule .number) (here .rule .pattern) (r .held) ≡ answer-of y .number
+            number-is = ap₂ (λ i ws. entry-refusal limits (r .sig) i ws (r .held)) (values .0) (sym pattern-is) ∙ entry-number ss (r .sig) (r .lawful) table (r .held) (r .in-force) n p (take m w′) witness long (answer-of y) after witness′ did
 
             pub rule-refused : (y ≡ entry.Entered → ⊥) → printed text ≡ print-refused (answer-of y .number)
             rule-refused f = refused (r .going) here (answer-of y .number) number-is (not-0 y numbered f)
@@ -143,9 +143,9 @@ module _ {text : List ℕ} {at : ℕ} {ss table : List ℕ} (r : Ready text at s
           book-is : take n w′ ≡ r .going .book
           book-is = list-first key-book (drop at text) (r .going .book) (length (drop at text)) (last .line .line) w w′ n count-is (subst (λ z. LineFilled (list-line key-book z) w w′) t-is filled)
 
-          module _ (number : ℕ) (a : Answer) (did : DecideCall ss table (take n w′) number a) where
-            shown : DecideCall ss table (r .going .book) number a
-            shown = subst (λ z. DecideCall ss table z number a) book-is did
+          module _ (number : ℕ) (a : Answer) (did : DecideCall limits ss table (take n w′) number a) where
+            shown : DecideCall limits ss table (r .going .book) number a
+            shown = subst (λ z. DecideCall limits ss table z number a) book-is did
 
             pub book-refused : 1 ≤ number → printed text ≡ print-refused number
             book-refused h = last .prints ∙ not-decided ss (r .sig) (r .lawful) table (r .held) (r .in-force) (r .going .book) number a shown h
@@ -180,7 +180,7 @@ module _ (text : List ℕ) (keeps : true ≡ is-some (read-text text)) where
         pub sig-refused : false ≡ is-some (read-signature (take n w′)) → printed text ≡ print-refused 1
         sig-refused z = unlawful text whole read (missing (read-signature (whole .sig-words)) (z ∙ ap (λ v. is-some (read-signature v)) sig-is))
 
-        pub sig-ready : true ≡ is-some (read-signature (take n w′)) → (lent after : List ℕ) (number : ℕ) → table-length ≤ length lent → Empty lent number after → Ready text u (take n w′) after
+        pub sig-ready : true ≡ is-some (read-signature (take n w′)) → (lent after : List ℕ) (number : ℕ) → table-length limits ≤ length lent → Empty limits lent number after → Ready text u (take n w′) after
         sig-ready z lent after number long did =
             let (sig, lawful) = found (read-signature (take n w′)) z in
             record {

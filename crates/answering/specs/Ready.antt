@@ -6,6 +6,7 @@ use Prim.Native.Nat.{ℕ, _≤_}
 use lib.ListN.{length, drop}
 use Rattle.signature.specs.Read.{read-signature}
 use Rattle.signature.specs.Signature.{Signature}
+use Rattle.table.specs.Limits.{limits}
 use Rattle.table.specs.Rule.{Rule}
 use Rattle.table.specs.Sound.{sound}
 use Rattle.text.specs.Print.{printed, print-entered, enter-all}
@@ -23,6 +24,6 @@ pub record Ready (text : List ℕ) (at : ℕ) (ss table : List ℕ) : Type 0 whe
   pub sig : Signature
   pub lawful : read-signature ss ≡ some sig
   pub held : List Rule
-  pub in-force : sound sig table ≡ some held
+  pub in-force : sound limits sig table ≡ some held
   pub within : at ≤ length text
   pub going : Going text sig (drop at text) held

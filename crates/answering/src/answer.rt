@@ -17,7 +17,7 @@ ghost use mathlib.Core.Path.{_≡_};
 ghost use Prim.Native.Nat.{_≤_};
 ghost use lib.ListN.{length};
 ghost use Rattle.signature.specs.Decoded.{decoded-length};
-ghost use Rattle.table.specs.Limits.{table-length, witness-length};
+ghost use Rattle.table.specs.Limits.{limits, table-length, witness-length};
 ghost use Rattle.text.specs.Limits.{list-limit};
 ghost use Rattle.text.specs.Print.{printed};
 ghost use Rattle.printing.specs.Printed.{print-limit, Printed};
@@ -32,7 +32,7 @@ fn answer_in(
     witness: &mut [u16],
     out: &mut [u8],
 ) -> usize
-    requires { ⌜ (list-limit ≤ length (now words)) × (length (now decoded) ≡ decoded-length) × (table-length ≤ length (now table)) × (list-limit ≤ length (now space)) × (witness-length ≤ length (now witness)) × (print-limit ≤ length (now out)) ⌝ }
+    requires { ⌜ (list-limit ≤ length (now words)) × (length (now decoded) ≡ decoded-length) × (table-length limits ≤ length (now table)) × (list-limit ≤ length (now space)) × (witness-length ≤ length (now witness)) × (print-limit ≤ length (now out)) ⌝ }
     ensures { λ r. ⌜ Printed (printed (now (text .entry))) r (now (out .entry)) (now (out .exit)) ⌝ }
 {
     if !keeps_format(text) {

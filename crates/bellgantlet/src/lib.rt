@@ -7,6 +7,7 @@ use entry::sound::Entry;
 use run::leaf::VARIABLES;
 use run::run;
 ghost use Rattle.tree.specs.RunCall.{RunCall};
+ghost use Rattle.table.specs.Limits.{limits};
 ghost use Rattle.table.specs.Calls.{Empty, Enter, Withdraw, Compile, DecideCall};
 ghost use Rattle.bellgantlet.specs.Answers.{entered-of, answer-of, PartCall};
 
@@ -45,7 +46,7 @@ pub struct Part {
 
 #[no_mangle]
 pub extern "C" fn bellgantlet_empty(table: &mut [u16]) -> u16
-    ensures { λ r. ⌜ Empty (now (table .entry)) r (now (table .exit)) ⌝ }
+    ensures { λ r. ⌜ Empty limits (now (table .entry)) r (now (table .exit)) ⌝ }
 {
     empty(table)
 }
@@ -59,7 +60,7 @@ pub extern "C" fn bellgantlet_enter(
     table: &mut [u16],
     witness: &mut [u16],
 ) -> Entered
-    ensures { λ r. ⌜ Enter (now (signature .entry)) number plan (now (pattern .entry)) (now (table .entry)) (now (witness .entry)) (entered-of r) (now (table .exit)) (now (witness .exit)) ⌝ }
+    ensures { λ r. ⌜ Enter limits (now (signature .entry)) number plan (now (pattern .entry)) (now (table .entry)) (now (witness .entry)) (entered-of r) (now (table .exit)) (now (witness .exit)) ⌝ }
 {
     let e = enter(signature, number, plan, pattern, table, witness);
     match e {
@@ -83,14 +84,14 @@ pub extern "C" fn bellgantlet_enter(
 
 #[no_mangle]
 pub extern "C" fn bellgantlet_withdraw(signature: &[u16], number: u16, table: &mut [u16]) -> u16
-    ensures { λ r. ⌜ Withdraw (now (signature .entry)) number (now (table .entry)) r (now (table .exit)) ⌝ }
+    ensures { λ r. ⌜ Withdraw limits (now (signature .entry)) number (now (table .entry)) r (now (table .exit)) ⌝ }
 {
     withdrawing::withdraw(signature, number, table)
 }
 
 #[no_mangle]
 pub extern "C" fn bellgantlet_compile(signature: &[u16], table: &[u16], space: &mut [u16]) -> Tree
-    ensures { λ r. ⌜ Compile (now (signature .entry)) (now (table .entry)) (now (space .entry)) (r .number) (r .length) (now (space .exit)) ⌝ }
+    ensures { λ r. ⌜ Compile limits (now (signature .entry)) (now (table .entry)) (now (space .entry)) (r .number) (r .length) (now (space .exit)) ⌝ }
 {
     let c = compile(signature, table, space);
     Tree {
@@ -101,7 +102,7 @@ pub extern "C" fn bellgantlet_compile(signature: &[u16], table: &[u16], space: &
 
 #[no_mangle]
 pub extern "C" fn bellgantlet_decide(signature: &[u16], table: &[u16], booking: &[u16]) -> Answer
-    ensures { λ r. ⌜ DecideCall (now (signature .entry)) (now (table .entry)) (now (booking .entry)) (r .number) (answer-of r) ⌝ }
+    ensures { λ r. ⌜ DecideCall limits (now (signature .entry)) (now (table .entry)) (now (booking .entry)) (r .number) (answer-of r) ⌝ }
 {
     let a = decide(signature, table, booking);
     let places = a.places;

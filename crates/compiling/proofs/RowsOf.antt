@@ -26,7 +26,7 @@ use Rattle.cell.specs.Coded.{kinds-of, code}
 use Rattle.cell.specs.RowList.{entries}
 use Rattle.overlap.proofs.Laws.{first-kind}
 use Rattle.tree.specs.Tree.{Line}
-use Rattle.table.specs.Limits.{weight-limit}
+use Rattle.table.specs.Limits.{limits}
 use Rattle.table.specs.Matrix.{lines, lines-by}
 use Rattle.table.specs.Rule.{Rule, total-weight}
 use Rattle.table.specs.Sound.{no-shared}
@@ -81,4 +81,4 @@ module _ {t : List ℕ} (g : Known t) where
       all-append (passed-fit r (passed-of (g .sig) (r .pattern) (eqb-eq (refusal-of-pattern (g .sig) (r .pattern)) 0 (and-left a b e)))) (all-fit rs (and-right a b e))
 
   pub rows-are-fit : (rs : List Rule) → tests (g .sig) rs ≡ true → All (Fit (g .sig) t) (rows-all (g .sig) rs)
-  rows-are-fit rs e = all-fit rs (first-of (all (λ r. eqb (refusal-of-pattern (g .sig) (r .pattern)) 0) rs) (leb (total-weight (g .sig) rs) weight-limit) (no-shared (g .sig) rs) e)
+  rows-are-fit rs e = all-fit rs (first-of (all (λ r. eqb (refusal-of-pattern (g .sig) (r .pattern)) 0) rs) (leb (total-weight (g .sig) rs) (limits .weight)) (no-shared (g .sig) rs) e)

@@ -12,7 +12,7 @@ use Rattle.tree.specs.Tree.{Line, Tree, compile}
 use Rattle.tree.specs.Words.{words, layout}
 use Rattle.tree.proofs.RunFacts.{length-layout}
 use Rattle.table.specs.Calls.{too-large}
-use Rattle.table.specs.Limits.{visit-bound, weight-limit}
+use Rattle.table.specs.Limits.{limits, visit-bound}
 use Rattle.table.specs.Matrix.{tree, tree-words}
 use Rattle.table.specs.Rule.{total-weight}
 use Rattle.store.specs.Laid.{Holds}
@@ -80,13 +80,13 @@ treed T ts space w space′ e f h = rw (f, h, ← e) (told T space)
 -- ---- the rows of the rules
 
 module _ {t table lists : List ℕ} (g : InTable t table lists) where
-  holds : Holds table (g .rs)
+  holds : Holds limits table (g .rs)
   holds = sound-holds (g .known .sig) table (g .rs) (g .is-sound) .0
 
   good : tests (g .known .sig) (g .rs) ≡ true
   good = sound-holds (g .known .sig) table (g .rs) (g .is-sound) .1
 
-  light : total-weight (g .known .sig) (g .rs) ≤ weight-limit
+  light : total-weight (g .known .sig) (g .rs) ≤ limits .weight
   light = tests-light (g .known .sig) (g .rs) good
 
   pub few : length (rows-all (g .known .sig) (g .rs)) ≤ row-limit

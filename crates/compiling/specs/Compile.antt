@@ -6,6 +6,7 @@ use mathlib.Core.Bool.{cond}
 use Prim.Native.Nat.{ℕ}
 use lib.ListN.{length, drop}
 use Rattle.signature.specs.Decoded.{Known}
+use Rattle.table.specs.Limits.{limits}
 use Rattle.table.specs.Calls.{too-large}
 use Rattle.table.specs.Rule.{Rule}
 use Rattle.table.specs.Sound.{sound}
@@ -15,7 +16,7 @@ use Rattle.loading.specs.Load.{Ready}
 pub record InTable (t table lists : List ℕ) : Type 0 where
   pub known : Known t
   pub rs : List Rule
-  pub is-sound : sound (known .sig) table ≡ some rs
+  pub is-sound : sound limits (known .sig) table ≡ some rs
   pub used : ℕ
   pub total : ℕ
   pub ready : Ready (known .sig) rs used total lists

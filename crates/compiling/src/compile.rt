@@ -17,6 +17,7 @@ ghost use Rattle.signature.specs.Decoded.{decoded-length};
 ghost use Rattle.loading.specs.Add.{rows-room};
 ghost use Rattle.opening.specs.Open.{OpenedAs};
 ghost use Rattle.tree.specs.Limits.{default-plan};
+ghost use Rattle.table.specs.Limits.{limits};
 ghost use Rattle.table.specs.Calls.{Compile, long-table};
 ghost use Rattle.table.specs.Matrix.{tree-words};
 ghost use Rattle.compiling.specs.Compile.{InTable, TreeIn};
@@ -30,7 +31,7 @@ pub struct Compiled {
 // Opens the table. The workspace is free again behind it, so that it does not add to the writer's.
 fn open_table(ss: &[u16], table: &[u16], t: &mut [u16], lists: &mut [u64]) -> Opened
     requires { ⌜ (length (now t) ≡ decoded-length) × (rows-room ≤ length (now lists)) ⌝ }
-    ensures { λ o. ⌜ OpenedAs (now (ss .entry)) (long-table (now (table .entry))) (now (table .entry)) o (now (t .exit)) (now (lists .exit)) ⌝ }
+    ensures { λ o. ⌜ OpenedAs (now (ss .entry)) (long-table limits (now (table .entry))) (now (table .entry)) o (now (t .exit)) (now (lists .exit)) ⌝ }
 {
     let mut work = [0u64; ROW_ROOM];
     let long = table.len() >= TABLE;
@@ -67,7 +68,7 @@ fn compile_in(
     lists: &mut [u64],
 ) -> Compiled
     requires { ⌜ (length (now t) ≡ decoded-length) × (rows-room ≤ length (now lists)) ⌝ }
-    ensures { λ r. ⌜ Compile (now (ss .entry)) (now (table .entry)) (now (space .entry)) (r .number) (r .len) (now (space .exit)) ⌝ }
+    ensures { λ r. ⌜ Compile limits (now (ss .entry)) (now (table .entry)) (now (space .entry)) (r .number) (r .len) (now (space .exit)) ⌝ }
 {
     let o = open_table(ss, table, t, lists);
     match o {
@@ -77,7 +78,7 @@ fn compile_in(
 }
 
 pub fn compile(ss: &[u16], table: &[u16], space: &mut [u16]) -> Compiled
-    ensures { λ r. ⌜ Compile (now (ss .entry)) (now (table .entry)) (now (space .entry)) (r .number) (r .len) (now (space .exit)) ⌝ }
+    ensures { λ r. ⌜ Compile limits (now (ss .entry)) (now (table .entry)) (now (space .entry)) (r .number) (r .len) (now (space .exit)) ⌝ }
 {
     let mut t = [0u16; DECODED];
     let mut lists = [0u64; ROWS_ROOM];

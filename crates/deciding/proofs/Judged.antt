@@ -21,7 +21,7 @@ use Rattle.row.proofs.PassedFacts.{passed-of}
 use Rattle.tree.specs.Answer.{Answer, no-rule}
 use Rattle.tree.specs.Limits.{default-plan}
 use Rattle.table.specs.Decide.{direct, answer-by, or-none}
-use Rattle.table.specs.Limits.{table-length, rule-limit}
+use Rattle.table.specs.Limits.{limits, table-length}
 use Rattle.table.specs.Rule.{Rule}
 use Rattle.store.specs.Laid.{Holds}
 use Rattle.store.specs.Place.{Walked, Step}
@@ -54,13 +54,13 @@ by-fit {table = table} {at = at} g places f =
     ap (λ z. (0, record { rule = getD table at 0; plan = getD table (at + 1) 0; places = z })) (f (g .asked) (q .0) (q .1) ∙ sym (ap places-by (q .1)))
 
 module _ {t table bs : List ℕ} (g : Judging t table bs) where
-  holds : Holds table (g .rs)
+  holds : Holds limits table (g .rs)
   holds = sound-holds (g .known .sig) table (g .rs) (g .is-sound) .0
 
   good : tests (g .known .sig) (g .rs) ≡ true
   good = sound-holds (g .known .sig) table (g .rs) (g .is-sound) .1
 
-  pub long : table-length ≤ length table
+  pub long : table-length limits ≤ length table
   long = holds .long
 
   count-is : getD table 0 0 ≡ length (g .rs)
@@ -84,10 +84,10 @@ module _ {t table bs : List ℕ} (g : Judging t table bs) where
       abbrev step : Step table (g .rs) (l .before) (l .after) i at
       step = walk-step (g .rs) (l .before) (l .after) i at holds (l .walked) (omega (arith, e, count-is))
 
-      pub end-le : at + 3 + getD table (at + 2) 0 ≤ table-length
+      pub end-le : at + 3 + getD table (at + 2) 0 ≤ (table-length limits)
       end-le = omega (arith, step .reads .length-is, step .reads .within)
 
-      pub few : i < rule-limit
+      pub few : i < limits .rules
       few = omega (arith, e, count-is, holds .few)
 
       abbrev words : List ℕ

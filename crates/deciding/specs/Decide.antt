@@ -12,6 +12,7 @@ use Rattle.pattern.specs.Decide.{Out, decide, is-fit, fit, fail}
 use Rattle.pattern.specs.Places.{bind-all, unbound}
 use Rattle.matching.specs.Asked.{Asked}
 use Rattle.tree.specs.Answer.{Answer}
+use Rattle.table.specs.Limits.{limits}
 use Rattle.table.specs.Rule.{Rule}
 use Rattle.table.specs.Sound.{sound}
 
@@ -19,7 +20,7 @@ use Rattle.table.specs.Sound.{sound}
 pub record Judging (t table bs : List ℕ) : Type 0 where
   pub known : Known t
   pub rs : List Rule
-  pub is-sound : sound (known .sig) table ≡ some rs
+  pub is-sound : sound limits (known .sig) table ≡ some rs
   pub value : Value
   pub booked : read-booking (known .sig) bs ≡ some value
 

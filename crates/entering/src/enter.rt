@@ -9,6 +9,7 @@ use signature::decoded::DECODED;
 use store::layout::TABLE;
 ghost use mathlib.Core.Path.{_≡_};
 ghost use mathlib.Core.Bool.{_&&_};
+ghost use Rattle.table.specs.Limits.{limits};
 ghost use Rattle.table.specs.Calls.{Enter, long-table, long-witness};
 ghost use Rattle.entry.specs.Entry.{answer-of, Numbered};
 
@@ -17,7 +18,7 @@ pub const WITNESS: usize = 4096;
 
 // Whether refusal 2 does not apply.
 fn long_enough(table: &[u16], witness: &[u16]) -> bool
-    ensures { λ r. ⌜ r ≡ (long-table (now (table .entry)) && long-witness (now (witness .entry))) ⌝ }
+    ensures { λ r. ⌜ r ≡ (long-table limits (now (table .entry)) && long-witness (now (witness .entry))) ⌝ }
 {
     if table.len() < TABLE {
         return false;
@@ -33,7 +34,7 @@ pub fn enter(
     table: &mut [u16],
     witness: &mut [u16],
 ) -> Entry
-    ensures { λ r. ⌜ Enter (now (ss .entry)) number plan (now (pattern .entry)) (now (table .entry)) (now (witness .entry)) (answer-of r) (now (table .exit)) (now (witness .exit)) ⌝ }
+    ensures { λ r. ⌜ Enter limits (now (ss .entry)) number plan (now (pattern .entry)) (now (table .entry)) (now (witness .entry)) (answer-of r) (now (table .exit)) (now (witness .exit)) ⌝ }
     ensures { λ r. ⌜ Numbered r ⌝ }
 {
     let long = long_enough(table, witness);

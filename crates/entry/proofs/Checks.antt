@@ -24,7 +24,7 @@ use Rattle.row.specs.Overlap.{shares, ambiguous-plus}
 use Rattle.row.proofs.PassedFacts.{passed-of}
 use Rattle.cell.proofs.Walk.{back}
 use Rattle.tree.specs.Limits.{last-number}
-use Rattle.table.specs.Limits.{weight-limit, rule-limit}
+use Rattle.table.specs.Limits.{limits}
 use Rattle.table.specs.Refusals.{entry-refusal}
 use Rattle.table.specs.Rule.{Rule, held, total-weight}
 use Rattle.table.proofs.SoundFacts.{sound-valid}
@@ -95,10 +95,10 @@ own-number : (x later : ℕ) → 1 ≤ x → cond (not (eqb x 0)) x later ≡ x
 own-number x later h = ap (λ b. cond (not b) x later) (eqb-no x 0 (λ e. omega (arith, e, h)))
 
 module _ {t table : List ℕ} {used total : ℕ} {rows : List ℕ} {m : ℕ} (g : GivenCheck t table used total rows m) where
-  pub holds : Holds table (g .rs)
+  pub holds : Holds limits table (g .rs)
   holds = sound-holds (g .known .sig) table (g .rs) (g .is-sound)
 
-  light : total ≤ weight-limit
+  light : total ≤ limits .weight
   light = omega (arith, g .ready .total-is, sound-valid (g .known .sig) (g .known .signed) table (g .rs) (g .is-sound) .0 .light)
 
   used-room : used + 1 + row-room ≤ length rows
@@ -124,16 +124,16 @@ module _ {t table : List ℕ} {used total : ℕ} {rows : List ℕ} {m : ℕ} (g 
 
   module _ (n : ℕ) (ws : List ℕ) where
     abbrev later : ℕ
-    later = cond (leb rule-limit (length (g .rs)) || ltb weight-limit (weight (g .known .sig) ws + total-weight (g .known .sig) (g .rs))) 11 (cond (any (λ r. shares (g .known .sig) ws (r .pattern)) (g .rs)) 12 0)
+    later = cond (leb (limits .rules) (length (g .rs)) || ltb (limits .weight) (weight (g .known .sig) ws + total-weight (g .known .sig) (g .rs))) 11 (cond (any (λ r. shares (g .known .sig) ws (r .pattern)) (g .rs)) 12 0)
 
     abbrev after-number : ℕ
     after-number = cond (not (eqb (refusal-of-pattern (g .known .sig) ws) 0)) (refusal-of-pattern (g .known .sig) ws) later
 
-    module _ (s : Checked) (said : (rs : List Rule) → Holds table rs → FreeFor n rs s) where
+    module _ (s : Checked) (said : (rs : List Rule) → Holds limits table rs → FreeFor n rs s) where
       pub bad-number : (q : ℕ) → s ≡ Refused q → CheckedAs (g .known .sig) (g .rs) n ws used total (Refused q) rows
       bad-number q e = let f = subst (FreeFor n (g .rs)) e (said (g .rs) holds) in (f .0, f .1, f .2 after-number)
 
-    module _ (s : Checked) (said : (rs : List Rule) → Holds table rs → FreeFor n rs s) (at : ℕ) (s-is : s ≡ Free at) (n' m' : ℕ) (n'-is : n' ≡ length rows - used) (m'-is : m' ≡ m) (r : Admission) (gave : (q : GivenWords t n' m') → r ≡ admission-of (q .known .sig) ws) where
+    module _ (s : Checked) (said : (rs : List Rule) → Holds limits table rs → FreeFor n rs s) (at : ℕ) (s-is : s ≡ Free at) (n' m' : ℕ) (n'-is : n' ≡ length rows - used) (m'-is : m' ≡ m) (r : Admission) (gave : (q : GivenWords t n' m') → r ≡ admission-of (q .known .sig) ws) where
       told : Tells (g .known .sig) ws r
       unfolding words-given
       told = subst (Tells (g .known .sig) ws) (sym (gave (words-given n' m' n'-is m'-is))) (tells (g .known .sig) ws)
@@ -141,7 +141,7 @@ module _ {t table : List ℕ} {used total : ℕ} {rows : List ℕ} {m : ℕ} (g 
       f : FreeFor n (g .rs) (Free at)
       f = subst (FreeFor n (g .rs)) s-is (said (g .rs) holds)
 
-      start : entry-refusal (g .known .sig) n ws (g .rs) ≡ after-number
+      start : entry-refusal limits (g .known .sig) n ws (g .rs) ≡ after-number
       start = not-held n (g .rs) (f .0) (f .1) at (f .2) after-number
 
       pub bad-pattern : (q : ℕ) → r ≡ Barred q → CheckedAs (g .known .sig) (g .rs) n ws used total (Refused q) rows
@@ -153,30 +153,30 @@ module _ {t table : List ℕ} {used total : ℕ} {rows : List ℕ} {m : ℕ} (g 
         so : (refusal-of-pattern (g .known .sig) ws ≡ 0) × (w ≡ weight (g .known .sig) ws)
         so = subst (Tells (g .known .sig) ws) e told
 
-        pub sum-small : total + w ≤ weight-limit + part-weight-limit
+        pub sum-small : total + w ≤ limits .weight + part-weight-limit
         sum-small =
             let p = passed-of (g .known .sig) ws (so .0) in
             omega (arith, so .1, ap weight-by (p .read), light-weight plus (p .pat) (p .light), light)
 
-        good : entry-refusal (g .known .sig) n ws (g .rs) ≡ later
+        good : entry-refusal limits (g .known .sig) n ws (g .rs) ≡ later
         good = start ∙ ap (λ q. cond (not (eqb q 0)) q later) (so .0)
 
-        pub full : rule-limit ≤ getD table 0 0 → CheckedAs (g .known .sig) (g .rs) n ws used total (Refused 11) rows
-        full h = (omega arith, omega arith, good ∙ ap (λ b. cond (b || ltb weight-limit (weight (g .known .sig) ws + total-weight (g .known .sig) (g .rs))) 11 (cond (any (λ r. shares (g .known .sig) ws (r .pattern)) (g .rs)) 12 0)) (leb-yes rule-limit (length (g .rs)) (omega (arith, h, count-is holds))))
+        pub full : (limits .rules) ≤ getD table 0 0 → CheckedAs (g .known .sig) (g .rs) n ws used total (Refused 11) rows
+        full h = (omega arith, omega arith, good ∙ ap (λ b. cond (b || ltb (limits .weight) (weight (g .known .sig) ws + total-weight (g .known .sig) (g .rs))) 11 (cond (any (λ r. shares (g .known .sig) ws (r .pattern)) (g .rs)) 12 0)) (leb-yes (limits .rules) (length (g .rs)) (omega (arith, h, count-is holds))))
 
-        pub heavy : weight-limit < total + w → CheckedAs (g .known .sig) (g .rs) n ws used total (Refused 11) rows
+        pub heavy : (limits .weight) < total + w → CheckedAs (g .known .sig) (g .rs) n ws used total (Refused 11) rows
         heavy h = (
           omega arith,
           omega arith,
           good
-              ∙ ap (λ b. cond (leb rule-limit (length (g .rs)) || b) 11 (cond (any (λ r. shares (g .known .sig) ws (r .pattern)) (g .rs)) 12 0)) (ltb-yes weight-limit (weight (g .known .sig) ws + total-weight (g .known .sig) (g .rs)) (omega (arith, h, so .1, g .ready .total-is)))
-              ∙ ap (λ b. cond b 11 (cond (any (λ r. shares (g .known .sig) ws (r .pattern)) (g .rs)) 12 0)) (or-true (leb rule-limit (length (g .rs)))),
+              ∙ ap (λ b. cond (leb (limits .rules) (length (g .rs)) || b) 11 (cond (any (λ r. shares (g .known .sig) ws (r .pattern)) (g .rs)) 12 0)) (ltb-yes (limits .weight) (weight (g .known .sig) ws + total-weight (g .known .sig) (g .rs)) (omega (arith, h, so .1, g .ready .total-is)))
+              ∙ ap (λ b. cond b 11 (cond (any (λ r. shares (g .known .sig) ws (r .pattern)) (g .rs)) 12 0)) (or-true (leb (limits .rules) (length (g .rs)))),
         )
 
-        pub clear : getD table 0 0 < rule-limit → total + w ≤ weight-limit → (ys : List ℕ) → CheckedAs (g .known .sig) (g .rs) n ws used total (Free at) (back rows used ys)
+        pub clear : getD table 0 0 < limits .rules → total + w ≤ limits .weight → (ys : List ℕ) → CheckedAs (g .known .sig) (g .rs) n ws used total (Free at) (back rows used ys)
         clear h k ys =
-            let few : length (g .rs) < rule-limit = omega (arith, h, count-is holds) in
-            let a = leb-no rule-limit (length (g .rs)) few in
-            let b = ltb-no weight-limit (weight (g .known .sig) ws + total-weight (g .known .sig) (g .rs)) (omega (arith, k, so .1, g .ready .total-is)) in
+            let few : length (g .rs) < limits .rules = omega (arith, h, count-is holds) in
+            let a = leb-no (limits .rules) (length (g .rs)) few in
+            let b = ltb-no (limits .weight) (weight (g .known .sig) ws + total-weight (g .known .sig) (g .rs)) (omega (arith, k, so .1, g .ready .total-is)) in
             let c : later ≡ cond (any (λ r. shares (g .known .sig) ws (r .pattern)) (g .rs)) 12 0 = rw (a, b) in
             (record { free = f .2; passed = so .0; few = few; refusal-is = good ∙ c }, ready-kept ys)

@@ -14,6 +14,7 @@ use Rattle.row.proofs.PassedFacts.{passed-of, short-of}
 use Rattle.cell.specs.Coded.{kinds-of}
 use Rattle.cell.specs.RowList.{list-code}
 use Rattle.cell.proofs.Walk.{from-is}
+use Rattle.table.specs.Limits.{limits}
 use Rattle.table.specs.Refusals.{entry-refusal}
 use Rattle.table.specs.Rule.{add-rule, stored}
 use Rattle.table.proofs.SoundFacts.{sound-valid}
@@ -106,22 +107,22 @@ module _ {t table : List ℕ} {n : ℕ} {ws : List ℕ} {at used : ℕ} {rows : 
       pub shared : 0 < s .length → EntryOf (g .known .sig) (g .rs) n plan ws table witness (answer-of (Shares (s .rule) (s .length))) table witness′
       shared h =
           let (e, w) = said .one-shares (omega (arith, h)) in
-          let z : entry-refusal (g .known .sig) n ws (g .rs) ≡ 12 = g .cleared .refusal-is ∙ ap (λ b. cond b 12 0) e in
+          let z : entry-refusal limits (g .known .sig) n ws (g .rs) ≡ 12 = g .cleared .refusal-is ∙ ap (λ b. cond b 12 0) e in
           record {
             number-is = sym z;
-            table-is = sym (ap (λ q. cond (eqb q 0) (stored (add-rule (record { number = n; plan = plan; pattern = ws }) (g .rs)) table) table) z);
+            table-is = sym (ap (λ q. cond (eqb q 0) (stored limits (add-rule (record { number = n; plan = plan; pattern = ws }) (g .rs)) table) table) z);
             not-12 = λ f. absurd (f refl);
             on-12 = λ x. w;
           }
 
-      pub entered : s .length ≤ 0 → (after : List ℕ) → ((q : GivenPut table at n ws) → after ≡ stored (add-rule (record { number = n; plan = plan; pattern = ws }) (q .rs)) table) → EntryOf (g .known .sig) (g .rs) n plan ws table witness (answer-of Entered) after witness′
+      pub entered : s .length ≤ 0 → (after : List ℕ) → ((q : GivenPut table at n ws) → after ≡ stored limits (add-rule (record { number = n; plan = plan; pattern = ws }) (q .rs)) table) → EntryOf (g .known .sig) (g .rs) n plan ws table witness (answer-of Entered) after witness′
       unfolding put-given
       entered h after did =
           let (e, u, w) = said .none-shares (omega (arith, h)) in
-          let z : entry-refusal (g .known .sig) n ws (g .rs) ≡ 0 = g .cleared .refusal-is ∙ ap (λ b. cond b 12 0) e in
+          let z : entry-refusal limits (g .known .sig) n ws (g .rs) ≡ 0 = g .cleared .refusal-is ∙ ap (λ b. cond b 12 0) e in
           record {
             number-is = sym z;
-            table-is = did put-given ∙ sym (ap (λ q. cond (eqb q 0) (stored (add-rule (record { number = n; plan = plan; pattern = ws }) (g .rs)) table) table) z);
+            table-is = did put-given ∙ sym (ap (λ q. cond (eqb q 0) (stored limits (add-rule (record { number = n; plan = plan; pattern = ws }) (g .rs)) table) table) z);
             not-12 = λ f. (refl, refl, w);
             on-12 = λ x. absurd (omega (arith, x));
           }

@@ -12,7 +12,7 @@ use Rattle.signature.specs.Signature.{Signature}
 use Rattle.row.specs.Admitted.{refusal-of-pattern}
 use Rattle.row.specs.Overlap.{shares}
 use Rattle.tree.specs.Limits.{last-number}
-use Rattle.table.specs.Limits.{rule-limit}
+use Rattle.table.specs.Limits.{limits}
 use Rattle.table.specs.Refusals.{entry-refusal}
 use Rattle.table.specs.Rule.{Rule, held}
 use Rattle.table.specs.Sound.{sound}
@@ -36,7 +36,7 @@ FreeFor n rs (Free at) = (1 ≤ n) × (n ≤ last-number) × FreeAt n rs at
 pub record GivenCheck (t table : List ℕ) (used total : ℕ) (rows : List ℕ) (m : ℕ) : Type 0 where
   pub known : Known t
   pub rs : List Rule
-  pub is-sound : sound (known .sig) table ≡ some rs
+  pub is-sound : sound limits (known .sig) table ≡ some rs
   pub ready : Ready (known .sig) rs used total rows
   pub room : rows-room ≤ length rows
   pub work-room : row-room ≤ m
@@ -45,10 +45,10 @@ pub record GivenCheck (t table : List ℕ) (used total : ℕ) (rows : List ℕ) 
 pub record Cleared (sig : Signature) (rs : List Rule) (n : ℕ) (ws : List ℕ) (at : ℕ) : Type 0 where
   pub free : FreeAt n rs at
   pub passed : refusal-of-pattern sig ws ≡ 0
-  pub few : length rs < rule-limit
-  pub refusal-is : entry-refusal sig n ws rs ≡ cond (any (λ r. shares sig ws (r .pattern)) rs) 12 0
+  pub few : length rs < limits .rules
+  pub refusal-is : entry-refusal limits sig n ws rs ≡ cond (any (λ r. shares sig ws (r .pattern)) rs) 12 0
 
 -- the first of 4 to 11 that applies; or none does, and the rules' rows are still there
 abbrev pub CheckedAs : Signature → List Rule → ℕ → List ℕ → ℕ → ℕ → Checked → List ℕ → Type 0
-CheckedAs sig rs n ws used total (Refused q) rows = (1 ≤ q) × (q ≤ 11) × (entry-refusal sig n ws rs ≡ q)
+CheckedAs sig rs n ws used total (Refused q) rows = (1 ≤ q) × (q ≤ 11) × (entry-refusal limits sig n ws rs ≡ q)
 CheckedAs sig rs n ws used total (Free at) rows = Cleared sig rs n ws at × Ready sig rs used total rows

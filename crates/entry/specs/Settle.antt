@@ -7,7 +7,7 @@ use lib.ListN.{length}
 use Rattle.signature.specs.Decoded.{Known}
 use Rattle.signature.specs.Signature.{Signature}
 use Rattle.table.specs.Calls.{Entered as Answer, Shows, begin, enter-table}
-use Rattle.table.specs.Limits.{witness-length}
+use Rattle.table.specs.Limits.{limits, witness-length}
 use Rattle.table.specs.Refusals.{entry-refusal}
 use Rattle.table.specs.Rule.{Rule}
 use Rattle.table.specs.Sound.{sound}
@@ -20,7 +20,7 @@ use Rattle.entry.specs.Check.{Cleared}
 pub record GivenSettle (t table : List ℕ) (n : ℕ) (ws : List ℕ) (at used : ℕ) (rows : List ℕ) (m l : ℕ) : Type 0 where
   pub known : Known t
   pub rs : List Rule
-  pub is-sound : sound (known .sig) table ≡ some rs
+  pub is-sound : sound limits (known .sig) table ≡ some rs
   pub total : ℕ
   pub ready : Ready (known .sig) rs used total rows
   pub cleared : Cleared (known .sig) rs n ws at
@@ -30,7 +30,7 @@ pub record GivenSettle (t table : List ℕ) (n : ℕ) (ws : List ℕ) (at used :
 
 -- the relation Enter where the rules in force are known
 pub record EntryOf (sig : Signature) (rs : List Rule) (n plan : ℕ) (ws before witness : List ℕ) (e : Answer) (after witness′ : List ℕ) : Type 0 where
-  pub number-is : e .number ≡ entry-refusal sig n ws rs
-  pub table-is : after ≡ enter-table (begin sig rs) n plan ws before
+  pub number-is : e .number ≡ entry-refusal limits sig n ws rs
+  pub table-is : after ≡ enter-table limits (begin sig rs) n plan ws before
   pub not-12 : (e .number ≡ 12 → ⊥) → (e .sharer ≡ 0) × (e .shown ≡ 0) × (witness′ ≡ witness)
   pub on-12 : e .number ≡ 12 → Shows sig rs ws witness e witness′

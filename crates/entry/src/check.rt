@@ -8,6 +8,7 @@ use store::layout::LAST_NUMBER;
 use store::layout::RULES;
 ghost use mathlib.Core.List.{List};
 ghost use lib.ListN.{length};
+ghost use Rattle.table.specs.Limits.{limits};
 ghost use Rattle.table.specs.Rule.{Rule};
 ghost use Rattle.store.specs.Laid.{Holds};
 ghost use Rattle.entry.specs.Check.{FreeFor, GivenCheck, CheckedAs};
@@ -26,8 +27,8 @@ pub enum Checked {
 
 // 4 and 5: where a rule with this number would go in.
 fn free_at(table: &[u16], number: u16) -> Checked
-    requires { ⌜ ((rs : List Rule) × Holds (now table) rs) ⌝ }
-    ensures { λ r. ⌜ ((rs : List Rule) → Holds (now (table .entry)) rs → FreeFor number rs r) ⌝ }
+    requires { ⌜ ((rs : List Rule) × Holds limits (now table) rs) ⌝ }
+    ensures { λ r. ⌜ ((rs : List Rule) → Holds limits (now (table .entry)) rs → FreeFor number rs r) ⌝ }
 {
     if number < 1 {
         return Checked::Refused(NO_NUMBER);

@@ -18,7 +18,7 @@ use Rattle.cell.proofs.Walk.{word-at}
 use Rattle.path.specs.State.{row-stride}
 use Rattle.path.specs.Wrote.{word-limit}
 use Rattle.writer.specs.Write.{RuleRow, Fit, AllPlaced, Placed}
-use Rattle.table.specs.Limits.{table-length, rule-limit}
+use Rattle.table.specs.Limits.{limits, table-length}
 use Rattle.table.specs.Rule.{Rule}
 use Rattle.store.specs.Place.{Walked, Step}
 use Rattle.store.proofs.LaidFacts.{is-stored}
@@ -39,7 +39,7 @@ same-fit h none-left = none-left
 same-fit h (also a p ps) = also a (h a p) (same-fit h ps)
 
 module _ {t table lists : List ℕ} {room : ℕ} (g : GivenRules t table lists room) where
-  pub long : table-length ≤ length table
+  pub long : table-length limits ≤ length table
   long = g .holds .long
 
   pub count-is : getD table 0 0 ≡ length (g .rs)
@@ -70,10 +70,10 @@ module _ {t table lists : List ℕ} {room : ℕ} (g : GivenRules t table lists r
       abbrev step : Step table (g .rs) (l .before) (l .after) i here
       step = walk-step (g .rs) (l .before) (l .after) i here (g .holds) (l .walked) (omega (arith, e, count-is))
 
-      pub end-le : here + 3 + getD table (here + 2) 0 ≤ table-length
+      pub end-le : here + 3 + getD table (here + 2) 0 ≤ (table-length limits)
       end-le = omega (arith, step .reads .length-is, step .reads .within)
 
-      pub few : i < rule-limit
+      pub few : i < limits .rules
       few = omega (arith, e, count-is, g .holds .few)
 
       abbrev ws : List Row

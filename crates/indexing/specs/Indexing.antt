@@ -13,6 +13,7 @@ use Rattle.cell.specs.RowList.{entries}
 use Rattle.path.specs.State.{row-stride}
 use Rattle.path.specs.Wrote.{word-limit}
 use Rattle.writer.specs.Write.{RuleRow, Fit, Before, Placed, AllPlaced}
+use Rattle.table.specs.Limits.{limits}
 use Rattle.table.specs.Rule.{Rule}
 use Rattle.store.specs.Laid.{Holds}
 use Rattle.loading.specs.Lists.{rows-for, lists-for}
@@ -52,7 +53,7 @@ pub record ListIndexed (sig : Signature) (t a : List ℕ) (ws : List Row) (numbe
 pub record GivenRules (t table lists : List ℕ) (room : ℕ) : Type 0 where
   pub known : Known t
   pub rs : List Rule
-  pub holds : Holds table rs
+  pub holds : Holds limits table rs
   pub rest : List ℕ
   pub code-is : lists ≡ lists-for (known .sig) (patterns rs) ++ rest
   pub near : length (lists-for (known .sig) (patterns rs)) < word-limit

@@ -23,7 +23,7 @@ use Rattle.row.proofs.PassedFacts.{passed-of}
 use Rattle.cell.specs.Coded.{kinds-of}
 use Rattle.cell.specs.RowList.{list-code, from}
 use Rattle.cell.proofs.Walk.{from-is, back, each-append}
-use Rattle.table.specs.Limits.{weight-limit}
+use Rattle.table.specs.Limits.{limits}
 use Rattle.builder.specs.Build.{row-room}
 use Rattle.admission.specs.Admission.{GivenWords, admission-of}
 use Rattle.admission.specs.declared.admit.Admission.{Admission}
@@ -79,12 +79,12 @@ module _ {t : List ℕ} {n used total : ℕ} {rows : List ℕ} {m : ℕ} (g : Gi
       pub few : w ≤ part-weight-limit
       few = omega (arith, weight-is, light-weight plus (passed .pat) (passed .light))
 
-      pub heavy : weight-limit < total + w → goes-with (g .known .sig) (g .wss) ws ≡ false
+      pub heavy : (limits .weight) < total + w → goes-with (g .known .sig) (g .wss) ws ≡ false
       heavy h =
-          let z : leb (weight (g .known .sig) ws + weights (g .known .sig) (g .wss)) weight-limit ≡ false = leb-no (weight (g .known .sig) ws + weights (g .known .sig) (g .wss)) weight-limit (omega (arith, so .1, g .total-is, h)) in
+          let z : leb (weight (g .known .sig) ws + weights (g .known .sig) (g .wss)) (limits .weight) ≡ false = leb-no (weight (g .known .sig) ws + weights (g .known .sig) (g .wss)) (limits .weight) (omega (arith, so .1, g .total-is, h)) in
           rw (so .0, z)
 
-      module _ (fits : total + w ≤ weight-limit) (n'' m'' : ℕ) (n''-is : n'' ≡ length rows) (m''-is : m'' ≡ m) where
+      module _ (fits : total + w ≤ limits .weight) (n'' m'' : ℕ) (n''-is : n'' ≡ length rows) (m''-is : m'' ≡ m) where
         pub place-given : GivenPlace t ws used n'' m''
         place-given = record { known = g .known; p = passed .pat; words = pattern-words (g .known .sig) ws (passed .pat) (passed .read); light = passed .light; room = omega (arith, n''-is, used-le); work-room = omega (arith, m''-is, g .work-room) }
 
@@ -131,8 +131,8 @@ module _ {t : List ℕ} {n used total : ℕ} {rows : List ℕ} {m : ℕ} (g : Gi
             unfolding lists-given
             shared-so = sym (shared lists-given)
 
-            light : leb (weight (g .known .sig) ws + weights (g .known .sig) (g .wss)) weight-limit ≡ true
-            light = leb-yes (weight (g .known .sig) ws + weights (g .known .sig) (g .wss)) weight-limit (omega (arith, so .1, g .total-is, fits))
+            light : leb (weight (g .known .sig) ws + weights (g .known .sig) (g .wss)) (limits .weight) ≡ true
+            light = leb-yes (weight (g .known .sig) ws + weights (g .known .sig) (g .wss)) (limits .weight) (omega (arith, so .1, g .total-is, fits))
 
             goes-so : goes-with (g .known .sig) (g .wss) ws ≡ not b
             goes-so = rw (so .0, light, shared-so)

@@ -9,7 +9,7 @@ use lib.ListN.{length, getD, take, drop, length-append, length-map}
 use Rattle.signature.specs.Lists.{is-some, require, _>>=_}
 use Rattle.signature.specs.Signature.{Signature}
 use Rattle.signature.proofs.Tests.{true≢false, bind-some, require-some, some-inj}
-use Rattle.table.specs.Limits.{table-length, weight-limit, rule-limit}
+use Rattle.table.specs.Limits.{limits, table-length}
 use Rattle.table.specs.Rule.{Rule}
 use Rattle.table.specs.Sound.{sound}
 use Rattle.store.specs.Laid.{laid, Holds}
@@ -33,17 +33,17 @@ was-laid none e = true≢false (sym e)
 was-laid (some rs) e = (rs, refl)
 
 module _ {t table : List ℕ} {n m : ℕ} (g : GivenLoad t table n m) where
-  pub unlaid : (b : Bool) → b ≡ is-some (laid table) → b ≡ false → sound (g .known .sig) table ≡ none
-  unlaid b e h = sound-laid (g .known .sig) table ∙ not-laid (g .known .sig) (laid table) (sym e ∙ h)
+  pub unlaid : (b : Bool) → b ≡ is-some (laid limits table) → b ≡ false → sound limits (g .known .sig) table ≡ none
+  unlaid b e h = sound-laid (g .known .sig) table ∙ not-laid (g .known .sig) (laid limits table) (sym e ∙ h)
 
-  pub the-rules : (b : Bool) → b ≡ is-some (laid table) → b ≡ true → (rs : List Rule) × Holds table rs
-  the-rules b e h = let q = was-laid (laid table) (sym e ∙ h) in (q .0, laid-holds table (q .0) (q .1))
+  pub the-rules : (b : Bool) → b ≡ is-some (laid limits table) → b ≡ true → (rs : List Rule) × Holds limits table rs
+  the-rules b e h = let q = was-laid (laid limits table) (sym e ∙ h) in (q .0, laid-holds table (q .0) (q .1))
 
-module _ {t table : List ℕ} {n m : ℕ} (g : GivenLoad t table n m) (rs : List Rule) (h : Holds table rs) where
+module _ {t table : List ℕ} {n m : ℕ} (g : GivenLoad t table n m) (rs : List Rule) (h : Holds limits table rs) where
   pub count-is : getD table 0 0 ≡ length rs
   count-is = ap (λ z. getD z 0 0) (is-stored h)
 
-  tested : sound (g .known .sig) table ≡ (require (tests (g .known .sig) rs) >>= λ u. some rs)
+  tested : sound limits (g .known .sig) table ≡ (require (tests (g .known .sig) rs) >>= λ u. some rs)
   tested = sound-laid (g .known .sig) table ∙ ap (λ o. o >>= λ qs. require (tests (g .known .sig) qs) >>= λ u. some qs) (holds-laid h)
 
   -- i rules are passed
@@ -68,10 +68,10 @@ module _ {t table : List ℕ} {n m : ℕ} (g : GivenLoad t table n m) (rs : List
       abbrev step : Walks table rs (l .before) (l .after) i at
       step = walk-step rs (l .before) (l .after) i at h (l .walked) (omega (arith, e, count-is))
 
-      pub end-le : at + 3 + getD table (at + 2) 0 ≤ table-length
+      pub end-le : at + 3 + getD table (at + 2) 0 ≤ (table-length limits)
       end-le = omega (arith, step .reads .length-is, step .reads .within)
 
-      pub few : i < rule-limit
+      pub few : i < limits .rules
       few = omega (arith, e, count-is, h .few)
 
       words-are : take (at + 3 + getD table (at + 2) 0 - (at + 3)) (drop (at + 3) table) ≡ step .rule .pattern
@@ -79,7 +79,7 @@ module _ {t table : List ℕ} {n m : ℕ} (g : GivenLoad t table n m) (rs : List
           let z : at + 3 + getD table (at + 2) 0 - (at + 3) ≡ length (step .rule .pattern) = omega (arith, step .reads .length-is) in
           ap (λ z. take z (drop (at + 3) table)) z ∙ step .reads .pattern-is
 
-      light : total ≤ weight-limit
+      light : total ≤ limits .weight
       light = omega (arith, l .ready .total-is, tests-light (g .known .sig) (l .before) (l .good))
 
       many : length (patterns (l .before)) ≡ i
@@ -109,7 +109,7 @@ module _ {t table : List ℕ} {n m : ℕ} (g : GivenLoad t table n m) (rs : List
         rules-are : rs ≡ l .before ++ (step .rule ∷ step .later)
         rules-are = l .walked .are ∙ ap (λ z. l .before ++ z) (step .here)
 
-        pub unsound : s ≡ Unsound → sound (g .known .sig) table ≡ none
+        pub unsound : s ≡ Unsound → sound limits (g .known .sig) table ≡ none
         unsound x =
             let y : goes-with (g .known .sig) (patterns (l .before)) (step .rule .pattern) ≡ false = subst (λ z. Stepped (g .known .sig) (patterns (l .before)) (step .rule .pattern) z rows') x said in
             let z : tests (g .known .sig) rs ≡ false = ap (tests (g .known .sig)) rules-are ∙ tests-none (g .known .sig) (l .before) (step .rule) (step .later) y in
@@ -134,9 +134,9 @@ module _ {t table : List ℕ} {n m : ℕ} (g : GivenLoad t table n m) (rs : List
             }
 
 -- the rules of a sound table are held, and pass the tests
-pub sound-holds : (sig : Signature) (table : List ℕ) (rs : List Rule) → sound sig table ≡ some rs → Holds table rs × (tests sig rs ≡ true)
+pub sound-holds : (sig : Signature) (table : List ℕ) (rs : List Rule) → sound limits sig table ≡ some rs → Holds limits table rs × (tests sig rs ≡ true)
 sound-holds sig table rs e =
-    let (qs, l, f) = bind-some (laid table) (λ qs. require (tests sig qs) >>= λ u. some qs) rs (sym (sound-laid sig table) ∙ e) in
+    let (qs, l, f) = bind-some (laid limits table) (λ qs. require (tests sig qs) >>= λ u. some qs) rs (sym (sound-laid sig table) ∙ e) in
     let (u, q, i) = bind-some (require (tests sig qs)) (λ u. some qs) rs f in
     let same : qs ≡ rs = some-inj qs rs i in
-    (subst (Holds table) same (laid-holds table qs l), subst (λ z. tests sig z ≡ true) same (require-some (tests sig qs) u q))
+    (subst (Holds limits table) same (laid-holds table qs l), subst (λ z. tests sig z ≡ true) same (require-some (tests sig qs) u q))

@@ -12,7 +12,7 @@ use Rattle.signature.proofs.Tests.{eqb-eq, leb-yes, leb-no, true≢false, le-of
 use Rattle.pattern.specs.Weight.{weight}
 use Rattle.row.specs.Admitted.{refusal-of-pattern}
 use Rattle.row.specs.Overlap.{shares}
-use Rattle.table.specs.Limits.{weight-limit}
+use Rattle.table.specs.Limits.{limits}
 use Rattle.table.specs.Rule.{Rule, total-weight}
 use Rattle.table.specs.Sound.{no-shared}
 use Rattle.loading.specs.Add.{weights, goes-with}
@@ -106,28 +106,28 @@ module _ (sig : Signature) where
 
   pub tests-more : (before : List Rule) (r : Rule) → tests sig before ≡ true → goes-with sig (patterns before) (r .pattern) ≡ true → tests sig (before ++ (r ∷ [])) ≡ true
   tests-more before r h e =
-      let t = all-three (all passes before) (leb (total-weight sig before) weight-limit) (no-shared sig before) h in
-      let u = all-three (passes r) (leb (weight sig (r .pattern) + weights sig (patterns before)) weight-limit) (apart-from r before) e in
+      let t = all-three (all passes before) (leb (total-weight sig before) (limits .weight)) (no-shared sig before) h in
+      let u = all-three (passes r) (leb (weight sig (r .pattern) + weights sig (patterns before)) (limits .weight)) (apart-from r before) e in
       three
       (all-more before (r ∷ []) ∙ (rw (t .0, u .0)))
-      (leb-yes (total-weight sig (before ++ (r ∷ []))) weight-limit (omega (arith, weight-more before (r ∷ []), same-weight before, le-of (weight sig (r .pattern) + weights sig (patterns before)) weight-limit (u .1))))
+      (leb-yes (total-weight sig (before ++ (r ∷ []))) (limits .weight) (omega (arith, weight-more before (r ∷ []), same-weight before, le-of (weight sig (r .pattern) + weights sig (patterns before)) (limits .weight) (u .1))))
       (apart-yes before r (t .2) (u .2))
 
   pub tests-none : (before : List Rule) (r : Rule) (later : List Rule) → goes-with sig (patterns before) (r .pattern) ≡ false → tests sig (before ++ (r ∷ later)) ≡ false
   tests-none before r later e =
-      not-three (passes r) (leb (weight sig (r .pattern) + weights sig (patterns before)) weight-limit) (apart-from r before) e
+      not-three (passes r) (leb (weight sig (r .pattern) + weights sig (patterns before)) (limits .weight)) (apart-from r before) e
       (λ h. reached passes before r later h)
-      (λ h. leb-no (total-weight sig (before ++ (r ∷ later))) weight-limit (omega (arith, weight-more before (r ∷ later), same-weight before, lt-of-not (weight sig (r .pattern) + weights sig (patterns before)) weight-limit h)))
+      (λ h. leb-no (total-weight sig (before ++ (r ∷ later))) (limits .weight) (omega (arith, weight-more before (r ∷ later), same-weight before, lt-of-not (weight sig (r .pattern) + weights sig (patterns before)) (limits .weight) h)))
       (λ h. apart-no before r later h)
 
   pub weight-last : (before : List Rule) (r : Rule) → weight sig (r .pattern) + weights sig (patterns before) ≡ total-weight sig (before ++ (r ∷ []))
   weight-last before r = omega (arith, weight-more before (r ∷ []), same-weight before)
 
-  pub tests-light : (rs : List Rule) → tests sig rs ≡ true → total-weight sig rs ≤ weight-limit
-  tests-light rs h = le-of (total-weight sig rs) weight-limit (all-three (all passes rs) (leb (total-weight sig rs) weight-limit) (no-shared sig rs) h .1)
+  pub tests-light : (rs : List Rule) → tests sig rs ≡ true → total-weight sig rs ≤ limits .weight
+  tests-light rs h = le-of (total-weight sig rs) (limits .weight) (all-three (all passes rs) (leb (total-weight sig rs) (limits .weight)) (no-shared sig rs) h .1)
 
   -- each rule of a sound table passes 7 to 10
   pub passed-at : (before : List Rule) (r : Rule) (later : List Rule) → tests sig (before ++ (r ∷ later)) ≡ true → refusal-of-pattern sig (r .pattern) ≡ 0
   passed-at before r later h =
-      let t = all-three (all passes (before ++ (r ∷ later))) (leb (total-weight sig (before ++ (r ∷ later))) weight-limit) (no-shared sig (before ++ (r ∷ later))) h in
+      let t = all-three (all passes (before ++ (r ∷ later))) (leb (total-weight sig (before ++ (r ∷ later))) (limits .weight)) (no-shared sig (before ++ (r ∷ later))) h in
       eqb-eq (refusal-of-pattern sig (r .pattern)) 0 (and-left (passes r) (all passes later) (and-right (all passes before) (all passes (r ∷ later)) (sym (all-more before (r ∷ later)) ∙ t .0)))

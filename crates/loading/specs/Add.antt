@@ -17,7 +17,7 @@ use Rattle.row.specs.Overlap.{shares}
 use Rattle.row.specs.Row.{rows-plus}
 use Rattle.cell.specs.Coded.{kinds-of}
 use Rattle.cell.specs.RowList.{list-code}
-use Rattle.table.specs.Limits.{rule-limit, weight-limit}
+use Rattle.table.specs.Limits.{limits}
 use Rattle.builder.specs.Build.{row-room}
 use Rattle.loading.specs.Lists.{lists-for}
 use Rattle.loading.specs.declared.add.Step.{Step}
@@ -38,7 +38,7 @@ lists-room w n = w * row-words + 2 * n
 
 -- room for all rules of a table, and for one pattern more
 abbrev pub rows-room : ℕ
-rows-room = lists-room weight-limit rule-limit + 1 + row-room
+rows-room = lists-room (limits .weight) (limits .rules) + 1 + row-room
 
 -- a pattern past 7 and 9, and room behind the words that are used
 pub record GivenPlace (t ws : List ℕ) (used n m : ℕ) : Type 0 where
@@ -64,16 +64,16 @@ pub record GivenAdd (t : List ℕ) (n used total : ℕ) (rows : List ℕ) (m : �
   pub code-is : rows ≡ lists-for (known .sig) wss ++ rest
   pub used-is : used ≡ length (lists-for (known .sig) wss)
   pub many : length wss ≡ n
-  pub few : n ≤ rule-limit
+  pub few : n ≤ limits .rules
   pub total-is : total ≡ weights (known .sig) wss
-  pub light : total ≤ weight-limit
+  pub light : total ≤ limits .weight
   pub small : used ≤ lists-room total n
   pub room : rows-room ≤ length rows
   pub work-room : row-room ≤ m
 
 -- a pattern that can go with these: past 7 to 10, not too heavy, and sharing no booking
 abbrev pub goes-with : Signature → List (List ℕ) → List ℕ → Bool
-goes-with sig wss ws = eqb (refusal-of-pattern sig ws) 0 && leb (weight sig ws + weights sig wss) weight-limit && not (any (λ us. shares sig us ws) wss)
+goes-with sig wss ws = eqb (refusal-of-pattern sig ws) 0 && leb (weight sig ws + weights sig wss) (limits .weight) && not (any (λ us. shares sig us ws) wss)
 
 abbrev pub Stepped : Signature → List (List ℕ) → List ℕ → Step → List ℕ → Type 0
 Stepped sig wss ws Unsound rows = goes-with sig wss ws ≡ false

@@ -10,7 +10,7 @@ use Rattle.signature.specs.Decoded.{Known}
 use Rattle.signature.specs.Lists.{all}
 use Rattle.signature.specs.Signature.{Signature}
 use Rattle.row.specs.Admitted.{refusal-of-pattern}
-use Rattle.table.specs.Limits.{table-length, weight-limit}
+use Rattle.table.specs.Limits.{limits, table-length}
 use Rattle.table.specs.Rule.{Rule, total-weight}
 use Rattle.table.specs.Sound.{sound, no-shared}
 use Rattle.builder.specs.Build.{row-room}
@@ -21,7 +21,7 @@ use Rattle.loading.specs.declared.load.Loaded.the-variants.{Sound, Unsou
 
 pub record GivenLoad (t table : List ℕ) (n m : ℕ) : Type 0 where
   pub known : Known t
-  pub long : table-length ≤ length table
+  pub long : table-length limits ≤ length table
   pub room : rows-room ≤ n
   pub work-room : row-room ≤ m
 
@@ -38,9 +38,9 @@ pub record Ready (sig : Signature) (rs : List Rule) (used total : ℕ) (rows : L
   pub small : used ≤ lists-room total (length rs)
 
 abbrev pub LoadedAs : Signature → List ℕ → Loaded → List ℕ → Type 0
-LoadedAs sig table Unsound rows = sound sig table ≡ none
-LoadedAs sig table (Sound used total) rows = (rs : List Rule) × (sound sig table ≡ some rs) × Ready sig rs used total rows
+LoadedAs sig table Unsound rows = sound limits sig table ≡ none
+LoadedAs sig table (Sound used total) rows = (rs : List Rule) × (sound limits sig table ≡ some rs) × Ready sig rs used total rows
 
 -- what a sound table's rules are besides the layout
 abbrev pub tests : Signature → List Rule → Bool
-tests sig rs = all (λ r. eqb (refusal-of-pattern sig (r .pattern)) 0) rs && leb (total-weight sig rs) weight-limit && no-shared sig rs
+tests sig rs = all (λ r. eqb (refusal-of-pattern sig (r .pattern)) 0) rs && leb (total-weight sig rs) (limits .weight) && no-shared sig rs

@@ -7,7 +7,7 @@ use Prim.Native.Nat.{ℕ, _≤_}
 use lib.ListN.{length}
 use Rattle.signature.specs.Decoded.{Known, decoded-length}
 use Rattle.table.specs.Calls.{Start, refused, begin, start}
-use Rattle.table.specs.Limits.{table-length}
+use Rattle.table.specs.Limits.{limits, table-length}
 use Rattle.table.specs.Rule.{Rule}
 use Rattle.table.specs.Sound.{sound}
 use Rattle.builder.specs.Build.{row-room}
@@ -18,7 +18,7 @@ use Rattle.opening.specs.declared.open.Opened.the-variants.{Begun, Refus
 
 pub record GivenOpen (long : Bool) (table : List ℕ) (l n m : ℕ) : Type 0 where
   pub decoded-room : l ≡ decoded-length
-  pub table-long : long ≡ true → table-length ≤ length table
+  pub table-long : long ≡ true → table-length limits ≤ length table
   pub room : rows-room ≤ n
   pub work-room : row-room ≤ m
 
@@ -26,11 +26,11 @@ pub record GivenOpen (long : Bool) (table : List ℕ) (l n m : ℕ) : Type 0 whe
 pub record InForce (ss : List ℕ) (long : Bool) (table : List ℕ) (used total : ℕ) (t rows : List ℕ) : Type 0 where
   pub known : Known t
   pub rs : List Rule
-  pub started : start ss long table ≡ begin (known .sig) rs
+  pub started : start limits ss long table ≡ begin (known .sig) rs
   pub is-long : long ≡ true
-  pub is-sound : sound (known .sig) table ≡ some rs
+  pub is-sound : sound limits (known .sig) table ≡ some rs
   pub ready : Ready (known .sig) rs used total rows
 
 abbrev pub OpenedAs : List ℕ → Bool → List ℕ → Opened → List ℕ → List ℕ → Type 0
-OpenedAs ss long table (Refused n) t rows = start ss long table ≡ refused n
+OpenedAs ss long table (Refused n) t rows = start limits ss long table ≡ refused n
 OpenedAs ss long table (Begun used total) t rows = InForce ss long table used total t rows

@@ -23,7 +23,7 @@ use Rattle.overlap.specs.Laws.{TwoPatterns}
 use Rattle.witness.specs.Lists.{Shown}
 use Rattle.witness.proofs.Laws.{laws}
 use Rattle.table.specs.Calls.{Entered, Shows}
-use Rattle.table.specs.Limits.{table-length, rule-limit}
+use Rattle.table.specs.Limits.{limits, table-length}
 use Rattle.table.specs.Rule.{Rule, Rises, rises-cons}
 use Rattle.table.proofs.Reckoning.{in-above}
 use Rattle.table.proofs.SoundFacts.{sound-table}
@@ -61,10 +61,10 @@ none-any f (s ∷ rs) h = rw (no (f s) (h s in-here), none-any f rs (λ q i. h q
     no false e = refl
 
 module _ {t table rows : List ℕ} {at n : ℕ} (g : GivenSharer t table rows at n) where
-  holds : Holds table (g .rs)
+  holds : Holds limits table (g .rs)
   holds = sound-holds (g .known .sig) table (g .rs) (g .is-sound)
 
-  pub sound-long : table-length ≤ length table
+  pub sound-long : table-length limits ≤ length table
   sound-long = holds .long
 
   passed : (r : Rule) → In r (g .rs) → Passed (g .known .sig) (r .pattern)
@@ -97,10 +97,10 @@ module _ {t table rows : List ℕ} {at n : ℕ} (g : GivenSharer t table rows at
       held : In (step .rule) (g .rs)
       held = subst (In (step .rule)) (sym rules-are) (in-middle (l .before) (step .rule) (step .later))
 
-      pub end-le : place + 3 + getD table (place + 2) 0 ≤ table-length
+      pub end-le : place + 3 + getD table (place + 2) 0 ≤ (table-length limits)
       end-le = omega (arith, step .reads .length-is, step .reads .within)
 
-      pub few : i < rule-limit
+      pub few : i < limits .rules
       few = omega (arith, below, count-is holds, holds .few)
 
       rest : List ℕ

@@ -13,7 +13,7 @@ use Rattle.pattern.specs.Read.{read-pattern}
 use Rattle.row.specs.Overlap.{shares}
 use Rattle.cell.specs.RowList.{from}
 use Rattle.table.specs.Calls.{Shows}
-use Rattle.table.specs.Limits.{witness-length}
+use Rattle.table.specs.Limits.{limits, witness-length}
 use Rattle.table.specs.Rule.{Rule}
 use Rattle.table.specs.Sound.{sound}
 use Rattle.loading.specs.Lists.{list-for, lists-for}
@@ -24,7 +24,7 @@ use Rattle.sharing.specs.declared.first.Sharer.{Sharer}
 pub record GivenSharer (t table rows : List ℕ) (at n : ℕ) : Type 0 where
   pub known : Known t
   pub rs : List Rule
-  pub is-sound : sound (known .sig) table ≡ some rs
+  pub is-sound : sound limits (known .sig) table ≡ some rs
   pub rest : List ℕ
   pub code-is : rows ≡ lists-for (known .sig) (patterns rs) ++ rest
   pub ws : List ℕ

@@ -9,14 +9,14 @@ use Rattle.signature.specs.Lists.{All, none-left, also, In, in-here, in-there}
 use Rattle.signature.proofs.ListFacts.{all-append, all-imp, in-any}
 use Rattle.signature.proofs.Tests.{eqb-self, eqb-no}
 use lib.Dec.{eqb}
-use Rattle.table.specs.Limits.{table-length}
+use Rattle.table.specs.Limits.{limits, table-length}
 use Rattle.table.specs.Rule.{Rule, Rises, rises-nil, rises-cons, rules-words, held}
 use Rattle.store.specs.Laid.{Holds}
 use Rattle.store.specs.Place.{Walked, Step, HeldAt, FreeAt}
 use Rattle.store.proofs.LaidFacts.{is-stored}
 use Rattle.store.proofs.Walk.{walk-start, walk-step, walk-end}
 
-pub count-is : {table : List ℕ} {rs : List Rule} → Holds table rs → getD table 0 0 ≡ length rs
+pub count-is : {table : List ℕ} {rs : List Rule} → Holds limits table rs → getD table 0 0 ≡ length rs
 count-is h = ap (λ (x : List ℕ). getD x 0 0) (is-stored h)
 
 -- ---- the numbers before and behind a rule
@@ -51,8 +51,8 @@ Now rs i at = (before : List Rule) × (after : List Rule) × Walked rs before af
 pub begin : (rs : List Rule) → Now rs 0 1
 begin rs = ([], rs, walk-start rs)
 
-module _ {table : List ℕ} {rs : List Rule} (h : Holds table rs) (i at : ℕ) where
-  pub now-step : Now rs i at → i < getD table 0 0 → (at + 3 + getD table (at + 2) 0 ≤ table-length) × Now rs (i + 1) (at + 3 + getD table (at + 2) 0)
+module _ {table : List ℕ} {rs : List Rule} (h : Holds limits table rs) (i at : ℕ) where
+  pub now-step : Now rs i at → i < getD table 0 0 → (at + 3 + getD table (at + 2) 0 ≤ (table-length limits)) × Now rs (i + 1) (at + 3 + getD table (at + 2) 0)
   now-step (before, after, w) l =
       let s : Step table rs before after i at = walk-step rs before after i at h w (omega (arith, count-is h)) in
       (omega (arith, s .reads .within, s .reads .length-is), (before ++ (s .rule ∷ []), s .later, s .next))
@@ -70,11 +70,11 @@ Seek n rs i at = (before : List Rule) × (after : List Rule) × Walked rs before
 pub seek-begin : (n : ℕ) (rs : List Rule) → Seek n rs 0 1
 seek-begin n rs = ([], rs, walk-start rs, none-left)
 
-module _ {table : List ℕ} {rs : List Rule} (h : Holds table rs) (n i at : ℕ) where
+module _ {table : List ℕ} {rs : List Rule} (h : Holds limits table rs) (n i at : ℕ) where
   seek-rule : (q : Seek n rs i at) → i < getD table 0 0 → Step table rs (q .0) (q .1) i at
   seek-rule (before, after, w, b) l = walk-step rs before after i at h w (omega (arith, count-is h))
 
-  pub seek-within : Seek n rs i at → i < getD table 0 0 → at + 3 + getD table (at + 2) 0 ≤ table-length
+  pub seek-within : Seek n rs i at → i < getD table 0 0 → at + 3 + getD table (at + 2) 0 ≤ (table-length limits)
   seek-within q l = let s = seek-rule q l in omega (arith, s .reads .within, s .reads .length-is)
 
   pub seek-next : Seek n rs i at → i < getD table 0 0 → getD table at 0 < n → Seek n rs (i + 1) (at + 3 + getD table (at + 2) 0)

@@ -12,7 +12,7 @@ use Rattle.signature.specs.Lists.{all, require, split, is-some, _>>=_}
 use Rattle.signature.proofs.Booleans.{and-false}
 use Rattle.signature.proofs.Tests.{eqb-no, ltb-yes, ltb-no, leb-yes, leb-no}
 use Rattle.tree.specs.Limits.{last-number}
-use Rattle.table.specs.Limits.{table-length, rules-length, rule-limit}
+use Rattle.table.specs.Limits.{limits, table-length, rules-length}
 use Rattle.table.specs.Rule.{Rule}
 use Rattle.table.specs.Sound.{read-rules}
 use Rattle.store.specs.Head.{from}
@@ -63,76 +63,76 @@ module _ (n m a b l : ℕ) (ws : List ℕ) where
 
 -- ---- the words of a table
 
-module _ (t : List ℕ) (long : table-length ≤ length t) where
-  from-length : (at : ℕ) → length (from t at) ≡ table-length - at
-  from-length at = length-drop at (take table-length t) ∙ ap (λ (n : ℕ). n - at) (length-take-le table-length t long)
+module _ (t : List ℕ) (long : table-length limits ≤ length t) where
+  from-length : (at : ℕ) → length (from t at) ≡ table-length limits - at
+  from-length at = length-drop at (take (table-length limits) t) ∙ ap (λ (n : ℕ). n - at) (length-take-le (table-length limits) t long)
 
-  from-cons : (at : ℕ) → at < table-length → from t at ≡ getD t at 0 ∷ from t (at + 1)
+  from-cons : (at : ℕ) → at < (table-length limits) → from t at ≡ getD t at 0 ∷ from t (at + 1)
   from-cons at l =
       let one : suc at ≡ at + 1 = omega arith in
-      drop-cons (take table-length t) at 0 (omega (arith, length-take-le table-length t long)) ∙ ap₂ (λ (w n : ℕ). w ∷ from t n) (getD-take table-length t at 0 l) one
+      drop-cons (take (table-length limits) t) at 0 (omega (arith, length-take-le (table-length limits) t long)) ∙ ap₂ (λ (w n : ℕ). w ∷ from t n) (getD-take (table-length limits) t at 0 l) one
 
-  from-head : (at : ℕ) → at + 3 ≤ table-length → from t at ≡ getD t at 0 ∷ (getD t (at + 1) 0 ∷ (getD t (at + 2) 0 ∷ from t (at + 3)))
+  from-head : (at : ℕ) → at + 3 ≤ (table-length limits) → from t at ≡ getD t at 0 ∷ (getD t (at + 1) 0 ∷ (getD t (at + 2) 0 ∷ from t (at + 3)))
   from-head at l =
       let two : at + 1 + 1 ≡ at + 2 = omega arith in
       let three : at + 2 + 1 ≡ at + 3 = omega arith in
       from-cons at (omega arith) ∙ ap (λ (x : List ℕ). getD t at 0 ∷ x) (from-cons (at + 1) (omega arith) ∙ ap (λ (x : List ℕ). getD t (at + 1) 0 ∷ x) (ap (from t) two ∙ from-cons (at + 2) (omega arith) ∙ ap (λ (n : ℕ). getD t (at + 2) 0 ∷ from t n) three))
 
   -- zeros up to the end
-  pub zero-not : (at : ℕ) → at < table-length → 0 < getD t at 0 → all (λ w. eqb w 0) (from t at) ≡ false
+  pub zero-not : (at : ℕ) → at < (table-length limits) → 0 < getD t at 0 → all (λ w. eqb w 0) (from t at) ≡ false
   zero-not at l h = ap (all (λ w. eqb w 0)) (from-cons at l) ∙ (rw (eqb-no (getD t at 0) 0 (λ e. omega arith)))
 
-  pub zero-on : (at : ℕ) → at < table-length → getD t at 0 ≤ 0 → all (λ w. eqb w 0) (from t at) ≡ all (λ w. eqb w 0) (from t (at + 1))
+  pub zero-on : (at : ℕ) → at < (table-length limits) → getD t at 0 ≤ 0 → all (λ w. eqb w 0) (from t at) ≡ all (λ w. eqb w 0) (from t (at + 1))
   zero-on at l h =
       let z : getD t at 0 ≡ 0 = omega arith in
       ap (all (λ w. eqb w 0)) (from-cons at l) ∙ (rw z)
 
-  pub zero-end : (at : ℕ) → table-length ≤ at → all (λ w. eqb w 0) (from t at) ≡ true
+  pub zero-end : (at : ℕ) → table-length limits ≤ at → all (λ w. eqb w 0) (from t at) ≡ true
   zero-end at l =
-      let n : length (take table-length t) ≤ at = omega (arith, length-take-le table-length t long) in
-      ap (all (λ w. eqb w 0)) (drop-of-length-le (take table-length t) n)
+      let n : length (take (table-length limits) t) ≤ at = omega (arith, length-take-le (table-length limits) t long) in
+      ap (all (λ w. eqb w 0)) (drop-of-length-le (take (table-length limits) t) n)
 
   -- the rule at an index
   module _ (at m n : ℕ) where
-    pub no-room : at ≤ table-length → table-length - at < 3 → is-some (read-rules (suc n) m (from t at)) ≡ false
+    pub no-room : at ≤ (table-length limits) → table-length limits - at < 3 → is-some (read-rules (suc n) m (from t at)) ≡ false
     no-room l h = no-head n m (from t at) (omega (arith, from-length at))
 
-    module _ (fits : at + 3 ≤ table-length) where
+    module _ (fits : at + 3 ≤ (table-length limits)) where
       pub falls : getD t at 0 ≤ m → is-some (read-rules (suc n) m (from t at)) ≡ false
       falls h = ap (λ (x : List ℕ). is-some (read-rules (suc n) m x)) (from-head at fits) ∙ not-risen n m (getD t at 0) (getD t (at + 1) 0) (getD t (at + 2) 0) (from t (at + 3)) h
 
       pub high : last-number < getD t at 0 → is-some (read-rules (suc n) m (from t at)) ≡ false
       high h = ap (λ (x : List ℕ). is-some (read-rules (suc n) m x)) (from-head at fits) ∙ too-high n m (getD t at 0) (getD t (at + 1) 0) (getD t (at + 2) 0) (from t (at + 3)) h
 
-      pub cut : table-length - (at + 3) < getD t (at + 2) 0 → is-some (read-rules (suc n) m (from t at)) ≡ false
+      pub cut : table-length limits - (at + 3) < getD t (at + 2) 0 → is-some (read-rules (suc n) m (from t at)) ≡ false
       cut h = ap (λ (x : List ℕ). is-some (read-rules (suc n) m x)) (from-head at fits) ∙ cut-short n m (getD t at 0) (getD t (at + 1) 0) (getD t (at + 2) 0) (from t (at + 3)) (omega (arith, from-length (at + 3)))
 
-      pub on : m < getD t at 0 → getD t at 0 ≤ last-number → getD t (at + 2) 0 ≤ table-length - (at + 3) → is-some (read-rules (suc n) m (from t at)) ≡ is-some (read-rules n (getD t at 0) (from t (at + 3 + getD t (at + 2) 0)))
-      on h k f = ap (λ (x : List ℕ). is-some (read-rules (suc n) m x)) (from-head at fits) ∙ one-more n m (getD t at 0) (getD t (at + 1) 0) (getD t (at + 2) 0) (from t (at + 3)) h k (omega (arith, from-length (at + 3))) ∙ ap (λ (x : List ℕ). is-some (read-rules n (getD t at 0) x)) (drop-drop (getD t (at + 2) 0) (at + 3) (take table-length t))
+      pub on : m < getD t at 0 → getD t at 0 ≤ last-number → getD t (at + 2) 0 ≤ table-length limits - (at + 3) → is-some (read-rules (suc n) m (from t at)) ≡ is-some (read-rules n (getD t at 0) (from t (at + 3 + getD t (at + 2) 0)))
+      on h k f = ap (λ (x : List ℕ). is-some (read-rules (suc n) m x)) (from-head at fits) ∙ one-more n m (getD t at 0) (getD t (at + 1) 0) (getD t (at + 2) 0) (from t (at + 3)) h k (omega (arith, from-length (at + 3))) ∙ ap (λ (x : List ℕ). is-some (read-rules n (getD t at 0) x)) (drop-drop (getD t (at + 2) 0) (at + 3) (take (table-length limits) t))
 
 -- ---- the whole
 
-pub laid-over : (t : List ℕ) → rule-limit < getD t 0 0 → is-some (laid t) ≡ false
+pub laid-over : (t : List ℕ) → limits .rules < getD t 0 0 → is-some (laid limits t) ≡ false
 laid-over [] h = refl
-laid-over (n ∷ ws) h = rw (leb-no n rule-limit h, and-false (leb rules-length (length ws)))
+laid-over (n ∷ ws) h = rw (leb-no n (limits .rules) h, and-false (leb (rules-length limits) (length ws)))
 
-pub laid-start : (t : List ℕ) → table-length ≤ length t → getD t 0 0 ≤ rule-limit → is-some (laid t) ≡ is-some (read-rules (getD t 0 0 - 0) 0 (from t 1))
+pub laid-start : (t : List ℕ) → table-length limits ≤ length t → getD t 0 0 ≤ limits .rules → is-some (laid limits t) ≡ is-some (read-rules (getD t 0 0 - 0) 0 (from t 1))
 laid-start [] l h = absurd (omega arith)
 laid-start (n ∷ ws) l h =
     let z : n - 0 ≡ n = omega arith in
-    rw (leb-yes rules-length (length ws) (omega arith), leb-yes n rule-limit h, z)
+    rw (leb-yes (rules-length limits) (length ws) (omega arith), leb-yes n (limits .rules) h, z)
 
-pub laid-on : (t : List ℕ) (n i m k at at′ : ℕ) → i < n → is-some (laid t) ≡ is-some (read-rules (n - i) m (from t at)) → ((j : ℕ) → is-some (read-rules (suc j) m (from t at)) ≡ is-some (read-rules j k (from t at′))) → is-some (laid t) ≡ is-some (read-rules (n - (i + 1)) k (from t at′))
+pub laid-on : (t : List ℕ) (n i m k at at′ : ℕ) → i < n → is-some (laid limits t) ≡ is-some (read-rules (n - i) m (from t at)) → ((j : ℕ) → is-some (read-rules (suc j) m (from t at)) ≡ is-some (read-rules j k (from t at′))) → is-some (laid limits t) ≡ is-some (read-rules (n - (i + 1)) k (from t at′))
 laid-on t n i m k at at′ l e f =
     let s : n - i ≡ suc (n - (i + 1)) = omega arith in
     e ∙ ap (λ (j : ℕ). is-some (read-rules j m (from t at))) s ∙ f (n - (i + 1))
 
-pub laid-broken : (t : List ℕ) (n i m at : ℕ) → i < n → is-some (laid t) ≡ is-some (read-rules (n - i) m (from t at)) → ((j : ℕ) → is-some (read-rules (suc j) m (from t at)) ≡ false) → is-some (laid t) ≡ false
+pub laid-broken : (t : List ℕ) (n i m at : ℕ) → i < n → is-some (laid limits t) ≡ is-some (read-rules (n - i) m (from t at)) → ((j : ℕ) → is-some (read-rules (suc j) m (from t at)) ≡ false) → is-some (laid limits t) ≡ false
 laid-broken t n i m at l e f =
     let s : n - i ≡ suc (n - (i + 1)) = omega arith in
     e ∙ ap (λ (j : ℕ). is-some (read-rules j m (from t at))) s ∙ f (n - (i + 1))
 
-pub laid-end : (t : List ℕ) (n i m at : ℕ) → n ≤ i → is-some (laid t) ≡ is-some (read-rules (n - i) m (from t at)) → is-some (laid t) ≡ all (λ w. eqb w 0) (from t at)
+pub laid-end : (t : List ℕ) (n i m at : ℕ) → n ≤ i → is-some (laid limits t) ≡ is-some (read-rules (n - i) m (from t at)) → is-some (laid limits t) ≡ all (λ w. eqb w 0) (from t at)
 laid-end t n i m at l e =
     let z : n - i ≡ 0 = omega arith in
     e ∙ ap (λ (j : ℕ). is-some (read-rules j m (from t at))) z ∙ is-required (all (λ w. eqb w 0) (from t at)) []

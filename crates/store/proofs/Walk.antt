@@ -5,7 +5,7 @@ use Prim.Native.Nat.{ℕ, zero, suc, _+_, _-_, _≤_, _<_}
 use native.Mathlib.Omega.{arith}
 use lib.ListN.{length, getD, take, drop, replicate, length-append, length-drop}
 use lib.Seq.{take-at, drop-at, drop-drop, getD-drop}
-use Rattle.table.specs.Limits.{table-length}
+use Rattle.table.specs.Limits.{limits, table-length}
 use Rattle.table.specs.Rule.{Rule, rule-words, rules-words}
 use Rattle.store.specs.Laid.{Holds}
 use Rattle.store.specs.Place.{rule-head, RuleAt, Walked, Step}
@@ -18,7 +18,7 @@ words-append (r ∷ before) after = ap (λ (x : List ℕ). rule-words r ++ x) (w
 pub words-length : (before after : List Rule) → length (rules-words (before ++ after)) ≡ length (rules-words before) + length (rules-words after)
 words-length before after = ap length (words-append before after) ∙ length-append (rules-words before) (rules-words after)
 
-module _ {table : List ℕ} (before after : List Rule) (h : Holds table (before ++ after)) where
+module _ {table : List ℕ} (before after : List Rule) (h : Holds limits table (before ++ after)) where
   -- the table as the count, the words of some rules, and what stands behind them
   pub parted : table ≡ (length (before ++ after) ∷ rules-words before) ++ (rules-words after ++ behind table (before ++ after))
   parted = is-stored h ∙ ap (λ (x : List ℕ). length (before ++ after) ∷ x) (ap (λ (x : List ℕ). x ++ behind table (before ++ after)) (words-append before after) ∙ append-assoc (rules-words before) (rules-words after) (behind table (before ++ after)))
@@ -30,7 +30,7 @@ module _ {table : List ℕ} (before after : List Rule) (h : Holds table (before 
 read-from : (table : List ℕ) (at k : ℕ) (ws : List ℕ) → drop at table ≡ ws → getD table (at + k) 0 ≡ getD ws k 0
 read-from table at k ws e = sym (getD-drop at table k 0) ∙ ap (λ (x : List ℕ). getD x k 0) e
 
-module _ {table : List ℕ} (before : List Rule) (r : Rule) (after : List Rule) (h : Holds table (before ++ (r ∷ after))) where
+module _ {table : List ℕ} (before : List Rule) (r : Rule) (after : List Rule) (h : Holds limits table (before ++ (r ∷ after))) where
   pub words-at : drop (suc (length (rules-words before))) table ≡ rule-words r ++ (rules-words after ++ behind table (before ++ (r ∷ after)))
   words-at = from-there before (r ∷ after) h ∙ append-assoc (rule-words r) (rules-words after) (behind table (before ++ (r ∷ after)))
 
@@ -69,9 +69,9 @@ walk-end {rs} {before} {after} {i} {at} w l = go after (w .are)
     go (r ∷ ls) e = absurd (omega (arith, ap length e, length-append before (r ∷ ls), w .passed))
 
 module _ {table : List ℕ} where
-  step : (before : List Rule) (r : Rule) (later : List Rule) (i at : ℕ) (rs : List Rule) → Holds table rs → Walked rs before (r ∷ later) i at → Step table rs before (r ∷ later) i at
+  step : (before : List Rule) (r : Rule) (later : List Rule) (i at : ℕ) (rs : List Rule) → Holds limits table rs → Walked rs before (r ∷ later) i at → Step table rs before (r ∷ later) i at
   step before r later i at rs h w =
-      let g : Holds table (before ++ (r ∷ later)) = subst (Holds table) (w .are) h in
+      let g : Holds limits table (before ++ (r ∷ later)) = subst (Holds limits table) (w .are) h in
       let q : RuleAt table at r = subst (λ (n : ℕ). RuleAt table n r) (sym (w .at-is)) (rule-at before r later g) in
       let l : length (rules-words (before ++ (r ∷ []))) ≡ length (rules-words before) + length (rules-words (r ∷ [])) = words-length before (r ∷ []) in
       let l′ : length (rules-words (r ∷ [])) ≡ suc (suc (suc (length (r .pattern)))) + 0 = length-append (rule-words r) [] in
@@ -89,7 +89,7 @@ module _ {table : List ℕ} where
         };
       }
 
-  pub walk-step : (rs before after : List Rule) (i at : ℕ) → Holds table rs → Walked rs before after i at → i < length rs → Step table rs before after i at
+  pub walk-step : (rs before after : List Rule) (i at : ℕ) → Holds limits table rs → Walked rs before after i at → i < length rs → Step table rs before after i at
   walk-step rs before [] i at h w l = absurd (omega (arith, ap length (walk-end-nil before (w .are)), w .passed))
     where
       walk-end-nil : (bs : List Rule) → rs ≡ bs ++ [] → rs ≡ bs

@@ -5,7 +5,7 @@ use mathlib.Core.Bool.{true, false}
 use Prim.Native.Nat.{ℕ, suc, _+_, _<_, _≤_}
 use lib.ListN.{length, getD, take, drop}
 use Rattle.signature.specs.Lists.{All}
-use Rattle.table.specs.Limits.{table-length}
+use Rattle.table.specs.Limits.{limits, table-length}
 use Rattle.table.specs.Rule.{Rule, rules-words, held}
 use Rattle.store.specs.declared.find.Found.{Found}
 use Rattle.store.specs.declared.find.Found.the-variants.{Held, Free}
@@ -20,7 +20,7 @@ pub record RuleAt (table : List ℕ) (at : ℕ) (r : Rule) : Type 0 where
   pub plan-is : getD table (at + 1) 0 ≡ r .plan
   pub length-is : getD table (at + 2) 0 ≡ length (r .pattern)
   pub pattern-is : take (length (r .pattern)) (drop (at + rule-head) table) ≡ r .pattern
-  pub within : at + rule-head + length (r .pattern) ≤ table-length
+  pub within : at + rule-head + length (r .pattern) ≤ (table-length limits)
 
 -- a walk over the rules: i of them are passed, and the others stand from this index on
 pub record Walked (rs before after : List Rule) (i at : ℕ) : Type 0 where

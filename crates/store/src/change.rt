@@ -13,15 +13,15 @@ ghost use mathlib.Core.List.{[]};
 ghost use Prim.Native.Nat.{_+_, _≤_};
 ghost use lib.ListN.{length};
 ghost use Rattle.pattern.specs.Limits.{pattern-limit};
-ghost use Rattle.table.specs.Limits.{table-length};
+ghost use Rattle.table.specs.Limits.{limits, table-length};
 ghost use Rattle.table.specs.Rule.{rule-words, stored, add-rule, take-out};
 ghost use Rattle.store.specs.Change.{GivenPut, GivenTake};
 ghost use Rattle.store.specs.Place.{rule-head};
 
 // The empty table.
 pub fn clear(table: &mut [u16])
-    requires { ⌜ table-length ≤ length (now table) ⌝ }
-    ensures { λ _. ⌜ now (table .exit) ≡ stored [] (now (table .entry)) ⌝ }
+    requires { ⌜ table-length limits ≤ length (now table) ⌝ }
+    ensures { λ _. ⌜ now (table .exit) ≡ stored limits [] (now (table .entry)) ⌝ }
 {
     zero(&mut table[0..TABLE]);
 }
@@ -40,7 +40,7 @@ fn write(words: &mut [u16], number: u16, plan: u16, pattern: &[u16])
 // The rule goes in at an index that `find` gave; what follows moves on.
 pub fn put(table: &mut [u16], at: usize, number: u16, plan: u16, pattern: &[u16])
     requires { ⌜ GivenPut (now table) at number (now pattern) ⌝ }
-    ensures { λ _. ⌜ ((g : GivenPut (now (table .entry)) at number (now (pattern .entry))) → now (table .exit) ≡ stored (add-rule (record { number = number; plan = plan; pattern = now (pattern .entry) }) (g .rs)) (now (table .entry))) ⌝ }
+    ensures { λ _. ⌜ ((g : GivenPut (now (table .entry)) at number (now (pattern .entry))) → now (table .exit) ≡ stored limits (add-rule (record { number = number; plan = plan; pattern = now (pattern .entry) }) (g .rs)) (now (table .entry))) ⌝ }
 {
     let behind = end(table);
     let d = RULE_HEAD + pattern.len();
@@ -52,7 +52,7 @@ pub fn put(table: &mut [u16], at: usize, number: u16, plan: u16, pattern: &[u16]
 // The rule at an index that `find` gave goes; what follows moves back, and zeros follow it.
 pub fn take_out(table: &mut [u16], at: usize)
     requires { ⌜ GivenTake (now table) at ⌝ }
-    ensures { λ _. ⌜ ((g : GivenTake (now (table .entry)) at) → now (table .exit) ≡ stored (take-out (g .number) (g .rs)) (now (table .entry))) ⌝ }
+    ensures { λ _. ⌜ ((g : GivenTake (now (table .entry)) at) → now (table .exit) ≡ stored limits (take-out (g .number) (g .rs)) (now (table .entry))) ⌝ }
 {
     let behind = end(table);
     let d = RULE_HEAD + table[at + LENGTH] as usize;

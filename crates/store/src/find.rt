@@ -5,6 +5,7 @@ ghost use mathlib.Core.Path.{_≡_};
 ghost use mathlib.Core.List.{List};
 ghost use Prim.Native.Nat.{suc};
 ghost use lib.ListN.{length};
+ghost use Rattle.table.specs.Limits.{limits};
 ghost use Rattle.table.specs.Rule.{Rule, rules-words};
 ghost use Rattle.store.specs.Laid.{Holds};
 ghost use Rattle.store.specs.Place.{FoundAt};
@@ -17,8 +18,8 @@ pub enum Found {
 
 // The index behind the last rule.
 pub(crate) fn end(table: &[u16]) -> usize
-    requires { ⌜ ((rs : List Rule) × Holds (now table) rs) ⌝ }
-    ensures { λ r. ⌜ ((rs : List Rule) → Holds (now (table .entry)) rs → r ≡ suc (length (rules-words rs))) ⌝ }
+    requires { ⌜ ((rs : List Rule) × Holds limits (now table) rs) ⌝ }
+    ensures { λ r. ⌜ ((rs : List Rule) → Holds limits (now (table .entry)) rs → r ≡ suc (length (rules-words rs))) ⌝ }
 {
     let n = table[0];
     let mut at = 1;
@@ -33,8 +34,8 @@ pub(crate) fn end(table: &[u16]) -> usize
 
 // Where the rule with this number stands, or would.
 pub fn find(table: &[u16], number: u16) -> Found
-    requires { ⌜ ((rs : List Rule) × Holds (now table) rs) ⌝ }
-    ensures { λ r. ⌜ ((rs : List Rule) → Holds (now (table .entry)) rs → FoundAt number rs r) ⌝ }
+    requires { ⌜ ((rs : List Rule) × Holds limits (now table) rs) ⌝ }
+    ensures { λ r. ⌜ ((rs : List Rule) → Holds limits (now (table .entry)) rs → FoundAt number rs r) ⌝ }
 {
     let n = table[0];
     let mut at = 1;

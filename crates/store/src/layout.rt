@@ -4,7 +4,7 @@ ghost use Prim.Native.Nat.{_≤_};
 ghost use lib.ListN.{length};
 ghost use lib.Dec.{eqb};
 ghost use Rattle.signature.specs.Lists.{all, is-some};
-ghost use Rattle.table.specs.Limits.{table-length};
+ghost use Rattle.table.specs.Limits.{limits, table-length};
 ghost use Rattle.store.specs.Head.{HeadAt, from};
 ghost use Rattle.store.specs.Laid.{laid};
 
@@ -30,7 +30,7 @@ enum Head {
 
 // The rule that begins at an index, whose number must rise above the last one.
 fn rule_from(table: &[u16], at: usize, last: u16) -> Head
-    requires { ⌜ (table-length ≤ length (now table)) × (at ≤ table-length) ⌝ }
+    requires { ⌜ (table-length limits ≤ length (now table)) × (at ≤ (table-length limits)) ⌝ }
     ensures { λ r. ⌜ HeadAt (now (table .entry)) at last r ⌝ }
 {
     if TABLE - at < RULE_HEAD {
@@ -53,7 +53,7 @@ fn rule_from(table: &[u16], at: usize, last: u16) -> Head
 
 // Whether zeros stand from an index up to the table's end.
 fn zeros(table: &[u16], at: usize) -> bool
-    requires { ⌜ (table-length ≤ length (now table)) × (at ≤ table-length) ⌝ }
+    requires { ⌜ (table-length limits ≤ length (now table)) × (at ≤ (table-length limits)) ⌝ }
     ensures { λ r. ⌜ r ≡ all (λ w. eqb w 0) (from (now (table .entry)) at) ⌝ }
 {
     let mut i = at;
@@ -68,8 +68,8 @@ fn zeros(table: &[u16], at: usize) -> bool
 
 // Whether the table has that layout.
 pub fn layout(table: &[u16]) -> bool
-    requires { ⌜ table-length ≤ length (now table) ⌝ }
-    ensures { λ r. ⌜ r ≡ is-some (laid (now (table .entry))) ⌝ }
+    requires { ⌜ table-length limits ≤ length (now table) ⌝ }
+    ensures { λ r. ⌜ r ≡ is-some (laid limits (now (table .entry))) ⌝ }
 {
     let n = table[0];
     if RULES < n {

@@ -26,7 +26,7 @@ use Rattle.tree.specs.Limits.{last-number}
 use Rattle.table.specs.Calls.{Entered, Enter, Shows, long-witness}
 use Rattle.table.specs.CaseT.{CaseT}
 use Rattle.table.specs.Cases.{rules-T}
-use Rattle.table.specs.Limits.{witness-length}
+use Rattle.table.specs.Limits.{limits, witness-length}
 use Rattle.table.specs.ListsOfCalls.{enter, reckon-number, reckon-rules, changed}
 use Rattle.table.specs.Rule.{held, stored, table-words}
 use Rattle.table.proofs.Cases.{cases}
@@ -70,16 +70,16 @@ shows-T witness witness′ e h = on-1 (in-cases (h .held))
     on-1 (inr i) = absurd (on-2 (in-cases i))
 
 valid-T : Valid T rules-T
-valid-T = sound-valid T (words-T, refl) (table-words rules-T) rules-T refl .0
+valid-T = sound-valid T (words-T, refl) (table-words limits rules-T) rules-T refl .0
 
-entry-T : (n plan : ℕ) (lent witness after witness′ : List ℕ) (e : Entered) → 1 ≤ n → n ≤ last-number → held n rules-T ≡ false → witness-length ≤ length witness → Enter words-T n plan entered (stored rules-T lent) witness e after witness′ → (e .number ≡ 12) × (e .sharer ≡ 7) × (e .shown ≡ 3) × (after ≡ stored rules-T lent) × (witness′ ≡ 0 ∷ 1 ∷ 4 ∷ drop 3 witness)
+entry-T : (n plan : ℕ) (lent witness after witness′ : List ℕ) (e : Entered) → 1 ≤ n → n ≤ last-number → held n rules-T ≡ false → witness-length ≤ length witness → Enter limits words-T n plan entered (stored limits rules-T lent) witness e after witness′ → (e .number ≡ 12) × (e .sharer ≡ 7) × (e .shown ≡ 3) × (after ≡ stored limits rules-T lent) × (witness′ ≡ 0 ∷ 1 ∷ 4 ∷ drop 3 witness)
 entry-T n plan lent witness after witness′ e low high free l h =
     let long : long-witness witness ≡ true = leb-yes witness-length (length witness) l in
     let (a, b) = step-enter words-T T refl rules-T lent valid-T h in
-    let m : reckon-number T (enter n plan entered witness) rules-T ≡ 12 = rw (long, leb-yes 1 n low, leb-yes n last-number high, free) in
-    let rs : reckon-rules T (enter n plan entered witness) rules-T ≡ rules-T = ap (λ x. cond (eqb x 0) (changed (enter n plan entered witness) rules-T) rules-T) m in
+    let m : reckon-number limits T (enter n plan entered witness) rules-T ≡ 12 = rw (long, leb-yes 1 n low, leb-yes n last-number high, free) in
+    let rs : reckon-rules limits T (enter n plan entered witness) rules-T ≡ rules-T = ap (λ x. cond (eqb x 0) (changed (enter n plan entered witness) rules-T) rules-T) m in
     let (x, y, z) = shows-T witness witness′ e (h .on-12 T rules-T (entry-start words-T T refl rules-T lent witness true valid-T long) (a ∙ m)) in
-    (a ∙ m, x, y, b ∙ ap (λ q. stored q lent) rs, z)
+    (a ∙ m, x, y, b ∙ ap (λ q. stored limits q lent) rs, z)
 
 never : (bs : List ℕ) (σ : Binds) → Takes T (260 ∷ 261 ∷ []) bs σ → ⊥
 never bs σ (p, v, e, b, f) = exclusive (neg (var 0)) (fits-of (260 ∷ 261 ∷ []) bs (neg (var 0)) v refl b (p, v, e, b, f)) (fails-not fits-var)

@@ -16,7 +16,7 @@ use Rattle.table.specs.Calls.{refused, begin, Entered, Enter, enter-numb
 use Rattle.table.specs.Demand2.{Demand2}
 use Rattle.table.specs.Demand3.{Earlier, SharesHeld}
 use Rattle.table.specs.Laws.{Laws}
-use Rattle.table.specs.Limits.{table-length}
+use Rattle.table.specs.Limits.{limits, table-length}
 use Rattle.table.specs.ListsOfCalls.{enter, reckon-number}
 use Rattle.table.specs.Refusals.{entry-refusal}
 use Rattle.table.specs.Rule.{Rule}
@@ -31,31 +31,13 @@ use Rattle.table.proofs.TableFacts.{Valid, sound-stored}
 use Rattle.table.proofs.TreeCompiled.{tree-compiled}
 use Rattle.table.proofs.TreeLeaves.{tree-treed}
 
-valid : (sig : Signature) → Signed sig → (table : List ℕ) (rs : List Rule) → SoundTable sig table rs → Valid sig rs
+valid : (sig : Signature) → Signed sig → (table : List ℕ) (rs : List Rule) → SoundTable limits sig table rs → Valid sig rs
 valid sig signed table rs h = sound-valid sig signed table rs (table-sound sig signed table rs h) .0
-
-module _ (ss : List ℕ) (sig : Signature) (lawful : read-signature ss ≡ some sig) (table : List ℕ) (rs : List Rule) (h : SoundTable sig table rs) where
-  entered-number : (n plan : ℕ) (ws witness after witness′ : List ℕ) (e : Entered) → Enter ss n plan ws table witness e after witness′ → e .number ≡ reckon-number sig (enter n plan ws witness) rs
-  entered-number n plan ws witness after witness′ e k = go (long-witness witness) refl
-    where
-      go : (b : Bool) → long-witness witness ≡ b → e .number ≡ reckon-number sig (enter n plan ws witness) rs
-      go true q =
-          let st : enter-start ss table witness ≡ begin sig rs = rw (lawful, leb-yes table-length (length table) (h .long), q, table-sound sig (ss, lawful) table rs h) in
-          k .number-is ∙ ap (λ z. enter-number z n ws) st ∙ sym (ap (λ b. cond b (entry-refusal sig n ws rs) 2) q)
-      go false q =
-          let st : enter-start ss table witness ≡ refused 2 = rw (lawful, leb-yes table-length (length table) (h .long), q) in
-          k .number-is ∙ ap (λ z. enter-number z n ws) st ∙ sym (ap (λ b. cond b (entry-refusal sig n ws rs) 2) q)
-
-  twelve : (n plan : ℕ) (ws witness after witness′ : List ℕ) (e : Entered) → Enter ss n plan ws table witness e after witness′ → ((e .number ≡ 12) ↔ (Earlier sig n ws witness rs × SharesHeld sig ws rs))
-  twelve n plan ws witness after witness′ e k =
-      let q = entered-number n plan ws witness after witness′ e k in
-      (λ t. twelve-of ss sig lawful n plan ws witness rs (sym q ∙ t), λ t. q ∙ of-twelve ss sig lawful n plan ws witness rs (t .0) (t .1))
 
 pub laws : Laws
 laws = record {
   sound-table = λ sig signed table rs. (sound-table sig signed table rs, table-sound sig signed table rs);
   stored-read = λ sig signed table lent rs h. sound-stored sig rs lent (valid sig signed table rs h);
-  twelve = twelve;
   lowest = λ sig signed table rs h ws e.
       let f = first-sharer sig ws (h .rises) e in
       (f .rule, f .held, f .named, f .shares-it, f .lowest);
@@ -64,7 +46,6 @@ laws = record {
       (c, λ t d. compiled-only dft sig d c);
   leaves = λ dft sig signed table rs h. tree-treed dft sig (sig-facts sig signed) rs (valid sig signed table rs h);
   runs = λ dft sig signed table rs h behind bs v b. run-direct dft sig signed rs (valid sig signed table rs h) behind bs v b;
-  same-trees = sound-same-tree;
 }
 
 pub demand-2 : Demand2

@@ -13,6 +13,7 @@ use Rattle.signature.specs.Signature.{Signature}
 use Rattle.signature.proofs.Tests.{true≢false, eqb-eq, eqb-ne}
 use Rattle.row.specs.Overlap.{shares}
 use Rattle.row.proofs.Exists.{shares-exists, exists-shares}
+use Rattle.table.specs.Limits.{limits}
 use Rattle.table.specs.Calls.{Start, refused, begin, start, on-sound, on-signature, Entered, Enter, enter-start, long-table, long-witness, enter-number, enter-table, Shows, withdraw-table, withdraw-number}
 use Rattle.table.specs.ListsOfCalls.{ListCall, Calls, no-call, enter, then-enter, withdraw, then-withdraw}
 use Rattle.table.specs.Refusals.{sharer, entry-refusal}
@@ -24,18 +25,18 @@ use Rattle.table.proofs.SoundFacts.{sound-valid}
 -- what refusals 1 to 3 leave
 abbrev Begun : List ℕ → Bool → List ℕ → Start → Type 0
 Begun ss long table (refused m) = m ≤ 3
-Begun ss long table (begin sig rs) = (read-signature ss ≡ some sig) × (sound sig table ≡ some rs) × (long ≡ true)
+Begun ss long table (begin sig rs) = (read-signature ss ≡ some sig) × (sound limits sig table ≡ some rs) × (long ≡ true)
 
-begun : (ss : List ℕ) (long : Bool) (table : List ℕ) → Begun ss long table (start ss long table)
+begun : (ss : List ℕ) (long : Bool) (table : List ℕ) → Begun ss long table (start limits ss long table)
 begun ss long table = go (read-signature ss) refl long refl
   where
-    last : (sig : Signature) (o : Option (List Rule)) → read-signature ss ≡ some sig → sound sig table ≡ o → long ≡ true → Begun ss long table (on-sound sig o)
+    last : (sig : Signature) (o : Option (List Rule)) → read-signature ss ≡ some sig → sound limits sig table ≡ o → long ≡ true → Begun ss long table (on-sound sig o)
     last sig none a b c = omega arith
     last sig (some rs) a b c = (a, b, c)
 
-    go : (o : Option Signature) → read-signature ss ≡ o → (l : Bool) → long ≡ l → Begun ss long table (on-signature o l table)
+    go : (o : Option Signature) → read-signature ss ≡ o → (l : Bool) → long ≡ l → Begun ss long table (on-signature limits o l table)
     go none a l c = omega arith
-    go (some sig) a true c = last sig (sound sig table) a refl c
+    go (some sig) a true c = last sig (sound limits sig table) a refl c
     go (some sig) a false c = omega arith
 
 -- the first rule that shares is the lowest, since the rules rise
@@ -67,7 +68,7 @@ pub record Outcome (ss : List ℕ) (n plan : ℕ) (ws before witness : List ℕ)
   pub e : Entered
   pub after : List ℕ
   pub witness′ : List ℕ
-  pub meets : Enter ss n plan ws before witness e after witness′
+  pub meets : Enter limits ss n plan ws before witness e after witness′
 
 begin-inj : (sig sig′ : Signature) (rs rs′ : List Rule) → begin sig rs ≡ begin sig′ rs′ → (sig ≡ sig′) × (rs ≡ rs′)
 begin-inj sig sig′ rs rs′ p = (cc, cc)
@@ -76,54 +77,54 @@ refused-begin : {A : Type 0} (m : ℕ) (sig : Signature) (rs : List Rule) → re
 refused-begin m sig rs p = absurd (let z : _≡_ {A = ℕ} 0 1 = cc in omega arith)
 
 pub enter-outcome : (ss : List ℕ) (n plan : ℕ) (ws before witness : List ℕ) → Outcome ss n plan ws before witness
-enter-outcome ss n plan ws before witness = go (enter-start ss before witness) refl (begun ss (long-table before && long-witness witness) before)
+enter-outcome ss n plan ws before witness = go (enter-start limits ss before witness) refl (begun ss (long-table limits before && long-witness witness) before)
   where
-    plain : (st : Start) → enter-start ss before witness ≡ st → (enter-number st n ws ≡ 12 → ⊥) → Outcome ss n plan ws before witness
-    plain st q f = record { e = record { number = enter-number st n ws; sharer = 0; shown = 0 }; after = enter-table st n plan ws before; witness′ = witness; meets = record { number-is = ap (λ s. enter-number s n ws) (sym q); table-is = ap (λ s. enter-table s n plan ws before) (sym q); not-12 = λ g. (refl, refl, refl); on-12 = λ sig rs z y. absurd (f y) } }
+    plain : (st : Start) → enter-start limits ss before witness ≡ st → (enter-number limits st n ws ≡ 12 → ⊥) → Outcome ss n plan ws before witness
+    plain st q f = record { e = record { number = enter-number limits st n ws; sharer = 0; shown = 0 }; after = enter-table limits st n plan ws before; witness′ = witness; meets = record { number-is = ap (λ s. enter-number limits s n ws) (sym q); table-is = ap (λ s. enter-table limits s n plan ws before) (sym q); not-12 = λ g. (refl, refl, refl); on-12 = λ sig rs z y. absurd (f y) } }
 
-    shown-one : (sig : Signature) (rs : List Rule) → enter-start ss before witness ≡ begin sig rs → (lawful : read-signature ss ≡ some sig) → entry-refusal sig n ws rs ≡ 12 → First sig ws rs → Outcome ss n plan ws before witness
+    shown-one : (sig : Signature) (rs : List Rule) → enter-start limits ss before witness ≡ begin sig rs → (lawful : read-signature ss ≡ some sig) → entry-refusal limits sig n ws rs ≡ 12 → First sig ws rs → Outcome ss n plan ws before witness
     shown-one sig rs q lawful y t =
         let s = shares-exists sig (ss, lawful) ws (t .rule .pattern) (t .shares-it) in
         let x : Entered = record { number = 12; sharer = t .rule .number; shown = length (s .words) } in
         let w : List ℕ = s .words ++ drop (length (s .words)) witness in
         let there : Shows sig rs ws witness x w = record { rule = t .rule; held = t .held; named = refl; lowest = λ r i l z. true≢false (sym (exists-shares sig (ss, lawful) ws (r .pattern) z) ∙ t .lowest r i l); booking = s .words; binds = s .binds-us; binds′ = s .binds-ws; taken = s .taken-us; taken′ = s .taken-ws; length-is = refl; witness-is = refl } in
-        record { e = x; after = enter-table (begin sig rs) n plan ws before; witness′ = w; meets = record { number-is = sym (ap (λ u. enter-number u n ws) q ∙ y); table-is = ap (λ u. enter-table u n plan ws before) (sym q); not-12 = λ g. absurd (g refl); on-12 = λ sig′ rs′ z u. moved sig rs sig′ rs′ x w there (sym q ∙ z) } }
+        record { e = x; after = enter-table limits (begin sig rs) n plan ws before; witness′ = w; meets = record { number-is = sym (ap (λ u. enter-number limits u n ws) q ∙ y); table-is = ap (λ u. enter-table limits u n plan ws before) (sym q); not-12 = λ g. absurd (g refl); on-12 = λ sig′ rs′ z u. moved sig rs sig′ rs′ x w there (sym q ∙ z) } }
       where
         moved : (sig : Signature) (rs : List Rule) (sig′ : Signature) (rs′ : List Rule) (x : Entered) (w : List ℕ) → Shows sig rs ws witness x w → begin sig rs ≡ begin sig′ rs′ → Shows sig′ rs′ ws witness x w
         moved sig rs sig′ rs′ x w h z = let (a, b) = begin-inj sig sig′ rs rs′ z in subst (λ c. Shows sig′ c ws witness x w) b (subst (λ c. Shows c rs ws witness x w) a h)
 
-    go : (st : Start) → enter-start ss before witness ≡ st → Begun ss (long-table before && long-witness witness) before st → Outcome ss n plan ws before witness
+    go : (st : Start) → enter-start limits ss before witness ≡ st → Begun ss (long-table limits before && long-witness witness) before st → Outcome ss n plan ws before witness
     go (refused m) q l = plain (refused m) q (λ z. omega arith)
-    go (begin sig rs) q (a, b, c) = on (eqb (entry-refusal sig n ws rs) 12) refl
+    go (begin sig rs) q (a, b, c) = on (eqb (entry-refusal limits sig n ws rs) 12) refl
       where
-        on : (t : Bool) → eqb (entry-refusal sig n ws rs) 12 ≡ t → Outcome ss n plan ws before witness
+        on : (t : Bool) → eqb (entry-refusal limits sig n ws rs) 12 ≡ t → Outcome ss n plan ws before witness
         on true z =
-            let y = eqb-eq (entry-refusal sig n ws rs) 12 z in
+            let y = eqb-eq (entry-refusal limits sig n ws rs) 12 z in
             shown-one sig rs q a y (first-sharer sig ws (sound-valid sig (ss, a) before rs b .0 .rises) (twelve-shared ss sig a n ws rs y))
-        on false z = plain (begin sig rs) q (eqb-ne (entry-refusal sig n ws rs) 12 z)
+        on false z = plain (begin sig rs) q (eqb-ne (entry-refusal limits sig n ws rs) 12 z)
 
 -- and so every list of calls on every table
-pub calls-outcome : (ss : List ℕ) (cs : List ListCall) (table : List ℕ) → (ns : List ℕ) × (last : List ℕ) × Calls ss table cs ns last
+pub calls-outcome : (ss : List ℕ) (cs : List ListCall) (table : List ℕ) → (ns : List ℕ) × (last : List ℕ) × Calls limits ss table cs ns last
 calls-outcome ss [] table = ([], table, no-call)
 calls-outcome ss (enter n plan ws witness ∷ cs) table =
     let o = enter-outcome ss n plan ws table witness in
     let (ns, last, c) = calls-outcome ss cs (o .after) in
     (o .e .number ∷ ns, last, then-enter (o .meets) c)
 calls-outcome ss (withdraw n ∷ cs) table =
-    let st = start ss (long-table table) table in
-    let (ns, last, c) = calls-outcome ss cs (withdraw-table st n table) in
+    let st = start limits ss (long-table limits table) table in
+    let (ns, last, c) = calls-outcome ss cs (withdraw-table limits st n table) in
     (withdraw-number st n ∷ ns, last, then-withdraw (record { number-is = refl; table-is = refl }) c)
 
 -- under an unlawful signature every call gives 1 and writes nothing
 module _ (ss : List ℕ) (unlawful : read-signature ss ≡ none) where
-  start-1 : (long : Bool) (table : List ℕ) → start ss long table ≡ refused 1
-  start-1 long table = ap (λ o. on-signature o long table) unlawful
+  start-1 : (long : Bool) (table : List ℕ) → start limits ss long table ≡ refused 1
+  start-1 long table = ap (λ o. on-signature limits o long table) unlawful
 
-  pub unlawful-calls : {table last : List ℕ} {cs : List ListCall} {ns : List ℕ} → Calls ss table cs ns last → All (λ n. n ≡ 1) ns × (last ≡ table)
+  pub unlawful-calls : {table last : List ℕ} {cs : List ListCall} {ns : List ℕ} → Calls limits ss table cs ns last → All (λ n. n ≡ 1) ns × (last ≡ table)
   unlawful-calls no-call = (none-left, refl)
   unlawful-calls (then-enter {n = n} {plan = plan} {ws = ws} {before = before} {witness = witness} {e = x} h c) =
       let (a, b) = unlawful-calls c in
-      (also (x .number) (h .number-is ∙ ap (λ s. enter-number s n ws) (start-1 (long-table before && long-witness witness) before)) a, b ∙ h .table-is ∙ ap (λ s. enter-table s n plan ws before) (start-1 (long-table before && long-witness witness) before))
+      (also (x .number) (h .number-is ∙ ap (λ s. enter-number limits s n ws) (start-1 (long-table limits before && long-witness witness) before)) a, b ∙ h .table-is ∙ ap (λ s. enter-table limits s n plan ws before) (start-1 (long-table limits before && long-witness witness) before))
   unlawful-calls (then-withdraw {n = n} {number = number} {before = before} h c) =
       let (a, b) = unlawful-calls c in
-      (also number (h .number-is ∙ ap (λ s. withdraw-number s n) (start-1 (long-table before) before)) a, b ∙ h .table-is ∙ ap (λ s. withdraw-table s n before) (start-1 (long-table before) before))
+      (also number (h .number-is ∙ ap (λ s. withdraw-number s n) (start-1 (long-table limits before) before)) a, b ∙ h .table-is ∙ ap (λ s. withdraw-table limits s n before) (start-1 (long-table limits before) before))

@@ -26,7 +26,7 @@ use Rattle.tree.specs.Limits.{last-number}
 use Rattle.table.specs.Calls.{long-witness, long-table, start, begin, enter-start, refused, Entered, Enter, enter-number, enter-table, Withdraw, withdraw-number, withdraw-table}
 use Rattle.row.proofs.PassedFacts.{passed-of, of-passed}
 use Rattle.table.specs.Demand3.{Earlier, SharesHeld}
-use Rattle.table.specs.Limits.{table-length, rule-length, witness-length, weight-limit, rule-limit}
+use Rattle.table.specs.Limits.{limits, table-length, rule-length, witness-length}
 use Rattle.table.specs.ListsOfCalls.{ListCall, reckon-number, enter, withdraw, numbers-reckoned, reckon-rules, rules-left, Calls, no-call, then-enter, then-withdraw}
 use Rattle.table.specs.Refusals.{entry-refusal, withdrawal-refusal}
 use Rattle.table.specs.Rule.{Rule, held, total-weight, rises-nil, table-words, rules-words, stored, Rises, rises-cons, add-rule, take-out}
@@ -46,55 +46,55 @@ module _ (sig : Signature) where
   pub pattern-not-3 : (ws : List ℕ) → refusal-of-pattern sig ws ≡ 3 → ⊥
   pattern-not-3 ws = pattern-not 3 (λ z. omega arith) (λ z. omega arith) (λ z. omega arith) (λ z. omega arith) (λ z. omega arith) ws
 
-  pub entry-not-3 : (n : ℕ) (ws : List ℕ) (rs : List Rule) → entry-refusal sig n ws rs ≡ 3 → ⊥
+  pub entry-not-3 : (n : ℕ) (ws : List ℕ) (rs : List Rule) → entry-refusal limits sig n ws rs ≡ 3 → ⊥
   entry-not-3 n ws rs e =
       none-of (not (leb 1 n && leb n last-number)) 4 _ 3 (λ z. omega arith)
       (λ e₁. none-of (held n rs) 5 _ 3 (λ z. omega arith)
       (λ e₂. none-of (not (eqb (refusal-of-pattern sig ws) 0)) (refusal-of-pattern sig ws) _ 3 (pattern-not-3 ws)
-      (λ e₃. none-of (leb rule-limit (length rs) || ltb weight-limit (weight sig ws + total-weight sig rs)) 11 _ 3 (λ z. omega arith)
+      (λ e₃. none-of (leb (limits .rules) (length rs) || ltb (limits .weight) (weight sig ws + total-weight sig rs)) 11 _ 3 (λ z. omega arith)
       (λ e₄. none-of (any (λ r. shares sig ws (r .pattern)) rs) 12 0 3 (λ z. omega arith) (λ z. omega arith) e₄) e₃) e₂) e₁) e
 
-  pub reckon-not-3 : (c : ListCall) (rs : List Rule) → reckon-number sig c rs ≡ 3 → ⊥
-  reckon-not-3 (enter n plan ws witness) rs e = none-of (long-witness witness) (entry-refusal sig n ws rs) 2 3 (entry-not-3 n ws rs) (λ z. omega arith) e
+  pub reckon-not-3 : (c : ListCall) (rs : List Rule) → reckon-number limits sig c rs ≡ 3 → ⊥
+  reckon-not-3 (enter n plan ws witness) rs e = none-of (long-witness witness) (entry-refusal limits sig n ws rs) 2 3 (entry-not-3 n ws rs) (λ z. omega arith) e
   reckon-not-3 (withdraw n) rs e = none-of (not (leb 1 n && leb n last-number)) 4 _ 3 (λ z. omega arith) (λ e₁. none-of (not (held n rs)) 6 0 3 (λ z. omega arith) (λ z. omega arith) e₁) e
 
-  pub numbers-not-3 : (cs : List ListCall) (rs : List Rule) → All (λ n. n ≡ 3 → ⊥) (numbers-reckoned sig cs rs)
+  pub numbers-not-3 : (cs : List ListCall) (rs : List Rule) → All (λ n. n ≡ 3 → ⊥) (numbers-reckoned limits sig cs rs)
   numbers-not-3 [] rs = none-left
-  numbers-not-3 (c ∷ cs) rs = also (reckon-number sig c rs) (reckon-not-3 c rs) (numbers-not-3 cs (reckon-rules sig c rs))
+  numbers-not-3 (c ∷ cs) rs = also (reckon-number limits sig c rs) (reckon-not-3 c rs) (numbers-not-3 cs (reckon-rules limits sig c rs))
 
   -- the rules reckoned are those of a sound table
   pub valid-nil : Valid sig []
   valid-nil = record { rises = rises-nil; passed = refl; short = none-left; few = omega arith; light = omega arith; apart = refl }
 
-  pub valid-reckoned : (c : ListCall) (rs : List Rule) → Valid sig rs → Valid sig (reckon-rules sig c rs)
-  valid-reckoned (enter n plan ws witness) rs v = go (eqb (reckon-number sig (enter n plan ws witness) rs) 0) refl
+  pub valid-reckoned : (c : ListCall) (rs : List Rule) → Valid sig rs → Valid sig (reckon-rules limits sig c rs)
+  valid-reckoned (enter n plan ws witness) rs v = go (eqb (reckon-number limits sig (enter n plan ws witness) rs) 0) refl
     where
-      entered : (b : Bool) → long-witness witness ≡ b → reckon-number sig (enter n plan ws witness) rs ≡ 0 → entry-refusal sig n ws rs ≡ 0
+      entered : (b : Bool) → long-witness witness ≡ b → reckon-number limits sig (enter n plan ws witness) rs ≡ 0 → entry-refusal limits sig n ws rs ≡ 0
       entered true q e = rw q at e
       entered false q e = absurd (let z : _≡_ {A = ℕ} 2 0 = rw q at e in omega arith)
 
-      go : (b : Bool) → eqb (reckon-number sig (enter n plan ws witness) rs) 0 ≡ b → Valid sig (reckon-rules sig (enter n plan ws witness) rs)
-      go true q = rw q (valid-entry sig (shares-sym sig) n plan ws rs (admitted sig (shares-sym sig) n ws rs (entered (long-witness witness) refl (eqb-eq (reckon-number sig (enter n plan ws witness) rs) 0 q))) v)
+      go : (b : Bool) → eqb (reckon-number limits sig (enter n plan ws witness) rs) 0 ≡ b → Valid sig (reckon-rules limits sig (enter n plan ws witness) rs)
+      go true q = rw q (valid-entry sig (shares-sym sig) n plan ws rs (admitted sig (shares-sym sig) n ws rs (entered (long-witness witness) refl (eqb-eq (reckon-number limits sig (enter n plan ws witness) rs) 0 q))) v)
       go false q = rw q v
   valid-reckoned (withdraw n) rs v = go (eqb (withdrawal-refusal n rs) 0) refl
     where
-      go : (b : Bool) → eqb (withdrawal-refusal n rs) 0 ≡ b → Valid sig (reckon-rules sig (withdraw n) rs)
+      go : (b : Bool) → eqb (withdrawal-refusal n rs) 0 ≡ b → Valid sig (reckon-rules limits sig (withdraw n) rs)
       go true q = rw q (valid-withdrawal sig (shares-sym sig) n rs v)
       go false q = rw q v
 
-  pub valid-left : (cs : List ListCall) (rs : List Rule) → Valid sig rs → Valid sig (rules-left sig cs rs)
+  pub valid-left : (cs : List ListCall) (rs : List Rule) → Valid sig rs → Valid sig (rules-left limits sig cs rs)
   valid-left [] rs v = v
-  valid-left (c ∷ cs) rs v = valid-left cs (reckon-rules sig c rs) (valid-reckoned c rs v)
+  valid-left (c ∷ cs) rs v = valid-left cs (reckon-rules limits sig c rs) (valid-reckoned c rs v)
 
   -- the table's words
-  pub length-table : (rs : List Rule) → Valid sig rs → length (table-words rs) ≡ table-length
+  pub length-table : (rs : List Rule) → Valid sig rs → length (table-words limits rs) ≡ (table-length limits)
   length-table rs v =
       let fits : length (rules-words rs) ≤ rule-length * length rs = words-few (v .short) in
-      let few : length rs ≤ rule-limit = v .few in
+      let few : length rs ≤ limits .rules = v .few in
       simp (length-append, length-replicate) (omega arith)
 
-  pub long-stored : (rs : List Rule) (t : List ℕ) → Valid sig rs → long-table (stored rs t) ≡ true
-  long-stored rs t v = leb-yes table-length (length (stored rs t)) (omega (arith, length-append (table-words rs) (drop table-length t), length-table rs v))
+  pub long-stored : (rs : List Rule) (t : List ℕ) → Valid sig rs → long-table limits (stored limits rs t) ≡ true
+  long-stored rs t v = leb-yes (table-length limits) (length (stored limits rs t)) (omega (arith, length-append (table-words limits rs) (drop (table-length limits) t), length-table rs v))
 
 -- rising rules with the same members are the same list
 pub in-above : {m : ℕ} {rs : List Rule} (r : Rule) → Rises m rs → In r rs → m < r .number
@@ -130,82 +130,82 @@ rises-same (rises-cons {r = r} {rs = rs} a b h) (rises-cons {r = q} {rs = qs} c 
     go (inr i) (inr j) k = absurd (omega (arith, in-above r l i, in-above q h j))
 
 module _ (ss : List ℕ) (sig : Signature) (lawful : read-signature ss ≡ some sig) where
-  pub start-stored : (rs : List Rule) (t : List ℕ) → Valid sig rs → start ss true (stored rs t) ≡ begin sig rs
+  pub start-stored : (rs : List Rule) (t : List ℕ) → Valid sig rs → start limits ss true (stored limits rs t) ≡ begin sig rs
   start-stored rs t v = rw (lawful, sound-stored sig rs t v)
 
-  pub table-start : (rs : List Rule) (t : List ℕ) → Valid sig rs → start ss (long-table (stored rs t)) (stored rs t) ≡ begin sig rs
-  table-start rs t v = ap (λ b. start ss b (stored rs t)) (long-stored sig rs t v) ∙ start-stored rs t v
+  pub table-start : (rs : List Rule) (t : List ℕ) → Valid sig rs → start limits ss (long-table limits (stored limits rs t)) (stored limits rs t) ≡ begin sig rs
+  table-start rs t v = ap (λ b. start limits ss b (stored limits rs t)) (long-stored sig rs t v) ∙ start-stored rs t v
 
-  pub entry-start : (rs : List Rule) (t witness : List ℕ) (b : Bool) → Valid sig rs → long-witness witness ≡ b → enter-start ss (stored rs t) witness ≡ cond b (begin sig rs) (refused 2)
-  entry-start rs t witness true v q = ap₂ (λ x y. start ss (x && y) (stored rs t)) (long-stored sig rs t v) q ∙ start-stored rs t v
-  entry-start rs t witness false v q = ap₂ (λ x y. start ss (x && y) (stored rs t)) (long-stored sig rs t v) q ∙ rw lawful
+  pub entry-start : (rs : List Rule) (t witness : List ℕ) (b : Bool) → Valid sig rs → long-witness witness ≡ b → enter-start limits ss (stored limits rs t) witness ≡ cond b (begin sig rs) (refused 2)
+  entry-start rs t witness true v q = ap₂ (λ x y. start limits ss (x && y) (stored limits rs t)) (long-stored sig rs t v) q ∙ start-stored rs t v
+  entry-start rs t witness false v q = ap₂ (λ x y. start limits ss (x && y) (stored limits rs t)) (long-stored sig rs t v) q ∙ rw lawful
 
-  pub step-enter : (rs : List Rule) (t : List ℕ) {n plan : ℕ} {ws witness after witness′ : List ℕ} {e : Entered} → Valid sig rs → Enter ss n plan ws (stored rs t) witness e after witness′ → (e .number ≡ reckon-number sig (enter n plan ws witness) rs) × (after ≡ stored (reckon-rules sig (enter n plan ws witness) rs) t)
+  pub step-enter : (rs : List Rule) (t : List ℕ) {n plan : ℕ} {ws witness after witness′ : List ℕ} {e : Entered} → Valid sig rs → Enter limits ss n plan ws (stored limits rs t) witness e after witness′ → (e .number ≡ reckon-number limits sig (enter n plan ws witness) rs) × (after ≡ stored limits (reckon-rules limits sig (enter n plan ws witness) rs) t)
   step-enter rs t {n} {plan} {ws} {witness} {after} {witness′} {e} v h = go (long-witness witness) refl
     where
       r : Rule
       r = record { number = n; plan = plan; pattern = ws }
 
-      told : (b : Bool) → eqb (entry-refusal sig n ws rs) 0 ≡ b → cond b (stored (add-rule (record { number = n; plan = plan; pattern = ws }) rs) (stored rs t)) (stored rs t) ≡ stored (cond b (add-rule (record { number = n; plan = plan; pattern = ws }) rs) rs) t
+      told : (b : Bool) → eqb (entry-refusal limits sig n ws rs) 0 ≡ b → cond b (stored limits (add-rule (record { number = n; plan = plan; pattern = ws }) rs) (stored limits rs t)) (stored limits rs t) ≡ stored limits (cond b (add-rule (record { number = n; plan = plan; pattern = ws }) rs) rs) t
       told true q = stored-again sig (shares-sym sig) rs (add-rule (record { number = n; plan = plan; pattern = ws }) rs) t v
       told false q = refl
 
-      go : (b : Bool) → long-witness witness ≡ b → (e .number ≡ reckon-number sig (enter n plan ws witness) rs) × (after ≡ stored (reckon-rules sig (enter n plan ws witness) rs) t)
-      go true q = (rw q (h .number-is ∙ ap (λ s. enter-number s n ws) (entry-start rs t witness true v q)), rw q (h .table-is ∙ ap (λ s. enter-table s n plan ws (stored rs t)) (entry-start rs t witness true v q) ∙ told (eqb (entry-refusal sig n ws rs) 0) refl))
-      go false q = (rw q (h .number-is ∙ ap (λ s. enter-number s n ws) (entry-start rs t witness false v q)), rw q (h .table-is ∙ ap (λ s. enter-table s n plan ws (stored rs t)) (entry-start rs t witness false v q)))
+      go : (b : Bool) → long-witness witness ≡ b → (e .number ≡ reckon-number limits sig (enter n plan ws witness) rs) × (after ≡ stored limits (reckon-rules limits sig (enter n plan ws witness) rs) t)
+      go true q = (rw q (h .number-is ∙ ap (λ s. enter-number limits s n ws) (entry-start rs t witness true v q)), rw q (h .table-is ∙ ap (λ s. enter-table limits s n plan ws (stored limits rs t)) (entry-start rs t witness true v q) ∙ told (eqb (entry-refusal limits sig n ws rs) 0) refl))
+      go false q = (rw q (h .number-is ∙ ap (λ s. enter-number limits s n ws) (entry-start rs t witness false v q)), rw q (h .table-is ∙ ap (λ s. enter-table limits s n plan ws (stored limits rs t)) (entry-start rs t witness false v q)))
 
-  pub step-withdraw : (rs : List Rule) (t : List ℕ) {n number : ℕ} {after : List ℕ} → Valid sig rs → Withdraw ss n (stored rs t) number after → (number ≡ reckon-number sig (withdraw n) rs) × (after ≡ stored (reckon-rules sig (withdraw n) rs) t)
+  pub step-withdraw : (rs : List Rule) (t : List ℕ) {n number : ℕ} {after : List ℕ} → Valid sig rs → Withdraw limits ss n (stored limits rs t) number after → (number ≡ reckon-number limits sig (withdraw n) rs) × (after ≡ stored limits (reckon-rules limits sig (withdraw n) rs) t)
   step-withdraw rs t {n} v h =
-      (h .number-is ∙ ap (λ s. withdraw-number s n) (table-start rs t v), h .table-is ∙ ap (λ s. withdraw-table s n (stored rs t)) (table-start rs t v) ∙ told (eqb (withdrawal-refusal n rs) 0))
+      (h .number-is ∙ ap (λ s. withdraw-number s n) (table-start rs t v), h .table-is ∙ ap (λ s. withdraw-table limits s n (stored limits rs t)) (table-start rs t v) ∙ told (eqb (withdrawal-refusal n rs) 0))
     where
-      told : (b : Bool) → cond b (stored (take-out n rs) (stored rs t)) (stored rs t) ≡ stored (cond b (take-out n rs) rs) t
+      told : (b : Bool) → cond b (stored limits (take-out n rs) (stored limits rs t)) (stored limits rs t) ≡ stored limits (cond b (take-out n rs) rs) t
       told true = stored-again sig (shares-sym sig) rs (take-out n rs) t v
       told false = refl
 
-  pub chain : {b last : List ℕ} {cs : List ListCall} {ns : List ℕ} → Calls ss b cs ns last → (t : List ℕ) (rs : List Rule) → Valid sig rs → b ≡ stored rs t → (ns ≡ numbers-reckoned sig cs rs) × (last ≡ stored (rules-left sig cs rs) t)
+  pub chain : {b last : List ℕ} {cs : List ListCall} {ns : List ℕ} → Calls limits ss b cs ns last → (t : List ℕ) (rs : List Rule) → Valid sig rs → b ≡ stored limits rs t → (ns ≡ numbers-reckoned limits sig cs rs) × (last ≡ stored limits (rules-left limits sig cs rs) t)
   chain no-call t rs v e = (refl, e)
   chain (then-enter {n = n} {plan = plan} {ws = ws} {witness = witness} {after = after} {witness′ = witness′} {e = x} h c) t rs v e =
-      let (a, b) = step-enter rs t v (subst (λ z. Enter ss n plan ws z witness x after witness′) e h) in
-      let (a′, b′) = chain c t (reckon-rules sig (enter n plan ws witness) rs) (valid-reckoned sig (enter n plan ws witness) rs v) b in
+      let (a, b) = step-enter rs t v (subst (λ z. Enter limits ss n plan ws z witness x after witness′) e h) in
+      let (a′, b′) = chain c t (reckon-rules limits sig (enter n plan ws witness) rs) (valid-reckoned sig (enter n plan ws witness) rs v) b in
       (ap₂ (λ m ms. m ∷ ms) a a′, b′)
   chain (then-withdraw {n = n} {number = number} {after = after} h c) t rs v e =
-      let (a, b) = step-withdraw rs t v (subst (λ z. Withdraw ss n z number after) e h) in
-      let (a′, b′) = chain c t (reckon-rules sig (withdraw n) rs) (valid-reckoned sig (withdraw n) rs v) b in
+      let (a, b) = step-withdraw rs t v (subst (λ z. Withdraw limits ss n z number after) e h) in
+      let (a′, b′) = chain c t (reckon-rules limits sig (withdraw n) rs) (valid-reckoned sig (withdraw n) rs v) b in
       (ap₂ (λ m ms. m ∷ ms) a a′, b′)
 
   -- refusal 12
-  pub twelve-of : (n plan : ℕ) (ws witness : List ℕ) (rs : List Rule) → reckon-number sig (enter n plan ws witness) rs ≡ 12 → Earlier sig n ws witness rs × SharesHeld sig ws rs
+  pub twelve-of : (n plan : ℕ) (ws witness : List ℕ) (rs : List Rule) → reckon-number limits sig (enter n plan ws witness) rs ≡ 12 → Earlier limits sig n ws witness rs × SharesHeld sig ws rs
   twelve-of n plan ws witness rs e = go (long-witness witness) refl
     where
-      go : (b : Bool) → long-witness witness ≡ b → Earlier sig n ws witness rs × SharesHeld sig ws rs
+      go : (b : Bool) → long-witness witness ≡ b → Earlier limits sig n ws witness rs × SharesHeld sig ws rs
       go false q = absurd (let z : _≡_ {A = ℕ} 2 12 = rw q at e in omega arith)
       go true q =
-          let e₀ : entry-refusal sig n ws rs ≡ 12 = rw q at e in
+          let e₀ : entry-refusal limits sig n ws rs ≡ 12 = rw q at e in
           let (a, e₁) = past (not (leb 1 n && leb n last-number)) 4 _ 12 (λ z. omega arith) e₀ in
           let (b, e₂) = past (held n rs) 5 _ 12 (λ z. omega arith) e₁ in
           let (c, e₃) = past-own (refusal-of-pattern sig ws) _ 12 (pattern-not-12 sig ws) e₂ in
-          let (d, e₄) = past (leb rule-limit (length rs) || ltb weight-limit (weight sig ws + total-weight sig rs)) 11 _ 12 (λ z. omega arith) e₃ in
+          let (d, e₄) = past (leb (limits .rules) (length rs) || ltb (limits .weight) (weight sig ws + total-weight sig rs)) 11 _ 12 (λ z. omega arith) e₃ in
           let l : (leb 1 n && leb n last-number) ≡ true = not-false (leb 1 n && leb n last-number) a in
-          let w : weight sig ws + total-weight sig rs < suc weight-limit = lt-of-not (suc weight-limit) (weight sig ws + total-weight sig rs) (or-right (leb rule-limit (length rs)) (ltb weight-limit (weight sig ws + total-weight sig rs)) d) in
-          (record { witness-long = le-of witness-length (length witness) q; low = le-of 1 n (and-left (leb 1 n) (leb n last-number) l); high = le-of n last-number (and-right (leb 1 n) (leb n last-number) l); new = b; good = passed-of sig ws c; room = lt-of-not rule-limit (length rs) (or-left (leb rule-limit (length rs)) (ltb weight-limit (weight sig ws + total-weight sig rs)) d); light = omega arith }, shared (any (λ r. shares sig ws (r .pattern)) rs) refl e₄)
+          let w : weight sig ws + total-weight sig rs < suc (limits .weight) = lt-of-not (suc (limits .weight)) (weight sig ws + total-weight sig rs) (or-right (leb (limits .rules) (length rs)) (ltb (limits .weight) (weight sig ws + total-weight sig rs)) d) in
+          (record { witness-long = le-of witness-length (length witness) q; low = le-of 1 n (and-left (leb 1 n) (leb n last-number) l); high = le-of n last-number (and-right (leb 1 n) (leb n last-number) l); new = b; good = passed-of sig ws c; room = lt-of-not (limits .rules) (length rs) (or-left (leb (limits .rules) (length rs)) (ltb (limits .weight) (weight sig ws + total-weight sig rs)) d); light = omega arith }, shared (any (λ r. shares sig ws (r .pattern)) rs) refl e₄)
         where
           shared : (b : Bool) → any (λ r. shares sig ws (r .pattern)) rs ≡ b → cond {A = ℕ} (any (λ r. shares sig ws (r .pattern)) rs) 12 0 ≡ 12 → SharesHeld sig ws rs
           shared true z y = let (r, i, x) = any-in (λ r. shares sig ws (r .pattern)) rs z in record { rule = r; held = i; shared = shares-exists sig (ss, lawful) ws (r .pattern) x }
           shared false z y = absurd (let x : _≡_ {A = ℕ} 0 12 = rw z at y in omega arith)
 
-  pub twelve-shared : (n : ℕ) (ws : List ℕ) (rs : List Rule) → entry-refusal sig n ws rs ≡ 12 → any (λ r. shares sig ws (r .pattern)) rs ≡ true
+  pub twelve-shared : (n : ℕ) (ws : List ℕ) (rs : List Rule) → entry-refusal limits sig n ws rs ≡ 12 → any (λ r. shares sig ws (r .pattern)) rs ≡ true
   twelve-shared n ws rs e₀ =
       let (a, e₁) = past (not (leb 1 n && leb n last-number)) 4 _ 12 (λ z. omega arith) e₀ in
       let (b, e₂) = past (held n rs) 5 _ 12 (λ z. omega arith) e₁ in
       let (c, e₃) = past-own (refusal-of-pattern sig ws) _ 12 (pattern-not-12 sig ws) e₂ in
-      let (d, e₄) = past (leb rule-limit (length rs) || ltb weight-limit (weight sig ws + total-weight sig rs)) 11 _ 12 (λ z. omega arith) e₃ in
+      let (d, e₄) = past (leb (limits .rules) (length rs) || ltb (limits .weight) (weight sig ws + total-weight sig rs)) 11 _ 12 (λ z. omega arith) e₃ in
       go (any (λ r. shares sig ws (r .pattern)) rs) refl e₄
     where
       go : (b : Bool) → any (λ r. shares sig ws (r .pattern)) rs ≡ b → cond {A = ℕ} (any (λ r. shares sig ws (r .pattern)) rs) 12 0 ≡ 12 → any (λ r. shares sig ws (r .pattern)) rs ≡ true
       go true q z = q
       go false q z = absurd (let x : _≡_ {A = ℕ} 0 12 = rw q at z in omega arith)
 
-  pub of-twelve : (n plan : ℕ) (ws witness : List ℕ) (rs : List Rule) → Earlier sig n ws witness rs → SharesHeld sig ws rs → reckon-number sig (enter n plan ws witness) rs ≡ 12
+  pub of-twelve : (n plan : ℕ) (ws witness : List ℕ) (rs : List Rule) → Earlier limits sig n ws witness rs → SharesHeld sig ws rs → reckon-number limits sig (enter n plan ws witness) rs ≡ 12
   of-twelve n plan ws witness rs a b =
       let x = in-any (λ r. shares sig ws (r .pattern)) rs (b .rule) (b .held) (exists-shares sig (ss, lawful) ws (b .rule .pattern) (b .shared)) in
-      rw (leb-yes witness-length (length witness) (a .witness-long), leb-yes 1 n (a .low), leb-yes n last-number (a .high), a .new, of-passed sig (ss, lawful) ws (a .good), leb-no rule-limit (length rs) (a .room), ltb-no weight-limit (weight sig ws + total-weight sig rs) (a .light), x)
+      rw (leb-yes witness-length (length witness) (a .witness-long), leb-yes 1 n (a .low), leb-yes n last-number (a .high), a .new, of-passed sig (ss, lawful) ws (a .good), leb-no (limits .rules) (length rs) (a .room), ltb-no (limits .weight) (weight sig ws + total-weight sig rs) (a .light), x)

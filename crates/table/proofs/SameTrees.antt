@@ -9,7 +9,8 @@ use lib.ListN.{length, take}
 use Rattle.signature.specs.Read.{read-signature}
 use Rattle.signature.specs.Signature.{Signature}
 use Rattle.tree.specs.Limits.{tree-limit, default-plan}
-use Rattle.table.specs.Calls.{Compile, start, long-table, begin, too-large, compile-number, compile-length}
+use Rattle.table.specs.Limits.{limits}
+use Rattle.table.specs.Calls.{Compile, start, long-table, begin, too-large, CompileFrom}
 use Rattle.table.specs.Matrix.{tree-words}
 use Rattle.table.specs.Rule.{Rule, SameRules}
 use Rattle.table.specs.Sound.{sound}
@@ -17,12 +18,14 @@ use Rattle.table.proofs.Reckoning.{rises-same}
 use Rattle.table.proofs.SoundFacts.{sound-valid, sound-start, sound-tree}
 
 -- "Compile gives two sound tables of equal rules, under one signature and into spaces of equal length, the same number and, on 0, the same length and that many equal words."
-pub sound-same-tree : (ss : List ℕ) (sig : Signature) → read-signature ss ≡ some sig → (table table′ : List ℕ) (rs qs : List Rule) → sound sig table ≡ some rs → sound sig table′ ≡ some qs → SameRules rs qs → (space space′ out out′ : List ℕ) (n n′ len len′ : ℕ) → length space ≡ length space′ → Compile ss table space n len out → Compile ss table′ space′ n′ len′ out′ → (n ≡ n′) × (len ≡ len′) × (n ≡ 0 → take len out ≡ take len′ out′)
+pub sound-same-tree : (ss : List ℕ) (sig : Signature) → read-signature ss ≡ some sig → (table table′ : List ℕ) (rs qs : List Rule) → sound limits sig table ≡ some rs → sound limits sig table′ ≡ some qs → SameRules rs qs → (space space′ out out′ : List ℕ) (n n′ len len′ : ℕ) → length space ≡ length space′ → Compile limits ss table space n len out → Compile limits ss table′ space′ n′ len′ out′ → (n ≡ n′) × (len ≡ len′) × (n ≡ 0 → take len out ≡ take len′ out′)
 sound-same-tree ss sig lawful table table′ rs qs a b s space space′ out out′ n n′ len len′ q k k′ =
     let e : rs ≡ qs = rises-same (sound-valid sig (ss, lawful) table rs a .0 .rises) (sound-valid sig (ss, lawful) table′ qs b .0 .rises) (s .to) (s .from) in
-    let st : start ss (long-table table) table ≡ begin sig qs = sound-start ss sig lawful table rs a ∙ ap (begin sig) e in
-    let st′ : start ss (long-table table′) table′ ≡ begin sig qs = sound-start ss sig lawful table′ qs b in
+    let st : start limits ss (long-table limits table) table ≡ begin sig qs = sound-start ss sig lawful table rs a ∙ ap (begin sig) e in
+    let st′ : start limits ss (long-table limits table′) table′ ≡ begin sig qs = sound-start ss sig lawful table′ qs b in
     let same-large : too-large (tree-words default-plan sig qs) space ≡ too-large (tree-words default-plan sig qs) space′ = ap (λ m. ltb m (length (tree-words default-plan sig qs)) || ltb tree-limit (length (tree-words default-plan sig qs))) q in
-    let en : n ≡ n′ = k .number-is ∙ ap (λ z. compile-number z space) st ∙ ap (λ z. cond z 14 0) same-large ∙ sym (k′ .number-is ∙ ap (λ z. compile-number z space′) st′) in
-    let el : len ≡ len′ = k .length-is ∙ ap (λ z. compile-length z space) st ∙ ap (λ z. cond z 0 (length (tree-words default-plan sig qs))) same-large ∙ sym (k′ .length-is ∙ ap (λ z. compile-length z space′) st′) in
-    (en, el, λ z. sound-tree ss sig lawful table rs a space out len (subst (λ m. Compile ss table space m len out) z k) ∙ ap (tree-words default-plan sig) e ∙ sym (sound-tree ss sig lawful table′ qs b space′ out′ len′ (subst (λ m. Compile ss table′ space′ m len′ out′) (sym en ∙ z) k′)))
+    let r = subst (λ z. CompileFrom z space n len out) st (k .result-is) in
+    let r′ = subst (λ z. CompileFrom z space′ n′ len′ out′) st′ (k′ .result-is) in
+    let en : n ≡ n′ = r .number-is ∙ ap (λ z. cond z 14 0) same-large ∙ sym (r′ .number-is) in
+    let el : len ≡ len′ = r .length-is ∙ ap (λ z. cond z 0 (length (tree-words default-plan sig qs))) same-large ∙ sym (r′ .length-is) in
+    (en, el, λ z. sound-tree ss sig lawful table rs a space out len (subst (λ m. Compile limits ss table space m len out) z k) ∙ ap (tree-words default-plan sig) e ∙ sym (sound-tree ss sig lawful table′ qs b space′ out′ len′ (subst (λ m. Compile limits ss table′ space′ m len′ out′) (sym en ∙ z) k′)))

@@ -23,9 +23,9 @@ use Rattle.tree.specs.Answer.{Answer}
 use Rattle.tree.specs.Limits.{last-number, default-plan}
 use Rattle.tree.specs.Run.{run-words, run}
 use Rattle.tree.specs.RunCall.{RunCall, run-signature, run-booking, run-at}
-use Rattle.table.specs.Calls.{start, long-table, begin, Compile, too-large, compile-number, compile-length, compile-space, DecideCall, decide-from, decide-booking}
+use Rattle.table.specs.Calls.{start, long-table, begin, Compile, too-large, DecideCall, decide-from, decide-booking, CompileFrom, TreeIn}
 use Rattle.table.specs.Decide.{direct, Answered}
-use Rattle.table.specs.Limits.{table-length, rules-length, weight-limit, rule-limit}
+use Rattle.table.specs.Limits.{limits, table-length, rules-length}
 use Rattle.table.specs.Matrix.{tree-words}
 use Rattle.table.specs.Rule.{Rule, Rises, rules-words, rises-nil, rises-cons, table-words, total-weight, stored}
 use Rattle.table.specs.Sound.{read-rules, no-shared, Apart, apart-nil, apart-cons, sound, SoundTable}
@@ -67,6 +67,10 @@ module _ (sig : Signature) where
   short-all [] h = none-left
   short-all (r ∷ rs) h = also r (short-of sig (r .pattern) (h r in-here)) (short-all rs (λ s i. h s (in-there i)))
 
+-- a sound table is its rules, stored into it
+pub table-stored : (sig : Signature) (table : List ℕ) (rs : List Rule) → SoundTable limits sig table rs → table ≡ stored limits rs table
+table-stored sig table rs h = sym (take-append-drop (table-length limits) table) ∙ ap (λ x. x ++ drop (table-length limits) table) (h .layout)
+
 module _ (sig : Signature) where
   module _ (signed : Signed sig) where
     apart-is : (rs : List Rule) → no-shared sig rs ≡ true → Apart sig rs
@@ -78,25 +82,25 @@ module _ (sig : Signature) where
     is-apart (r ∷ rs) (apart-cons f h) = rw (in-test (λ t. not (shares sig (r .pattern) (t .pattern))) rs (λ s i. not-of (shares sig (r .pattern) (s .pattern)) (λ e. f s i (shares-exists sig signed (r .pattern) (s .pattern) e)))) (is-apart rs h)
 
     -- what a sound table is
-    pub sound-valid : (table : List ℕ) (rs : List Rule) → sound sig table ≡ some rs → Valid sig rs × (table-length ≤ length table) × (take table-length table ≡ table-words rs)
+    pub sound-valid : (table : List ℕ) (rs : List Rule) → sound limits sig table ≡ some rs → Valid sig rs × (table-length limits ≤ length table) × (take (table-length limits) table ≡ table-words limits rs)
     sound-valid [] rs e = none≢some e
     sound-valid (n ∷ ws) rs e =
-        let (u, e₁, f₁) = bind-some (require (leb rules-length (length ws) && leb n rule-limit)) _ rs e in
-        let (qs, e₂, f₂) = bind-some (read-rules n 0 (take rules-length ws)) _ rs f₁ in
-        let (w, e₃, f₃) = bind-some (require (all (λ r. eqb (refusal-of-pattern sig (r .pattern)) 0) qs && leb (total-weight sig qs) weight-limit && no-shared sig qs)) _ rs f₂ in
-        subst (λ x. Valid sig x × (table-length ≤ length (n ∷ ws)) × (take table-length (n ∷ ws) ≡ table-words x)) (some-inj qs rs f₃) (parts n ws qs (require-some _ u e₁) (rules-were n 0 (take rules-length ws) qs e₂) (require-some _ w e₃))
+        let (u, e₁, f₁) = bind-some (require (leb (rules-length limits) (length ws) && leb n (limits .rules))) _ rs e in
+        let (qs, e₂, f₂) = bind-some (read-rules n 0 (take (rules-length limits) ws)) _ rs f₁ in
+        let (w, e₃, f₃) = bind-some (require (all (λ r. eqb (refusal-of-pattern sig (r .pattern)) 0) qs && leb (total-weight sig qs) (limits .weight) && no-shared sig qs)) _ rs f₂ in
+        subst (λ x. Valid sig x × (table-length limits ≤ length (n ∷ ws)) × (take (table-length limits) (n ∷ ws) ≡ table-words limits x)) (some-inj qs rs f₃) (parts n ws qs (require-some _ u e₁) (rules-were n 0 (take (rules-length limits) ws) qs e₂) (require-some _ w e₃))
       where
-        parts : (n : ℕ) (ws : List ℕ) (qs : List Rule) → (leb rules-length (length ws) && leb n rule-limit) ≡ true → Were n 0 (take rules-length ws) qs → (all (λ r. eqb (refusal-of-pattern sig (r .pattern)) 0) qs && leb (total-weight sig qs) weight-limit && no-shared sig qs) ≡ true → Valid sig qs × (table-length ≤ length (n ∷ ws)) × (take table-length (n ∷ ws) ≡ table-words qs)
+        parts : (n : ℕ) (ws : List ℕ) (qs : List Rule) → (leb (rules-length limits) (length ws) && leb n (limits .rules)) ≡ true → Were n 0 (take (rules-length limits) ws) qs → (all (λ r. eqb (refusal-of-pattern sig (r .pattern)) 0) qs && leb (total-weight sig qs) (limits .weight) && no-shared sig qs) ≡ true → Valid sig qs × (table-length limits ≤ length (n ∷ ws)) × (take (table-length limits) (n ∷ ws) ≡ table-words limits qs)
         parts n ws qs a (h, k, (z, x)) b =
-            let a₁ : rules-length ≤ length ws = le-of rules-length (length ws) (and-left (leb rules-length (length ws)) (leb n rule-limit) a) in
-            let a₂ : n ≤ rule-limit = le-of n rule-limit (and-right (leb rules-length (length ws)) (leb n rule-limit) a) in
+            let a₁ : rules-length limits ≤ length ws = le-of (rules-length limits) (length ws) (and-left (leb (rules-length limits) (length ws)) (leb n (limits .rules)) a) in
+            let a₂ : n ≤ limits .rules = le-of n (limits .rules) (and-right (leb (rules-length limits) (length ws)) (leb n (limits .rules)) a) in
             let p = all (λ r. eqb (refusal-of-pattern sig (r .pattern)) 0) qs in
-            let b₁ : p ≡ true = and-left p (leb (total-weight sig qs) weight-limit) (and-left (p && leb (total-weight sig qs) weight-limit) (no-shared sig qs) b) in
-            let b₂ : total-weight sig qs ≤ weight-limit = le-of (total-weight sig qs) weight-limit (and-right p (leb (total-weight sig qs) weight-limit) (and-left (p && leb (total-weight sig qs) weight-limit) (no-shared sig qs) b)) in
-            let b₃ : no-shared sig qs ≡ true = and-right (p && leb (total-weight sig qs) weight-limit) (no-shared sig qs) b in
-            let l : length (take rules-length ws) ≡ length (rules-words qs) + z = ap length x ∙ length-append (rules-words qs) (replicate z 0) ∙ ap (λ m. length (rules-words qs) + m) (length-replicate z 0) in
-            let l′ : length (take rules-length ws) ≡ rules-length = length-exact rules-length ws a₁ in
-            let z-is : z ≡ table-length - suc (length (rules-words qs)) = omega arith in
+            let b₁ : p ≡ true = and-left p (leb (total-weight sig qs) (limits .weight)) (and-left (p && leb (total-weight sig qs) (limits .weight)) (no-shared sig qs) b) in
+            let b₂ : total-weight sig qs ≤ limits .weight = le-of (total-weight sig qs) (limits .weight) (and-right p (leb (total-weight sig qs) (limits .weight)) (and-left (p && leb (total-weight sig qs) (limits .weight)) (no-shared sig qs) b)) in
+            let b₃ : no-shared sig qs ≡ true = and-right (p && leb (total-weight sig qs) (limits .weight)) (no-shared sig qs) b in
+            let l : length (take (rules-length limits) ws) ≡ length (rules-words qs) + z = ap length x ∙ length-append (rules-words qs) (replicate z 0) ∙ ap (λ m. length (rules-words qs) + m) (length-replicate z 0) in
+            let l′ : length (take (rules-length limits) ws) ≡ rules-length limits = length-exact (rules-length limits) ws a₁ in
+            let z-is : z ≡ table-length limits - suc (length (rules-words qs)) = omega arith in
             (record { rises = h; passed = b₁; short = short-all sig qs (λ r i. eqb-eq (refusal-of-pattern sig (r .pattern)) 0 (test-in (λ s. eqb (refusal-of-pattern sig (s .pattern)) 0) qs b₁ r i)); few = omega arith; light = b₂; apart = b₃ }, omega arith, ap₂ (λ y ys. y ∷ ys) (sym k) (x ∙ ap (λ m. rules-words qs ++ replicate m 0) z-is))
           where
             length-exact : (m : ℕ) (xs : List ℕ) → m ≤ length xs → length (take m xs) ≡ m
@@ -104,40 +108,39 @@ module _ (sig : Signature) where
             length-exact (suc m) [] q = absurd (omega arith)
             length-exact (suc m) (y ∷ ys) q = ap suc (length-exact m ys (omega arith))
 
-    pub sound-table : (table : List ℕ) (rs : List Rule) → sound sig table ≡ some rs → SoundTable sig table rs
+    pub sound-table : (table : List ℕ) (rs : List Rule) → sound limits sig table ≡ some rs → SoundTable limits sig table rs
     sound-table table rs e =
         let (v, l, t) = sound-valid table rs e in
         record { long = l; layout = t; rises = v .rises; passed = λ r i. passed-of sig (r .pattern) (eqb-eq (refusal-of-pattern sig (r .pattern)) 0 (test-in (λ s. eqb (refusal-of-pattern sig (s .pattern)) 0) rs (v .passed) r i)); few = v .few; light = v .light; apart = apart-is rs (v .apart) }
 
-    pub table-sound : (table : List ℕ) (rs : List Rule) → SoundTable sig table rs → sound sig table ≡ some rs
+    pub table-sound : (table : List ℕ) (rs : List Rule) → SoundTable limits sig table rs → sound limits sig table ≡ some rs
     table-sound table rs h =
         let v : Valid sig rs = record { rises = h .rises; passed = in-test (λ s. eqb (refusal-of-pattern sig (s .pattern)) 0) rs (λ r i. rw (of-passed sig signed (r .pattern) (h .passed r i))); short = short-all sig rs (λ r i. of-passed sig signed (r .pattern) (h .passed r i)); few = h .few; light = h .light; apart = is-apart rs (h .apart) } in
-        let t : table ≡ stored rs table = sym (take-append-drop table-length table) ∙ ap (λ x. x ++ drop table-length table) (h .layout) in
-        ap (sound sig) t ∙ sound-stored sig rs table v
+        ap (sound limits sig) (table-stored sig table rs h) ∙ sound-stored sig rs table v
 
 -- any sound table that is handed in
-module _ (ss : List ℕ) (sig : Signature) (lawful : read-signature ss ≡ some sig) (table : List ℕ) (rs : List Rule) (holds : sound sig table ≡ some rs) where
+module _ (ss : List ℕ) (sig : Signature) (lawful : read-signature ss ≡ some sig) (table : List ℕ) (rs : List Rule) (holds : sound limits sig table ≡ some rs) where
   ok : Valid sig rs
   ok = sound-valid sig (ss, lawful) table rs holds .0
 
-  pub sound-start : start ss (long-table table) table ≡ begin sig rs
+  pub sound-start : start limits ss (long-table limits table) table ≡ begin sig rs
   sound-start =
-      let l : long-table table ≡ true = leb-yes table-length (length table) (sound-valid sig (ss, lawful) table rs holds .1) in
-      ap (λ b. start ss b table) l ∙ rw (lawful, holds)
+      let l : long-table limits table ≡ true = leb-yes (table-length limits) (length table) (sound-valid sig (ss, lawful) table rs holds .1) in
+      ap (λ b. start limits ss b table) l ∙ rw (lawful, holds)
 
   -- a tree compiled from it
-  pub sound-tree : (space space′ : List ℕ) (len : ℕ) → Compile ss table space 0 len space′ → take len space′ ≡ tree-words default-plan sig rs
-  sound-tree space space′ len k = go (too-large (tree-words default-plan sig rs) space) refl
+  pub sound-tree : (space space′ : List ℕ) (len : ℕ) → Compile limits ss table space 0 len space′ → take len space′ ≡ tree-words default-plan sig rs
+  sound-tree space space′ len k = go (too-large (tree-words default-plan sig rs) space) refl (subst (λ s. CompileFrom s space 0 len space′) sound-start (k .result-is))
     where
-      go : (b : Bool) → too-large (tree-words default-plan sig rs) space ≡ b → take len space′ ≡ tree-words default-plan sig rs
-      go true q = absurd (let z : _≡_ {A = ℕ} 0 14 = k .number-is ∙ ap (λ s. compile-number s space) sound-start ∙ ap (λ b. cond b 14 0) q in omega arith)
-      go false q =
-          let a : len ≡ length (tree-words default-plan sig rs) = k .length-is ∙ ap (λ s. compile-length s space) sound-start ∙ ap (λ b. cond b 0 (length (tree-words default-plan sig rs))) q in
-          let b : space′ ≡ tree-words default-plan sig rs ++ drop (length (tree-words default-plan sig rs)) space = k .space-is ∙ ap (λ s. compile-space s space) sound-start ∙ ap (λ b. cond b space (tree-words default-plan sig rs ++ drop (length (tree-words default-plan sig rs)) space)) q in
+      go : (b : Bool) → too-large (tree-words default-plan sig rs) space ≡ b → TreeIn (tree-words default-plan sig rs) space 0 len space′ → take len space′ ≡ tree-words default-plan sig rs
+      go true q r = absurd (let z : _≡_ {A = ℕ} 0 14 = r .number-is ∙ ap (λ b. cond b 14 0) q in omega arith)
+      go false q r =
+          let a : len ≡ length (tree-words default-plan sig rs) = r .length-is ∙ ap (λ b. cond b 0 (length (tree-words default-plan sig rs))) q in
+          let b : space′ ≡ tree-words default-plan sig rs ++ drop (length (tree-words default-plan sig rs)) space = r .space-is ∙ ap (λ b. cond b space (tree-words default-plan sig rs ++ drop (length (tree-words default-plan sig rs)) space)) q in
           ap₂ take a b ∙ take-exact (length (tree-words default-plan sig rs)) (tree-words default-plan sig rs) (drop (length (tree-words default-plan sig rs)) space) refl
 
   -- a run over it answers by the rules in force, whatever stands behind
-  pub sound-runs : (space space′ behind bs : List ℕ) (len number : ℕ) (v : Value) (a : Answer) → Compile ss table space 0 len space′ → read-booking sig bs ≡ some v → RunCall ss (take len space′ ++ behind) bs number a → (number ≡ 0) × (a ≡ direct default-plan sig rs v) × Answered default-plan sig rs bs a
+  pub sound-runs : (space space′ behind bs : List ℕ) (len number : ℕ) (v : Value) (a : Answer) → Compile limits ss table space 0 len space′ → read-booking sig bs ≡ some v → RunCall ss (take len space′ ++ behind) bs number a → (number ≡ 0) × (a ≡ direct default-plan sig rs v) × Answered default-plan sig rs bs a
   sound-runs space space′ behind bs len number v a k b r =
       let e₁ : run-words default-plan sig (take len space′ ++ behind) bs ≡ some (direct default-plan sig rs v) = ap (λ t. run-words default-plan sig (t ++ behind) bs) (sound-tree space space′ len k) ∙ run-direct default-plan sig (ss, lawful) rs ok behind bs v b in
       let e₂ : run default-plan (length (take len space′ ++ behind)) sig (take len space′ ++ behind) 0 (vcons v vnil) 0 [] ≡ some (direct default-plan sig rs v) = rw b at e₁ in
@@ -145,7 +148,7 @@ module _ (ss : List ℕ) (sig : Signature) (lawful : read-signature ss ≡ some 
       (ap (λ z. z .0) e, ap (λ z. z .1) e, subst (Answered default-plan sig rs bs) (sym (ap (λ z. z .1) e)) (answered default-plan sig (ss, lawful) rs bs v ok b))
 
   -- and so does deciding directly
-  pub sound-decides : (bs : List ℕ) (number : ℕ) (v : Value) (a : Answer) → read-booking sig bs ≡ some v → DecideCall ss table bs number a → (number ≡ 0) × (a ≡ direct default-plan sig rs v) × Answered default-plan sig rs bs a
+  pub sound-decides : (bs : List ℕ) (number : ℕ) (v : Value) (a : Answer) → read-booking sig bs ≡ some v → DecideCall limits ss table bs number a → (number ≡ 0) × (a ≡ direct default-plan sig rs v) × Answered default-plan sig rs bs a
   sound-decides bs number v a b r =
       let e = r .result-is ∙ ap (λ s. decide-from s bs) sound-start ∙ ap (decide-booking sig rs) b in
       (ap (λ z. z .0) e, ap (λ z. z .1) e, subst (Answered default-plan sig rs bs) (sym (ap (λ z. z .1) e)) (answered default-plan sig (ss, lawful) rs bs v ok b))

@@ -19,7 +19,7 @@ use Rattle.row.specs.Admitted.{refusal-of-pattern}
 use Rattle.row.specs.Overlap.{shares}
 use Rattle.row.proofs.PassedFacts.{short-of}
 use Rattle.tree.specs.Limits.{last-number}
-use Rattle.table.specs.Limits.{table-length, rules-length, rule-length, weight-limit, rule-limit}
+use Rattle.table.specs.Limits.{limits, table-length, rules-length, rule-length}
 use Rattle.table.specs.Refusals.{entry-refusal}
 use Rattle.table.specs.Rule.{Rule, Rises, rules-words, rises-nil, rises-cons, total-weight, stored, add-rule, held, take-out, table-words}
 use Rattle.table.specs.Sound.{read-rules, no-shared, sound}
@@ -35,8 +35,8 @@ module _ (sig : Signature) where
     pub rises : Rises 0 rs
     pub passed : all (λ r. eqb (refusal-of-pattern sig (r .pattern)) 0) rs ≡ true
     pub short : All (λ r. length (r .pattern) ≤ pattern-limit) rs
-    pub few : length rs ≤ rule-limit
-    pub light : total-weight sig rs ≤ weight-limit
+    pub few : length rs ≤ limits .rules
+    pub light : total-weight sig rs ≤ limits .weight
     pub apart : no-shared sig rs ≡ true
 
 pub words-few : {rs : List Rule} → All (λ r. length (r .pattern) ≤ pattern-limit) rs → length (rules-words rs) ≤ rule-length * length rs
@@ -44,16 +44,16 @@ words-few none-left = omega arith
 words-few (also r {xs = rs} a h) = simp length-append (omega (arith, words-few h))
 
 module _ (sig : Signature) where
-  sound-of : (rs : List Rule) (body tail : List ℕ) → length body ≡ rules-length → read-rules (length rs) 0 body ≡ some rs → Valid sig rs → sound sig (length rs ∷ (body ++ tail)) ≡ some rs
+  sound-of : (rs : List Rule) (body tail : List ℕ) → length body ≡ (rules-length limits) → read-rules (length rs) 0 body ≡ some rs → Valid sig rs → sound limits sig (length rs ∷ (body ++ tail)) ≡ some rs
   sound-of rs body tail n e v =
-      let long : rules-length ≤ length (body ++ tail) = simp length-append (omega arith) in
-      rw (leb-yes rules-length (length (body ++ tail)) long, leb-yes (length rs) rule-limit (v .few), take-exact rules-length body tail n, e, v .passed, leb-yes (total-weight sig rs) weight-limit (v .light), v .apart)
+      let long : rules-length limits ≤ length (body ++ tail) = simp length-append (omega arith) in
+      rw (leb-yes (rules-length limits) (length (body ++ tail)) long, leb-yes (length rs) (limits .rules) (v .few), take-exact (rules-length limits) body tail n, e, v .passed, leb-yes (total-weight sig rs) (limits .weight) (v .light), v .apart)
 
-  pub sound-stored : (rs : List Rule) (ws : List ℕ) → Valid sig rs → sound sig (stored rs ws) ≡ some rs
+  pub sound-stored : (rs : List Rule) (ws : List ℕ) → Valid sig rs → sound limits sig (stored limits rs ws) ≡ some rs
   sound-stored rs ws v =
       let fits : length (rules-words rs) ≤ rule-length * length rs = words-few (v .short) in
-      let few : length rs ≤ rule-limit = v .few in
-      sound-of rs (rules-words rs ++ replicate (table-length - suc (length (rules-words rs))) 0) (drop table-length ws) (simp (length-append, length-replicate) (omega arith)) (read-back (table-length - suc (length (rules-words rs))) (v .rises)) v
+      let few : length rs ≤ limits .rules = v .few in
+      sound-of rs (rules-words rs ++ replicate (table-length limits - suc (length (rules-words rs))) 0) (drop (table-length limits) ws) (simp (length-append, length-replicate) (omega arith)) (read-back (table-length limits - suc (length (rules-words rs))) (v .rises)) v
 
 -- what holds for all rules, with one more or with some taken out
 module _ (f : Rule → Bool) where
@@ -188,20 +188,20 @@ module _ (sig : Signature) where
       pub high : n ≤ last-number
       pub new : held n rs ≡ false
       pub good : refusal-of-pattern sig ws ≡ 0
-      pub room : length rs < rule-limit
-      pub fits : weight sig ws + total-weight sig rs ≤ weight-limit
+      pub room : length rs < limits .rules
+      pub fits : weight sig ws + total-weight sig rs ≤ limits .weight
       pub alone : any (λ r. shares sig ws (r .pattern)) rs ≡ false
 
-    pub admitted : (n : ℕ) (ws : List ℕ) (rs : List Rule) → entry-refusal sig n ws rs ≡ 0 → Admitted n ws rs
+    pub admitted : (n : ℕ) (ws : List ℕ) (rs : List Rule) → entry-refusal limits sig n ws rs ≡ 0 → Admitted n ws rs
     admitted n ws rs e =
         let (a, e₁) = pass (not (leb 1 n && leb n last-number)) 4 _ (λ z. omega arith) e in
         let (b, e₂) = pass (held n rs) 5 _ (λ z. omega arith) e₁ in
         let (c, e₃) = pass-own (refusal-of-pattern sig ws) _ e₂ in
-        let (d, e₄) = pass (leb rule-limit (length rs) || ltb weight-limit (weight sig ws + total-weight sig rs)) 11 _ (λ z. omega arith) e₃ in
+        let (d, e₄) = pass (leb (limits .rules) (length rs) || ltb (limits .weight) (weight sig ws + total-weight sig rs)) 11 _ (λ z. omega arith) e₃ in
         let (f, e₅) = pass (any (λ r. shares sig ws (r .pattern)) rs) 12 0 (λ z. omega arith) e₄ in
         let l : (leb 1 n && leb n last-number) ≡ true = not-false (leb 1 n && leb n last-number) a in
-        let w : weight sig ws + total-weight sig rs < suc weight-limit = lt-of-not (suc weight-limit) (weight sig ws + total-weight sig rs) (or-right (leb rule-limit (length rs)) (ltb weight-limit (weight sig ws + total-weight sig rs)) d) in
-        record { low = le-of 1 n (and-left (leb 1 n) (leb n last-number) l); high = le-of n last-number (and-right (leb 1 n) (leb n last-number) l); new = b; good = c; room = lt-of-not rule-limit (length rs) (or-left (leb rule-limit (length rs)) (ltb weight-limit (weight sig ws + total-weight sig rs)) d); fits = omega arith; alone = f }
+        let w : weight sig ws + total-weight sig rs < suc (limits .weight) = lt-of-not (suc (limits .weight)) (weight sig ws + total-weight sig rs) (or-right (leb (limits .rules) (length rs)) (ltb (limits .weight) (weight sig ws + total-weight sig rs)) d) in
+        record { low = le-of 1 n (and-left (leb 1 n) (leb n last-number) l); high = le-of n last-number (and-right (leb 1 n) (leb n last-number) l); new = b; good = c; room = lt-of-not (limits .rules) (length rs) (or-left (leb (limits .rules) (length rs)) (ltb (limits .weight) (weight sig ws + total-weight sig rs)) d); fits = omega arith; alone = f }
 
     pub valid-entry : (n plan : ℕ) (ws : List ℕ) (rs : List Rule) → Admitted n ws rs → Valid sig rs → Valid sig (add-rule (record { number = n; plan = plan; pattern = ws }) rs)
     valid-entry n plan ws rs a v =
@@ -214,8 +214,8 @@ module _ (sig : Signature) where
         record { rises = rises-keep g (v .rises); passed = all-keep _ g rs (v .passed); short = All-keep g (v .short); few = omega (arith, length-keep g rs, v .few); light = omega (arith, weight-keep sig g rs, v .light); apart = apart-keep sig g rs (v .apart) }
 
     -- one call on a table that holds rs
-    pub stored-again : (rs qs : List Rule) (ws : List ℕ) → Valid sig rs → stored qs (stored rs ws) ≡ stored qs ws
+    pub stored-again : (rs qs : List Rule) (ws : List ℕ) → Valid sig rs → stored limits qs (stored limits rs ws) ≡ stored limits qs ws
     stored-again rs qs ws v =
         let fits : length (rules-words rs) ≤ rule-length * length rs = words-few (v .short) in
-        let few : length rs ≤ rule-limit = v .few in
-        ap (λ z. table-words qs ++ z) (drop-exact table-length (table-words rs) (drop table-length ws) (simp (length-append, length-replicate) (omega arith)))
+        let few : length rs ≤ limits .rules = v .few in
+        ap (λ z. table-words limits qs ++ z) (drop-exact (table-length limits) (table-words limits rs) (drop (table-length limits) ws) (simp (length-append, length-replicate) (omega arith)))

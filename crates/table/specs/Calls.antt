@@ -18,7 +18,7 @@ use Rattle.tree.specs.Answer.{Answer}
 use Rattle.tree.specs.Limits.{tree-limit, default-plan}
 use Rattle.tree.specs.RunCall.{refusal}
 use Rattle.table.specs.Decide.{direct}
-use Rattle.table.specs.Limits.{table-length, witness-length}
+use Rattle.table.specs.Limits.{Limits, table-length, witness-length}
 use Rattle.table.specs.Matrix.{tree-words}
 use Rattle.table.specs.Refusals.{entry-refusal, withdrawal-refusal}
 use Rattle.table.specs.Rule.{Rule, stored, add-rule, take-out}
@@ -34,43 +34,15 @@ abbrev pub on-sound : Signature → Option (List Rule) → Start
 on-sound sig none = refused 3
 on-sound sig (some rs) = begin sig rs
 
--- 1: the signature is unlawful; 2: a lent table or witness buffer is too short
-abbrev pub on-signature : Option Signature → Bool → List ℕ → Start
-on-signature none long table = refused 1
-on-signature (some sig) long table = cond long (on-sound sig (sound sig table)) (refused 2)
-
--- where a call on a table starts from
-abbrev pub start : List ℕ → Bool → List ℕ → Start
-start ss long table = on-signature (read-signature ss) long table
-
--- 2: "A lent table is under 4,289 words"
-abbrev pub long-table : List ℕ → Bool
-long-table table = leb table-length (length table)
-
 -- 2: "or a witness buffer under 4,096"
 abbrev pub long-witness : List ℕ → Bool
 long-witness witness = leb witness-length (length witness)
-
--- empty: 2; on success the rule count 0 and zeros up to 4,289, the rest untouched
-pub record Empty (before : List ℕ) (number : ℕ) (after : List ℕ) : Type 0 where
-  pub number-is : number ≡ cond (long-table before) 0 2
-  pub table-is : after ≡ cond (long-table before) (stored [] before) before
 
 -- what enter answers: its number, the number of the rule that shares a booking, and that booking's length
 pub record Entered : Type 0 where
   pub number : ℕ
   pub sharer : ℕ
   pub shown : ℕ
-
--- enter: 1 to 5 and 7 to 12
-abbrev pub enter-number : Start → ℕ → List ℕ → ℕ
-enter-number (refused m) n ws = m
-enter-number (begin sig rs) n ws = entry-refusal sig n ws rs
-
--- on success the rule is added; on every refusal the table stays
-abbrev pub enter-table : Start → ℕ → ℕ → List ℕ → List ℕ → List ℕ
-enter-table (refused m) n plan ws before = before
-enter-table (begin sig rs) n plan ws before = cond (eqb (entry-refusal sig n ws rs) 0) (stored (add-rule (record { number = n; plan = plan; pattern = ws }) rs) before) before
 
 -- "12. It shares a booking with a held rule: the lowest such number and the booking's length are returned, the booking is written first in the witness buffer, the rest untouched."
 -- "Which shared booking 12 shows, and so its length, is open: it is lawful and taken by both."
@@ -87,56 +59,25 @@ pub record Shows (sig : Signature) (rs : List Rule) (ws : List ℕ) (witness : L
   pub length-is : e .shown ≡ length booking
   pub witness-is : witness′ ≡ booking ++ drop (length booking) witness
 
--- an entry is lent a witness buffer too
-abbrev pub enter-start : List ℕ → List ℕ → List ℕ → Start
-enter-start ss before witness = start ss (long-table before && long-witness witness) before
-
--- enter: what it is given, what it answers, the table and the witness buffer afterwards; "other results 0", also on success
-pub record Enter (ss : List ℕ) (n plan : ℕ) (ws before witness : List ℕ) (e : Entered) (after witness′ : List ℕ) : Type 0 where
-  pub number-is : e .number ≡ enter-number (enter-start ss before witness) n ws
-  pub table-is : after ≡ enter-table (enter-start ss before witness) n plan ws before
-  pub not-12 : (e .number ≡ 12 → ⊥) → (e .sharer ≡ 0) × (e .shown ≡ 0) × (witness′ ≡ witness)
-  pub on-12 : (sig : Signature) (rs : List Rule) → enter-start ss before witness ≡ begin sig rs → e .number ≡ 12 → Shows sig rs ws witness e witness′
-
 -- withdraw: 1 to 4 and 6
 abbrev pub withdraw-number : Start → ℕ → ℕ
 withdraw-number (refused m) n = m
 withdraw-number (begin sig rs) n = withdrawal-refusal n rs
 
--- "Withdrawn space is used again."
-abbrev pub withdraw-table : Start → ℕ → List ℕ → List ℕ
-withdraw-table (refused m) n before = before
-withdraw-table (begin sig rs) n before = cond (eqb (withdrawal-refusal n rs) 0) (stored (take-out n rs) before) before
-
--- withdraw: what it is given, its number, the table afterwards
-pub record Withdraw (ss : List ℕ) (n : ℕ) (before : List ℕ) (number : ℕ) (after : List ℕ) : Type 0 where
-  pub number-is : number ≡ withdraw-number (start ss (long-table before) before) n
-  pub table-is : after ≡ withdraw-table (start ss (long-table before) before) n before
-
 -- 14: "The tree exceeds the lent slice or 32,768 words."
 abbrev pub too-large : List ℕ → List ℕ → Bool
 too-large tree space = ltb (length space) (length tree) || ltb tree-limit (length tree)
 
+-- 14; or "the tree's length in words", and the tree "from index 0 of the lent space, whose other words stay untouched"
+pub record TreeIn (tree space : List ℕ) (number len : ℕ) (space′ : List ℕ) : Type 0 where
+  pub number-is : number ≡ cond (too-large tree space) 14 0
+  pub length-is : len ≡ cond (too-large tree space) 0 (length tree)
+  pub space-is : space′ ≡ cond (too-large tree space) space (tree ++ drop (length tree) space)
+
 -- compile: 1 to 3 and 14
-abbrev pub compile-number : Start → List ℕ → ℕ
-compile-number (refused m) space = m
-compile-number (begin sig rs) space = cond (too-large (tree-words default-plan sig rs) space) 14 0
-
--- "Compile returns the tree's length in words"
-abbrev pub compile-length : Start → List ℕ → ℕ
-compile-length (refused m) space = 0
-compile-length (begin sig rs) space = cond (too-large (tree-words default-plan sig rs) space) 0 (length (tree-words default-plan sig rs))
-
--- "from index 0 of the lent space, whose other words stay untouched"
-abbrev pub compile-space : Start → List ℕ → List ℕ
-compile-space (refused m) space = space
-compile-space (begin sig rs) space = cond (too-large (tree-words default-plan sig rs) space) space (tree-words default-plan sig rs ++ drop (length (tree-words default-plan sig rs)) space)
-
--- compile: what it is given, its number, the tree's length, the lent space afterwards
-pub record Compile (ss table space : List ℕ) (number len : ℕ) (space′ : List ℕ) : Type 0 where
-  pub number-is : number ≡ compile-number (start ss (long-table table) table) space
-  pub length-is : len ≡ compile-length (start ss (long-table table) table) space
-  pub space-is : space′ ≡ compile-space (start ss (long-table table) table) space
+abbrev pub CompileFrom : Start → List ℕ → ℕ → ℕ → List ℕ → Type 0
+CompileFrom (refused m) space number len space′ = (number ≡ m) × (len ≡ 0) × (space′ ≡ space)
+CompileFrom (begin sig rs) space number len space′ = TreeIn (tree-words default-plan sig rs) space number len space′
 
 -- 13: the booking is unlawful
 abbrev pub decide-booking : Signature → List Rule → Option Value → ℕ × Answer
@@ -148,6 +89,60 @@ abbrev pub decide-from : Start → List ℕ → ℕ × Answer
 decide-from (refused m) bs = refusal m
 decide-from (begin sig rs) bs = decide-booking sig rs (read-booking sig bs)
 
--- decide: what it is given, its number and the answer
-pub record DecideCall (ss table bs : List ℕ) (number : ℕ) (a : Answer) : Type 0 where
-  pub result-is : (number, a) ≡ decide-from (start ss (long-table table) table) bs
+module _ (l : Limits) where
+  -- 1: the signature is unlawful; 2: a lent table or witness buffer is too short
+  abbrev pub on-signature : Option Signature → Bool → List ℕ → Start
+  on-signature none long table = refused 1
+  on-signature (some sig) long table = cond long (on-sound sig (sound l sig table)) (refused 2)
+
+  -- where a call on a table starts from
+  abbrev pub start : List ℕ → Bool → List ℕ → Start
+  start ss long table = on-signature (read-signature ss) long table
+
+  -- 2: "A lent table is under 4,289 words"
+  abbrev pub long-table : List ℕ → Bool
+  long-table table = leb (table-length l) (length table)
+
+  -- an entry is lent a witness buffer too
+  abbrev pub enter-start : List ℕ → List ℕ → List ℕ → Start
+  enter-start ss before witness = start ss (long-table before && long-witness witness) before
+
+  -- empty: 2; on success the rule count 0 and zeros up to 4,289, the rest untouched
+  pub record Empty (before : List ℕ) (number : ℕ) (after : List ℕ) : Type 0 where
+    pub number-is : number ≡ cond (long-table before) 0 2
+    pub table-is : after ≡ cond (long-table before) (stored l [] before) before
+
+  -- enter: 1 to 5 and 7 to 12
+  abbrev pub enter-number : Start → ℕ → List ℕ → ℕ
+  enter-number (refused m) n ws = m
+  enter-number (begin sig rs) n ws = entry-refusal l sig n ws rs
+
+  -- on success the rule is added; on every refusal the table stays
+  abbrev pub enter-table : Start → ℕ → ℕ → List ℕ → List ℕ → List ℕ
+  enter-table (refused m) n plan ws before = before
+  enter-table (begin sig rs) n plan ws before = cond (eqb (entry-refusal l sig n ws rs) 0) (stored l (add-rule (record { number = n; plan = plan; pattern = ws }) rs) before) before
+
+  -- enter: what it is given, what it answers, the table and the witness buffer afterwards; "other results 0", also on success
+  pub record Enter (ss : List ℕ) (n plan : ℕ) (ws before witness : List ℕ) (e : Entered) (after witness′ : List ℕ) : Type 0 where
+    pub number-is : e .number ≡ enter-number (enter-start ss before witness) n ws
+    pub table-is : after ≡ enter-table (enter-start ss before witness) n plan ws before
+    pub not-12 : (e .number ≡ 12 → ⊥) → (e .sharer ≡ 0) × (e .shown ≡ 0) × (witness′ ≡ witness)
+    pub on-12 : (sig : Signature) (rs : List Rule) → enter-start ss before witness ≡ begin sig rs → e .number ≡ 12 → Shows sig rs ws witness e witness′
+
+  -- "Withdrawn space is used again."
+  abbrev pub withdraw-table : Start → ℕ → List ℕ → List ℕ
+  withdraw-table (refused m) n before = before
+  withdraw-table (begin sig rs) n before = cond (eqb (withdrawal-refusal n rs) 0) (stored l (take-out n rs) before) before
+
+  -- withdraw: what it is given, its number, the table afterwards
+  pub record Withdraw (ss : List ℕ) (n : ℕ) (before : List ℕ) (number : ℕ) (after : List ℕ) : Type 0 where
+    pub number-is : number ≡ withdraw-number (start ss (long-table before) before) n
+    pub table-is : after ≡ withdraw-table (start ss (long-table before) before) n before
+
+  -- compile: what it is given, its number, the tree's length, the lent space afterwards
+  pub record Compile (ss table space : List ℕ) (number len : ℕ) (space′ : List ℕ) : Type 0 where
+    pub result-is : CompileFrom (start ss (long-table table) table) space number len space′
+
+  -- decide: what it is given, its number and the answer
+  pub record DecideCall (ss table bs : List ℕ) (number : ℕ) (a : Answer) : Type 0 where
+    pub result-is : (number, a) ≡ decide-from (start ss (long-table table) table) bs

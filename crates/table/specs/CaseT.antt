@@ -13,13 +13,13 @@ use Rattle.pattern.specs.Takes.{Takes}
 use Rattle.tree.specs.Limits.{last-number}
 use Rattle.table.specs.Calls.{Entered, Enter}
 use Rattle.table.specs.Cases.{Cases, rules-T}
-use Rattle.table.specs.Limits.{witness-length}
+use Rattle.table.specs.Limits.{limits, witness-length}
 use Rattle.table.specs.Rule.{held, stored}
 
 pub record CaseT : Type 0 where
   pub computed : Cases
   -- "Entry of 0 258 4: refusal 12, rule 7, shown 0 1 4", under any free number, whatever the promise leaves open
-  pub entry : (n plan : ℕ) (lent witness after witness′ : List ℕ) (e : Entered) → 1 ≤ n → n ≤ last-number → held n rules-T ≡ false → witness-length ≤ length witness → Enter words-T n plan (0 ∷ 258 ∷ 4 ∷ []) (stored rules-T lent) witness e after witness′ → (e .number ≡ 12) × (e .sharer ≡ 7) × (e .shown ≡ 3) × (after ≡ stored rules-T lent) × (witness′ ≡ 0 ∷ 1 ∷ 4 ∷ drop 3 witness)
+  pub entry : (n plan : ℕ) (lent witness after witness′ : List ℕ) (e : Entered) → 1 ≤ n → n ≤ last-number → held n rules-T ≡ false → witness-length ≤ length witness → Enter limits words-T n plan (0 ∷ 258 ∷ 4 ∷ []) (stored limits rules-T lent) witness e after witness′ → (e .number ≡ 12) × (e .sharer ≡ 7) × (e .shown ≡ 3) × (after ≡ stored limits rules-T lent) × (witness′ ≡ 0 ∷ 1 ∷ 4 ∷ drop 3 witness)
   -- "260 260 261 takes all, variable 0 at 0; 260 261 takes none"
   pub takes-all : (bs : List ℕ) (v : Value) → read-booking T bs ≡ some v → Takes T (260 ∷ 260 ∷ 261 ∷ []) bs ((0, 0) ∷ [])
   pub takes-none : (bs : List ℕ) (σ : Binds) → Takes T (260 ∷ 261 ∷ []) bs σ → ⊥

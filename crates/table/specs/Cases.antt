@@ -16,7 +16,7 @@ use Rattle.tree.specs.Limits.{default-plan}
 use Rattle.tree.specs.RunCall.{run-signature}
 use Rattle.table.specs.Calls.{start, long-table, decide-from}
 use Rattle.table.specs.Decide.{direct}
-use Rattle.table.specs.Limits.{witness-length}
+use Rattle.table.specs.Limits.{limits, witness-length}
 use Rattle.table.specs.ListsOfCalls.{ListCall, enter, withdraw, numbers-reckoned, rules-left}
 use Rattle.table.specs.Matrix.{tree-words}
 use Rattle.table.specs.Refusals.{entry-refusal, sharer}
@@ -51,35 +51,35 @@ pub record Cases : Type 0 where
   pub runs-7 : run-signature (read-signature words-T) tree-T (0 ∷ 1 ∷ 5 ∷ []) ≡ (0, record { rule = 7; plan = 40; places = set unbound 0 2 })
   pub runs-9 : run-signature (read-signature words-T) tree-T (0 ∷ 2 ∷ 5 ∷ []) ≡ (0, record { rule = 9; plan = 41; places = unbound })
   pub runs-default : run-signature (read-signature words-T) tree-T (0 ∷ 3 ∷ 4 ∷ []) ≡ (0, no-rule default-plan)
-  pub decides-7 : decide-from (start words-T (long-table (table-words rules-T)) (table-words rules-T)) (0 ∷ 1 ∷ 5 ∷ []) ≡ (0, record { rule = 7; plan = 40; places = set unbound 0 2 })
-  pub decides-9 : decide-from (start words-T (long-table (table-words rules-T)) (table-words rules-T)) (0 ∷ 2 ∷ 5 ∷ []) ≡ (0, record { rule = 9; plan = 41; places = unbound })
-  pub decides-default : decide-from (start words-T (long-table (table-words rules-T)) (table-words rules-T)) (0 ∷ 3 ∷ 4 ∷ []) ≡ (0, no-rule default-plan)
+  pub decides-7 : decide-from (start limits words-T (long-table limits (table-words limits rules-T)) (table-words limits rules-T)) (0 ∷ 1 ∷ 5 ∷ []) ≡ (0, record { rule = 7; plan = 40; places = set unbound 0 2 })
+  pub decides-9 : decide-from (start limits words-T (long-table limits (table-words limits rules-T)) (table-words limits rules-T)) (0 ∷ 2 ∷ 5 ∷ []) ≡ (0, record { rule = 9; plan = 41; places = unbound })
+  pub decides-default : decide-from (start limits words-T (long-table limits (table-words limits rules-T)) (table-words limits rules-T)) (0 ∷ 3 ∷ 4 ∷ []) ≡ (0, no-rule default-plan)
   -- "Entry of 0 258 4: refusal 12, rule 7"
-  pub refused-12 : entry-refusal T 8 (0 ∷ 258 ∷ 4 ∷ []) rules-T ≡ 12
+  pub refused-12 : entry-refusal limits T 8 (0 ∷ 258 ∷ 4 ∷ []) rules-T ≡ 12
   pub shares-7 : sharer T (0 ∷ 258 ∷ 4 ∷ []) rules-T ≡ 7
   -- "Into an empty table: 260 260 261 takes all, variable 0 at 0; 260 261 takes none"
-  pub not-not-admitted : entry-refusal T 1 (260 ∷ 260 ∷ 261 ∷ []) [] ≡ 0
+  pub not-not-admitted : entry-refusal limits T 1 (260 ∷ 260 ∷ 261 ∷ []) [] ≡ 0
   pub not-not : (v : Value) → direct default-plan T (sole (260 ∷ 260 ∷ 261 ∷ [])) v ≡ record { rule = 1; plan = 2; places = set unbound 0 0 }
-  pub not-variable-admitted : entry-refusal T 1 (260 ∷ 261 ∷ []) [] ≡ 0
+  pub not-variable-admitted : entry-refusal limits T 1 (260 ∷ 261 ∷ []) [] ≡ 0
   pub not-variable : (v : Value) → direct default-plan T (sole (260 ∷ 261 ∷ [])) v ≡ no-rule default-plan
   -- "257 261 261: 10; 256 261 261 and 257 261 258: 8; 260 0 261 258 admitted; 260 0 260 261 258: 8"
-  pub or-twice : entry-refusal T 1 (257 ∷ 261 ∷ 261 ∷ []) [] ≡ 10
-  pub and-twice : entry-refusal T 1 (256 ∷ 261 ∷ 261 ∷ []) [] ≡ 8
-  pub or-unequal : entry-refusal T 1 (257 ∷ 261 ∷ 258 ∷ []) [] ≡ 8
-  pub not-con : entry-refusal T 1 (260 ∷ 0 ∷ 261 ∷ 258 ∷ []) [] ≡ 0
-  pub not-con-not : entry-refusal T 1 (260 ∷ 0 ∷ 260 ∷ 261 ∷ 258 ∷ []) [] ≡ 8
+  pub or-twice : entry-refusal limits T 1 (257 ∷ 261 ∷ 261 ∷ []) [] ≡ 10
+  pub and-twice : entry-refusal limits T 1 (256 ∷ 261 ∷ 261 ∷ []) [] ≡ 8
+  pub or-unequal : entry-refusal limits T 1 (257 ∷ 261 ∷ 258 ∷ []) [] ≡ 8
+  pub not-con : entry-refusal limits T 1 (260 ∷ 0 ∷ 261 ∷ 258 ∷ []) [] ≡ 0
+  pub not-con-not : entry-refusal limits T 1 (260 ∷ 0 ∷ 260 ∷ 261 ∷ 258 ∷ []) [] ≡ 8
   -- ""And" of two "or"s of 8 and 8 wildcards: weight 64, admitted; of 5 and 13: 65, refused."
   pub weight-64 : weight T ors-8-8 ≡ 64
-  pub admitted-64 : entry-refusal T 1 ors-8-8 [] ≡ 0
+  pub admitted-64 : entry-refusal limits T 1 ors-8-8 [] ≡ 0
   pub weight-65 : weight T ors-5-13 ≡ 65
-  pub refused-65 : entry-refusal T 1 ors-5-13 [] ≡ 9
+  pub refused-65 : entry-refusal limits T 1 ors-5-13 [] ≡ 9
   -- a list that enters rule 9 first leaves the rules of T, rising by number
-  pub numbers : numbers-reckoned T calls-T [] ≡ 0 ∷ 0 ∷ 12 ∷ 2 ∷ 6 ∷ []
-  pub left : rules-left T calls-T [] ≡ rules-T
-  pub words : take 15 (table-words rules-T) ≡ 2 ∷ 7 ∷ 40 ∷ 3 ∷ 0 ∷ 1 ∷ 261 ∷ 9 ∷ 41 ∷ 4 ∷ 0 ∷ 260 ∷ 1 ∷ 5 ∷ 0 ∷ []
-  pub holds : sound T (table-words rules-T) ≡ some rules-T
+  pub numbers : numbers-reckoned limits T calls-T [] ≡ 0 ∷ 0 ∷ 12 ∷ 2 ∷ 6 ∷ []
+  pub left : rules-left limits T calls-T [] ≡ rules-T
+  pub words : take 15 (table-words limits rules-T) ≡ 2 ∷ 7 ∷ 40 ∷ 3 ∷ 0 ∷ 1 ∷ 261 ∷ 9 ∷ 41 ∷ 4 ∷ 0 ∷ 260 ∷ 1 ∷ 5 ∷ 0 ∷ []
+  pub holds : sound limits T (table-words limits rules-T) ≡ some rules-T
   -- 4 before 5 before 7
-  pub number-0 : entry-refusal T 0 [] rules-T ≡ 4
-  pub number-1000 : entry-refusal T 1000 [] rules-T ≡ 4
-  pub held-malformed : entry-refusal T 7 [] rules-T ≡ 5
-  pub free-malformed : entry-refusal T 8 [] rules-T ≡ 7
+  pub number-0 : entry-refusal limits T 0 [] rules-T ≡ 4
+  pub number-1000 : entry-refusal limits T 1000 [] rules-T ≡ 4
+  pub held-malformed : entry-refusal limits T 7 [] rules-T ≡ 5
+  pub free-malformed : entry-refusal limits T 8 [] rules-T ≡ 7

@@ -1,6 +1,6 @@
--- Demand 3, "a single claim about whole lists": its statement.
-use mathlib.Core.Logic.{_↔_}
+-- Demand 3, "a single claim about whole lists": its statement. In quotation marks are the sentences of the demand, or of 01 where it is named.
 use mathlib.Core.Path.{_≡_}
+use mathlib.Core.Logic.{_↔_}
 use mathlib.Core.List.{List, [], _++_}
 use mathlib.Core.Option.{none, some}
 use mathlib.Core.Bool.{false}
@@ -18,21 +18,21 @@ use Rattle.tree.specs.Limits.{last-number, tree-limit, default-plan}
 use Rattle.tree.specs.RunCall.{RunCall}
 use Rattle.table.specs.Calls.{Entered, Enter, Compile, DecideCall, Empty}
 use Rattle.table.specs.Decide.{Answered}
-use Rattle.table.specs.Limits.{table-length, witness-length, weight-limit, rule-limit}
+use Rattle.table.specs.Limits.{Limits, limits, table-length, witness-length}
 use Rattle.table.specs.ListsOfCalls.{ListCall, numbers-reckoned, rules-left, Calls}
 use Rattle.table.specs.Matrix.{tree-words}
-use Rattle.table.specs.Rule.{Rule, held, total-weight, table-words, SameRules}
-use Rattle.table.specs.Sound.{sound}
+use Rattle.table.specs.Rule.{Rule, held, total-weight, SameRules}
+use Rattle.table.specs.Sound.{SoundTable}
 
 -- the checks of an entry before 12 pass
-pub record Earlier (sig : Signature) (n : ℕ) (ws witness : List ℕ) (rs : List Rule) : Type 0 where
+pub record Earlier (l : Limits) (sig : Signature) (n : ℕ) (ws witness : List ℕ) (rs : List Rule) : Type 0 where
   pub witness-long : witness-length ≤ length witness
   pub low : 1 ≤ n
   pub high : n ≤ last-number
   pub new : held n rs ≡ false
   pub good : Passed sig ws
-  pub room : length rs < rule-limit
-  pub light : weight sig ws + total-weight sig rs ≤ weight-limit
+  pub room : length rs < l .rules
+  pub light : weight sig ws + total-weight sig rs ≤ l .weight
 
 -- some lawful booking is taken by the pattern and by a rule in force
 pub record SharesHeld (sig : Signature) (ws : List ℕ) (rs : List Rule) : Type 0 where
@@ -40,41 +40,45 @@ pub record SharesHeld (sig : Signature) (ws : List ℕ) (rs : List Rule) : Type 
   pub held : In rule rs
   pub shared : SharesBooking sig ws (rule .pattern)
 
--- what a list of calls from a table just emptied gives and leaves
-pub record AfterList (ss : List ℕ) (sig : Signature) (lent : List ℕ) (cs : List ListCall) (ns last : List ℕ) : Type 0 where
-  -- "Every call of a list gives the number so reckoned, never 3"
-  pub numbers-are : ns ≡ numbers-reckoned sig cs []
+-- what a list of calls gives and leaves, begun at a table that holds the rules rs; left are the rules that it leaves
+pub record AfterList (ss : List ℕ) (sig : Signature) (table : List ℕ) (rs : List Rule) (cs : List ListCall) (ns last : List ℕ) (left : List Rule) : Type 0 where
+  -- 01: "Every call of a list gives the number so reckoned, never 3"
+  pub numbers-are : ns ≡ numbers-reckoned limits sig cs rs
   pub never-3 : All (λ n. n ≡ 3 → ⊥) ns
-  -- "after every list the table holds exactly the rules left"; the words behind 4,289 are untouched
-  pub table-is : take table-length last ≡ table-words (rules-left sig cs [])
-  pub rest-is : drop table-length last ≡ drop table-length lent
-  pub in-force : sound sig last ≡ some (rules-left sig cs [])
-  -- "An entry that passes the earlier checks is refused for overlap exactly when some lawful booking is taken by it and by a rule in force."
-  pub twelve : (n plan : ℕ) (ws witness after witness′ : List ℕ) (e : Entered) → Enter ss n plan ws last witness e after witness′ → ((e .number ≡ 12) ↔ (Earlier sig n ws witness (rules-left sig cs []) × SharesHeld sig ws (rules-left sig cs [])))
-  -- compile gives 0, or 14 exactly where the tree exceeds the lent slice or 32,768 words
-  pub compiles : (space space′ : List ℕ) (number len : ℕ) → Compile ss last space number len space′ → ((number ≡ 0) ↔ ((length (tree-words default-plan sig (rules-left sig cs [])) ≤ length space) × (length (tree-words default-plan sig (rules-left sig cs [])) ≤ tree-limit)))
-  -- "A run of a lawful booking over a tree compiled after a list gives 0, and answers by the rules that this list left"
-  pub runs : (space space′ behind bs : List ℕ) (len number : ℕ) (v : Value) (a : Answer) → Compile ss last space 0 len space′ → read-booking sig bs ≡ some v → RunCall ss (take len space′ ++ behind) bs number a → (number ≡ 0) × Answered default-plan sig (rules-left sig cs []) bs a
+  -- 01: "after every list the table holds exactly the rules left. Those are in force"; the words behind the table's own are untouched
+  pub holds : SoundTable limits sig last left
+  pub rest-is : drop (table-length limits) last ≡ drop (table-length limits) table
+  -- compile gives 0, or 14 exactly where the tree of the rules left exceeds the lent slice or 32,768 words
+  pub compiles : (space space′ : List ℕ) (number len : ℕ) → Compile limits ss last space number len space′ → ((number ≡ 0) ↔ ((length (tree-words default-plan sig left) ≤ length space) × (length (tree-words default-plan sig left) ≤ tree-limit)))
+  -- "Run over a tree compiled after any such list, every lawful booking gets the rule, plan and places of the one rule then in force that takes it, or the default if none does."
+  -- 01: "gives 0, and answers by the rules that this list left, whatever is entered or withdrawn later": nothing but the tree is lent to the run
+  pub runs : (space space′ behind bs : List ℕ) (len number : ℕ) (v : Value) (a : Answer) → Compile limits ss last space 0 len space′ → read-booking sig bs ≡ some v → RunCall ss (take len space′ ++ behind) bs number a → (number ≡ 0) × Answered default-plan sig left bs a
   -- deciding from the table answers so too
-  pub decides : (bs : List ℕ) (number : ℕ) (v : Value) (a : Answer) → read-booking sig bs ≡ some v → DecideCall ss last bs number a → (number ≡ 0) × Answered default-plan sig (rules-left sig cs []) bs a
+  pub decides : (bs : List ℕ) (number : ℕ) (v : Value) (a : Answer) → read-booking sig bs ≡ some v → DecideCall limits ss last bs number a → (number ≡ 0) × Answered default-plan sig left bs a
 
--- what two lists give and leave: "two lists .. that leave the same rules leave equal tables (first 4,289 words) and equal trees"
-pub record AfterBoth (ss : List ℕ) (sig : Signature) (lent lent′ : List ℕ) (cs ds : List ListCall) (ns ms last last′ : List ℕ) : Type 0 where
-  pub one : AfterList ss sig lent cs ns last
-  pub other : AfterList ss sig lent′ ds ms last′
-  pub same-table : SameRules (rules-left sig cs []) (rules-left sig ds []) → take table-length last ≡ take table-length last′
-  -- "into spaces of equal length, the same number and, on 0, the same length and that many equal words"
-  pub same-tree : SameRules (rules-left sig cs []) (rules-left sig ds []) → (space space′ out out′ : List ℕ) (n n′ len len′ : ℕ) → length space ≡ length space′ → Compile ss last space n len out → Compile ss last′ space′ n′ len′ out′ → (n ≡ n′) × (len ≡ len′) × (n ≡ 0 → take len out ≡ take len′ out′)
+-- two tables cannot be told apart
+pub record Alike (ss table table′ : List ℕ) : Type 0 where
+  -- "the first 4,289 words of the two tables are equal"
+  pub same-words : take (table-length limits) table ≡ take (table-length limits) table′
+  -- "compiled into lent space of equal length, both give the same refusal or the same tree, word for word"
+  pub same-tree : (space space′ out out′ : List ℕ) (n n′ len len′ : ℕ) → length space ≡ length space′ → Compile limits ss table space n len out → Compile limits ss table′ space′ n′ len′ out′ → (n ≡ n′) × (len ≡ len′) × (n ≡ 0 → take len out ≡ take len′ out′)
 
--- two lists, whatever their calls, each begun at a table just emptied, give and leave that
-abbrev pub TwoLists : List ℕ → Signature → Type 0
-TwoLists ss sig = (cs ds : List ListCall) (lent lent′ emptied emptied′ last last′ ns ms : List ℕ) → Empty lent 0 emptied → Empty lent′ 0 emptied′ → Calls ss emptied cs ns last → Calls ss emptied′ ds ms last′ → AfterBoth ss sig lent lent′ cs ds ns ms last last′
+-- under one lawful signature
+pub record UnderOne (ss : List ℕ) (sig : Signature) : Type 0 where
+  -- "each from a table just emptied": a list begun at any sound table, of which the emptied one, which holds no rule, is a case
+  pub just-emptied : (lent emptied : List ℕ) → Empty limits lent 0 emptied → SoundTable limits sig emptied [] × (drop (table-length limits) emptied ≡ drop (table-length limits) lent)
+  pub one-list : (table : List ℕ) (rs : List Rule) → SoundTable limits sig table rs → (cs : List ListCall) (ns last : List ℕ) → Calls limits ss table cs ns last → AfterList ss sig table rs cs ns last (rules-left limits sig cs rs)
+  -- "Take every two lists of entries and withdrawals, refused ones included .. Whenever both leave the same rules, whatever else the lists tried"
+  pub two-lists : (table table′ : List ℕ) (rs qs : List Rule) → SoundTable limits sig table rs → SoundTable limits sig table′ qs → (cs ds : List ListCall) (ns ms last last′ : List ℕ) → Calls limits ss table cs ns last → Calls limits ss table′ ds ms last′ → SameRules (rules-left limits sig cs rs) (rules-left limits sig ds qs) → Alike ss last last′
+  -- 01: "Compile gives two sound tables of equal rules, under one signature and into spaces of equal length, the same number and, on 0, the same length and that many equal words."
+  pub two-tables : (table table′ : List ℕ) (rs qs : List Rule) → SoundTable limits sig table rs → SoundTable limits sig table′ qs → SameRules rs qs → Alike ss table table′
+  -- "Once the earlier checks pass, any entry, in such a list or not, is refused for overlap exactly when some lawful booking is taken by it and by a rule in force."
+  pub overlap : (table : List ℕ) (rs : List Rule) → SoundTable limits sig table rs → (n plan : ℕ) (ws witness after witness′ : List ℕ) (e : Entered) → Enter limits ss n plan ws table witness e after witness′ → ((e .number ≡ 12) ↔ (Earlier limits sig n ws witness rs × SharesHeld sig ws rs))
 
--- Demand 3. "It starts from the table as a successful empty left it." "The two lists have a table each, not always of one length;
--- every call of both, and compile and run after them, gets the same signature."
+-- Demand 3. 01: "The two lists have a table each, not always of one length; every call of both, and compile and run after them, gets the same signature."
 pub record Demand3 : Type 0 where
-  pub lawful : (ss : List ℕ) (sig : Signature) → read-signature ss ≡ some sig → TwoLists ss sig
-  -- under an unlawful signature every call of a list is reckoned 1, and no rule is left
-  pub unlawful : (ss : List ℕ) → read-signature ss ≡ none → (cs : List ListCall) (table ns last : List ℕ) → Calls ss table cs ns last → All (λ n. n ≡ 1) ns × (last ≡ table)
-  -- every list has an outcome
-  pub outcome : (ss : List ℕ) (cs : List ListCall) (table : List ℕ) → (ns : List ℕ) × (last : List ℕ) × Calls ss table cs ns last
+  pub lawful : (ss : List ℕ) (sig : Signature) → read-signature ss ≡ some sig → UnderOne ss sig
+  -- under an unlawful signature every call of a list is reckoned 1, and nothing changes
+  pub unlawful : (ss : List ℕ) → read-signature ss ≡ none → (cs : List ListCall) (table ns last : List ℕ) → Calls limits ss table cs ns last → All (λ n. n ≡ 1) ns × (last ≡ table)
+  -- every list has an outcome, so that the claim is not empty
+  pub outcome : (ss : List ℕ) (cs : List ListCall) (table : List ℕ) → (ns : List ℕ) × (last : List ℕ) × Calls limits ss table cs ns last

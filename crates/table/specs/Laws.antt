@@ -5,9 +5,9 @@ use mathlib.Core.List.{List, [], _∷_, _++_}
 use mathlib.Core.Option.{some}
 use mathlib.Core.Bool.{true, false}
 use Prim.Native.Nat.{ℕ, _<_}
-use lib.ListN.{length, take}
+use lib.ListN.{length}
 use Rattle.signature.specs.Lists.{In, any}
-use Rattle.signature.specs.Read.{read-booking, read-signature, Signed}
+use Rattle.signature.specs.Read.{read-booking, Signed}
 use Rattle.signature.specs.Signature.{Signature}
 use Rattle.signature.specs.Value.{Value}
 use Rattle.row.specs.Overlap.{shares}
@@ -15,28 +15,23 @@ use Rattle.tree.specs.Compiled.{Compiled}
 use Rattle.tree.specs.Leaf.{Treed}
 use Rattle.tree.specs.Run.{run-words}
 use Rattle.tree.specs.Tree.{Tree}
-use Rattle.table.specs.Calls.{Entered, Enter, Compile}
+use Rattle.table.specs.Limits.{limits}
 use Rattle.table.specs.Decide.{direct}
-use Rattle.table.specs.Demand3.{Earlier, SharesHeld}
 use Rattle.table.specs.Matrix.{lines, tree, tree-words}
 use Rattle.table.specs.Refusals.{sharer}
-use Rattle.table.specs.Rule.{Rule, stored, SameRules}
+use Rattle.table.specs.Rule.{Rule, stored}
 use Rattle.table.specs.Sound.{sound, SoundTable}
 
 pub record Laws : Type 0 where
   -- 3: exactly the sound tables are read, and what was read was there
-  pub sound-table : (sig : Signature) → Signed sig → (table : List ℕ) (rs : List Rule) → ((sound sig table ≡ some rs) ↔ (SoundTable sig table rs))
+  pub sound-table : (sig : Signature) → Signed sig → (table : List ℕ) (rs : List Rule) → ((sound limits sig table ≡ some rs) ↔ (SoundTable limits sig table rs))
   -- rules of a sound table, stored into any words, are read back
-  pub stored-read : (sig : Signature) → Signed sig → (table lent : List ℕ) (rs : List Rule) → SoundTable sig table rs → sound sig (stored rs lent) ≡ some rs
-  -- 12, for every sound table that is handed in
-  pub twelve : (ss : List ℕ) (sig : Signature) → read-signature ss ≡ some sig → (table : List ℕ) (rs : List Rule) → SoundTable sig table rs → (n plan : ℕ) (ws witness after witness′ : List ℕ) (e : Entered) → Enter ss n plan ws table witness e after witness′ → ((e .number ≡ 12) ↔ (Earlier sig n ws witness rs × SharesHeld sig ws rs))
+  pub stored-read : (sig : Signature) → Signed sig → (table lent : List ℕ) (rs : List Rule) → SoundTable limits sig table rs → sound limits sig (stored limits rs lent) ≡ some rs
   -- "the lowest such number"
-  pub lowest : (sig : Signature) → Signed sig → (table : List ℕ) (rs : List Rule) → SoundTable sig table rs → (ws : List ℕ) → any (λ r. shares sig ws (r .pattern)) rs ≡ true → (r : Rule) × In r rs × (sharer sig ws rs ≡ r .number) × (shares sig ws (r .pattern) ≡ true) × ((s : Rule) → In s rs → s .number < r .number → shares sig ws (s .pattern) ≡ false)
+  pub lowest : (sig : Signature) → Signed sig → (table : List ℕ) (rs : List Rule) → SoundTable limits sig table rs → (ws : List ℕ) → any (λ r. shares sig ws (r .pattern)) rs ≡ true → (r : Rule) × In r rs × (sharer sig ws rs ≡ r .number) × (shares sig ws (r .pattern) ≡ true) × ((s : Rule) → In s rs → s .number < r .number → shares sig ws (s .pattern) ≡ false)
   -- the tree of a sound table's rules obeys the four rules, and no other tree does
-  pub four-rules : (dft : ℕ) (sig : Signature) → Signed sig → (table : List ℕ) (rs : List Rule) → SoundTable sig table rs → Compiled dft sig (0 ∷ []) (lines sig rs) 0 (tree dft sig rs) × ((t : Tree) → Compiled dft sig (0 ∷ []) (lines sig rs) 0 t → t ≡ tree dft sig rs)
+  pub four-rules : (dft : ℕ) (sig : Signature) → Signed sig → (table : List ℕ) (rs : List Rule) → SoundTable limits sig table rs → Compiled dft sig (0 ∷ []) (lines sig rs) 0 (tree dft sig rs) × ((t : Tree) → Compiled dft sig (0 ∷ []) (lines sig rs) 0 t → t ≡ tree dft sig rs)
   -- its leaves' variables rise and are at most 15
-  pub leaves : (dft : ℕ) (sig : Signature) → Signed sig → (table : List ℕ) (rs : List Rule) → SoundTable sig table rs → Treed sig (0 ∷ []) 0 (tree dft sig rs)
+  pub leaves : (dft : ℕ) (sig : Signature) → Signed sig → (table : List ℕ) (rs : List Rule) → SoundTable limits sig table rs → Treed sig (0 ∷ []) 0 (tree dft sig rs)
   -- a run over its words, whatever stands behind them, is never broken and answers as the rules do
-  pub runs : (dft : ℕ) (sig : Signature) → Signed sig → (table : List ℕ) (rs : List Rule) → SoundTable sig table rs → (behind bs : List ℕ) (v : Value) → read-booking sig bs ≡ some v → run-words dft sig (tree-words dft sig rs ++ behind) bs ≡ some (direct dft sig rs v)
-  -- "Compile gives two sound tables of equal rules, under one signature and into spaces of equal length, the same number and, on 0, the same length and that many equal words."
-  pub same-trees : (ss : List ℕ) (sig : Signature) → read-signature ss ≡ some sig → (table table′ : List ℕ) (rs qs : List Rule) → sound sig table ≡ some rs → sound sig table′ ≡ some qs → SameRules rs qs → (space space′ out out′ : List ℕ) (n n′ len len′ : ℕ) → length space ≡ length space′ → Compile ss table space n len out → Compile ss table′ space′ n′ len′ out′ → (n ≡ n′) × (len ≡ len′) × (n ≡ 0 → take len out ≡ take len′ out′)
+  pub runs : (dft : ℕ) (sig : Signature) → Signed sig → (table : List ℕ) (rs : List Rule) → SoundTable limits sig table rs → (behind bs : List ℕ) (v : Value) → read-booking sig bs ≡ some v → run-words dft sig (tree-words dft sig rs ++ behind) bs ≡ some (direct dft sig rs v)

@@ -1,27 +1,37 @@
--- The limits of the rule table.
-use Prim.Native.Nat.{ℕ, suc, _+_, _*_}
+-- The limits of the rule table. The definitions of this layer take them as a parameter; those in force are `limits`.
+use Prim.Native.Nat.{ℕ, _+_, _*_}
 use Rattle.signature.specs.Limits.{booking-limit, argument-limit}
 use Rattle.pattern.specs.Limits.{pattern-limit}
 
--- "at most 64 rules"
-abbrev pub rule-limit : ℕ
-rule-limit = 64
+pub record Limits : Type 0 where
+  -- "at most 64 rules"
+  pub rules : ℕ
+  -- "weighing at most 256 in all"
+  pub weight : ℕ
 
--- "weighing at most 256 in all"
-abbrev pub weight-limit : ℕ
-weight-limit = 256
+abbrev pub limits : Limits
+limits = record { rules = 64; weight = 256 }
+
+-- "the rule count, then per rule ..": the first rule stands at this index
+abbrev pub rules-at : ℕ
+rules-at = 1
+
+-- "number, plan, pattern length": the words of a rule before its pattern
+abbrev pub rule-head : ℕ
+rule-head = 3
 
 -- "per rule number, plan, pattern length and pattern": at most 67 words
 abbrev pub rule-length : ℕ
-rule-length = 3 + pattern-limit
+rule-length = rule-head + pattern-limit
 
--- the words of 64 rules: 4,288
-abbrev pub rules-length : ℕ
-rules-length = rule-limit * rule-length
+module _ (l : Limits) where
+  -- the words of as many rules as there may be: 4,288
+  abbrev pub rules-length : ℕ
+  rules-length = l .rules * rule-length
 
--- "the rule count", then the rules: "At least 4,289 words"
-abbrev pub table-length : ℕ
-table-length = suc rules-length
+  -- "At least 4,289 words"
+  abbrev pub table-length : ℕ
+  table-length = rules-length + rules-at
 
 -- 2: "a witness buffer under 4,096"
 abbrev pub witness-length : ℕ
@@ -29,4 +39,4 @@ witness-length = booking-limit
 
 -- more visits than a path of any tree has: each of at most 256 rows refines at most 64 places, of at most 4 arguments
 abbrev pub visit-bound : ℕ
-visit-bound = 2 + argument-limit * (pattern-limit * weight-limit)
+visit-bound = 2 + argument-limit * (pattern-limit * limits .weight)

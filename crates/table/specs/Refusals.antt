@@ -10,19 +10,20 @@ use Rattle.pattern.specs.Weight.{weight}
 use Rattle.row.specs.Admitted.{refusal-of-pattern}
 use Rattle.row.specs.Overlap.{shares}
 use Rattle.tree.specs.Limits.{last-number}
-use Rattle.table.specs.Limits.{weight-limit, rule-limit}
+use Rattle.table.specs.Limits.{Limits}
 use Rattle.table.specs.Rule.{Rule, held, total-weight}
 
--- the first refusal of an entry that applies, other than 1, 2 and 3; 0 for none:
--- "4. The rule number is not 1 to 999. 5. The number to enter is held. 7 to 10. 11. 64 rules are held, or weights would total over 256. 12. It shares a booking with a held rule"
-abbrev pub entry-refusal : Signature → ℕ → List ℕ → List Rule → ℕ
-entry-refusal sig n ws rs =
-    cond (not (leb 1 n && leb n last-number)) 4
-    (cond (held n rs) 5
-    (let q = refusal-of-pattern sig ws in
-    cond (not (eqb q 0)) q
-    (cond (leb rule-limit (length rs) || ltb weight-limit (weight sig ws + total-weight sig rs)) 11
-    (cond (any (λ r. shares sig ws (r .pattern)) rs) 12 0))))
+module _ (l : Limits) where
+  -- the first refusal of an entry that applies, other than 1, 2 and 3; 0 for none:
+  -- "4. The rule number is not 1 to 999. 5. The number to enter is held. 7 to 10. 11. 64 rules are held, or weights would total over 256. 12. It shares a booking with a held rule"
+  abbrev pub entry-refusal : Signature → ℕ → List ℕ → List Rule → ℕ
+  entry-refusal sig n ws rs =
+      cond (not (leb 1 n && leb n last-number)) 4
+      (cond (held n rs) 5
+      (let q = refusal-of-pattern sig ws in
+      cond (not (eqb q 0)) q
+      (cond (leb (l .rules) (length rs) || ltb (l .weight) (weight sig ws + total-weight sig rs)) 11
+      (cond (any (λ r. shares sig ws (r .pattern)) rs) 12 0))))
 
 -- 12: "the lowest such number"
 abbrev pub sharer : Signature → List ℕ → List Rule → ℕ

@@ -8,7 +8,7 @@ use Rattle.signature.specs.Lists.{any, keep, In}
 use Rattle.signature.specs.Signature.{Signature}
 use Rattle.pattern.specs.Weight.{weight}
 use Rattle.tree.specs.Limits.{last-number}
-use Rattle.table.specs.Limits.{table-length}
+use Rattle.table.specs.Limits.{Limits, table-length}
 
 -- number, plan and pattern words
 pub record Rule : Type 0 where
@@ -24,12 +24,6 @@ rule-words r = r .number ∷ (r .plan ∷ (length (r .pattern) ∷ r .pattern))
 abbrev pub rules-words : List Rule → List ℕ
 rules-words [] = []
 rules-words (r ∷ rs) = rule-words r ++ rules-words rs
-
--- "the rule count, then per rule ..; zeros up to 4,289"
-abbrev pub table-words : List Rule → List ℕ
-table-words rs =
-    let ws = length rs ∷ rules-words rs in
-    ws ++ replicate (table-length - length ws) 0
 
 -- a rule with this number is held
 abbrev pub held : ℕ → List Rule → Bool
@@ -49,9 +43,16 @@ add-rule r (s ∷ rs) = cond (ltb (r .number) (s .number)) (r ∷ (s ∷ rs)) (s
 abbrev pub take-out : ℕ → List Rule → List Rule
 take-out n rs = keep (λ r. not (eqb n (r .number))) rs
 
--- "the rest untouched"
-abbrev pub stored : List Rule → List ℕ → List ℕ
-stored rs ws = table-words rs ++ drop table-length ws
+module _ (l : Limits) where
+  -- "the rule count, then per rule ..; zeros up to 4,289"
+  abbrev pub table-words : List Rule → List ℕ
+  table-words rs =
+      let ws = length rs ∷ rules-words rs in
+      ws ++ replicate (table-length l - length ws) 0
+
+  -- "the rest untouched"
+  abbrev pub stored : List Rule → List ℕ → List ℕ
+  stored rs ws = table-words rs ++ drop (table-length l) ws
 
 -- "rising by number", "every rule numbered 1 to 999": above m
 pub data Rises : ℕ → List Rule → Type 0 where

@@ -11,7 +11,7 @@ use Rattle.signature.specs.Signature.{Signature}
 use Rattle.row.specs.Admitted.{refusal-of-pattern, Passed}
 use Rattle.row.specs.Overlap.{shares, SharesBooking}
 use Rattle.tree.specs.Limits.{last-number}
-use Rattle.table.specs.Limits.{table-length, rules-length, weight-limit, rule-limit}
+use Rattle.table.specs.Limits.{Limits, table-length, rules-length}
 use Rattle.table.specs.Rule.{Rule, total-weight, table-words, Rises}
 
 -- n rules rising from number m, then zeros
@@ -31,27 +31,29 @@ abbrev pub no-shared : Signature → List Rule → Bool
 no-shared sig [] = true
 no-shared sig (r ∷ rs) = all (λ s. not (shares sig (r .pattern) (s .pattern))) rs && no-shared sig rs
 
--- the rules of a sound table; else refusal 3
-abbrev pub sound : Signature → List ℕ → Option (List Rule)
-sound sig [] = none
-sound sig (n ∷ ws) = do
-  _ ← require (leb rules-length (length ws) && leb n rule-limit)
-  rs ← read-rules n 0 (take rules-length ws)
-  _ ← require (all (λ r. eqb (refusal-of-pattern sig (r .pattern)) 0) rs && leb (total-weight sig rs) weight-limit && no-shared sig rs)
-  some rs
-
 module _ (sig : Signature) where
   -- "no two taking one lawful booking"
   pub data Apart : List Rule → Type 0 where
     apart-nil : Apart []
     apart-cons : {r : Rule} {rs : List Rule} → ((s : Rule) → In s rs → SharesBooking sig (r .pattern) (s .pattern) → ⊥) → Apart rs → Apart (r ∷ rs)
 
+module _ (l : Limits) where
+  -- the rules of a sound table; else refusal 3
+  abbrev pub sound : Signature → List ℕ → Option (List Rule)
+  sound sig [] = none
+  sound sig (n ∷ ws) = do
+    _ ← require (leb (rules-length l) (length ws) && leb n (l .rules))
+    rs ← read-rules n 0 (take (rules-length l) ws)
+    _ ← require (all (λ r. eqb (refusal-of-pattern sig (r .pattern)) 0) rs && leb (total-weight sig rs) (l .weight) && no-shared sig rs)
+    some rs
+
+module _ (l : Limits) (sig : Signature) where
   -- "Sound: that layout, every rule numbered 1 to 999 and past refusals 7 to 10, at most 64 rules weighing at most 256 in all, no two taking one lawful booking."
   pub record SoundTable (table : List ℕ) (rs : List Rule) : Type 0 where
-    pub long : table-length ≤ length table
-    pub layout : take table-length table ≡ table-words rs
+    pub long : table-length l ≤ length table
+    pub layout : take (table-length l) table ≡ table-words l rs
     pub rises : Rises 0 rs
     pub passed : (r : Rule) → In r rs → Passed sig (r .pattern)
-    pub few : length rs ≤ rule-limit
-    pub light : total-weight sig rs ≤ weight-limit
-    pub apart : Apart rs
+    pub few : length rs ≤ l .rules
+    pub light : total-weight sig rs ≤ l .weight
+    pub apart : Apart sig rs

@@ -7,6 +7,7 @@ use mathlib.Core.Bool.{true, cond}
 use Prim.Native.Nat.{ℕ, _≤_}
 use lib.Dec.{eqb}
 use Rattle.signature.specs.Signature.{Signature}
+use Rattle.table.specs.Limits.{limits}
 use Rattle.table.specs.Calls.{long-witness}
 use Rattle.table.specs.ListsOfCalls.{numbers-reckoned, rules-left}
 use Rattle.table.specs.Rule.{Rule}
@@ -22,4 +23,4 @@ pub record Laws : Type 0 where
   pub number-read : (n : ℕ) → n ≤ last-word → number (decimal n) ≡ some n
   pub number-was : (bytes : List ℕ) (n : ℕ) → number bytes ≡ some n → (bytes ≡ decimal n) × (n ≤ last-word)
   -- "Rules enter in order; the first refusal n": the program's entries are a list of calls, and stop at the first number reckoned that is not 0
-  pub enters : (sig : Signature) (witness : List ℕ) → long-witness witness ≡ true → (qs rs : List Rule) → enter-all sig qs rs ≡ cond (eqb (first-refusal (numbers-reckoned sig (entries witness qs) rs)) 0) (entered (rules-left sig (entries witness qs) rs)) (stopped (first-refusal (numbers-reckoned sig (entries witness qs) rs)))
+  pub enters : (sig : Signature) (witness : List ℕ) → long-witness witness ≡ true → (qs rs : List Rule) → enter-all sig qs rs ≡ cond (eqb (first-refusal (numbers-reckoned limits sig (entries witness qs) rs)) 0) (entered (rules-left limits sig (entries witness qs) rs)) (stopped (first-refusal (numbers-reckoned limits sig (entries witness qs) rs)))

@@ -10,6 +10,7 @@ use Rattle.signature.specs.Value.{Value}
 use Rattle.tree.specs.Answer.{Answer}
 use Rattle.pattern.specs.Limits.{unbound-place}
 use Rattle.tree.specs.Limits.{default-plan}
+use Rattle.table.specs.Limits.{limits}
 use Rattle.table.specs.Decide.{direct}
 use Rattle.table.specs.ListsOfCalls.{ListCall, enter}
 use Rattle.table.specs.Refusals.{entry-refusal}
@@ -69,7 +70,7 @@ abbrev pub enter-all : Signature → List Rule → List Rule → EnteredAll
 enter-all sig [] rs = entered rs
 enter-all sig (q ∷ qs) rs =
     let next = enter-all sig qs (add-rule q rs) in
-    let n = entry-refusal sig (q .number) (q .pattern) rs in
+    let n = entry-refusal limits sig (q .number) (q .pattern) rs in
     cond (eqb n 0) next (stopped n)
 
 -- 13, or the answer: "The booking is decided directly from the table."

@@ -8,6 +8,7 @@ use native.Mathlib.Omega.{arith}
 use lib.Dec.{eqb, leb}
 use Rattle.signature.proofs.Tests.{leb-yes, leb-no}
 use Rattle.tree.specs.Limits.{last-number}
+use Rattle.table.specs.Limits.{limits}
 use Rattle.table.specs.Calls.{Withdraw, start, refused, begin, long-table, withdraw-number, withdraw-table}
 use Rattle.table.specs.Refusals.{withdrawal-refusal}
 use Rattle.table.specs.Rule.{Rule, held, stored, take-out}
@@ -24,7 +25,7 @@ use Rattle.withdrawing.specs.Withdraw.{InTable, withdrawn}
 
 -- a refusal leaves the table
 stays : (n k : ℕ) (rs : List Rule) (table : List ℕ) → withdrawal-refusal n rs ≡ k → eqb k 0 ≡ false → (k ≡ withdrawal-refusal n rs) × (table ≡ withdrawn n rs table)
-stays n k rs table e h = (sym e, sym (ap (λ z. cond (eqb z 0) (stored (take-out n rs) table) table) e ∙ ap (λ b. cond b (stored (take-out n rs) table) table) h))
+stays n k rs table e h = (sym e, sym (ap (λ z. cond (eqb z 0) (stored limits (take-out n rs) table) table) e ∙ ap (λ b. cond b (stored limits (take-out n rs) table) table) h))
 
 module _ {table : List ℕ} (g : InTable table) (n : ℕ) where
   pub zero-4 : n ≡ 0 → (4 ≡ withdrawal-refusal n (g .rs)) × (table ≡ withdrawn n (g .rs) table)
@@ -37,7 +38,7 @@ module _ {table : List ℕ} (g : InTable table) (n : ℕ) where
     refusal-is : withdrawal-refusal n (g .rs) ≡ cond (not (held n (g .rs))) 6 0
     refusal-is = rw (leb-yes 1 n (omega (arith, low)), leb-yes n last-number high)
 
-    module _ (f : Found) (gave : (rs : List Rule) → Holds table rs → FoundAt n rs f) where
+    module _ (f : Found) (gave : (rs : List Rule) → Holds limits table rs → FoundAt n rs f) where
       pub not-held-6 : (at : ℕ) → f ≡ Free at → (6 ≡ withdrawal-refusal n (g .rs)) × (table ≡ withdrawn n (g .rs) table)
       not-held-6 at e =
           let q : FreeAt n (g .rs) at = subst (FoundAt n (g .rs)) e (gave (g .rs) (g .holds)) in
@@ -50,27 +51,27 @@ module _ {table : List ℕ} (g : InTable table) (n : ℕ) where
         pub take-given : GivenTake table at
         take-given = record { rs = g .rs; holds = g .holds; number = n; held = found }
 
-        pub taken-0 : (after : List ℕ) → ((q : GivenTake table at) → after ≡ stored (take-out (q .number) (q .rs)) table) → (0 ≡ withdrawal-refusal n (g .rs)) × (after ≡ withdrawn n (g .rs) table)
+        pub taken-0 : (after : List ℕ) → ((q : GivenTake table at) → after ≡ stored limits (take-out (q .number) (q .rs)) table) → (0 ≡ withdrawal-refusal n (g .rs)) × (after ≡ withdrawn n (g .rs) table)
         unfolding take-given
         taken-0 after t =
             let z : withdrawal-refusal n (g .rs) ≡ 0 = refusal-is ∙ ap (λ b. cond (not b) 6 0) (found .is-held) in
-            (sym z, t take-given ∙ sym (ap (λ k. cond (eqb k 0) (stored (take-out n (g .rs)) table) table) z))
+            (sym z, t take-given ∙ sym (ap (λ k. cond (eqb k 0) (stored limits (take-out n (g .rs)) table) table) z))
 
-module _ (ss table t rows : List ℕ) (n : ℕ) (o : Opened) (open-so : OpenedAs ss (long-table table) table o t rows) where
-  pub turned-down : (k : ℕ) → o ≡ Refused k → Withdraw ss n table k table
+module _ (ss table t rows : List ℕ) (n : ℕ) (o : Opened) (open-so : OpenedAs ss (long-table limits table) table o t rows) where
+  pub turned-down : (k : ℕ) → o ≡ Refused k → Withdraw limits ss n table k table
   turned-down k e =
-      let z : start ss (long-table table) table ≡ refused k = subst (λ x. OpenedAs ss (long-table table) table x t rows) e open-so in
-      record { number-is = sym (ap (λ x. withdraw-number x n) z); table-is = sym (ap (λ x. withdraw-table x n table) z) }
+      let z : start limits ss (long-table limits table) table ≡ refused k = subst (λ x. OpenedAs ss (long-table limits table) table x t rows) e open-so in
+      record { number-is = sym (ap (λ x. withdraw-number x n) z); table-is = sym (ap (λ x. withdraw-table limits x n table) z) }
 
   module _ (used total : ℕ) (e : o ≡ Begun used total) where
-    force : InForce ss (long-table table) table used total t rows
-    force = subst (λ x. OpenedAs ss (long-table table) table x t rows) e open-so
+    force : InForce ss (long-table limits table) table used total t rows
+    force = subst (λ x. OpenedAs ss (long-table limits table) table x t rows) e open-so
 
     pub in-table : InTable table
     in-table = record { rs = force .rs; holds = sound-holds (force .known .sig) table (force .rs) (force .is-sound) }
 
-    pub withdrawn-so : (r : ℕ) (after : List ℕ) → ((g : InTable table) → (r ≡ withdrawal-refusal n (g .rs)) × (after ≡ withdrawn n (g .rs) table)) → Withdraw ss n table r after
+    pub withdrawn-so : (r : ℕ) (after : List ℕ) → ((g : InTable table) → (r ≡ withdrawal-refusal n (g .rs)) × (after ≡ withdrawn n (g .rs) table)) → Withdraw limits ss n table r after
     unfolding in-table
     withdrawn-so r after f =
         let q = f in-table in
-        record { number-is = q .0 ∙ sym (ap (λ x. withdraw-number x n) (force .started)); table-is = q .1 ∙ sym (ap (λ x. withdraw-table x n table) (force .started)) }
+        record { number-is = q .0 ∙ sym (ap (λ x. withdraw-number x n) (force .started)); table-is = q .1 ∙ sym (ap (λ x. withdraw-table limits x n table) (force .started)) }

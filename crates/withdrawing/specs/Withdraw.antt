@@ -3,14 +3,15 @@ use mathlib.Core.List.{List}
 use mathlib.Core.Bool.{cond}
 use Prim.Native.Nat.{ℕ}
 use lib.Dec.{eqb}
+use Rattle.table.specs.Limits.{limits}
 use Rattle.table.specs.Refusals.{withdrawal-refusal}
 use Rattle.table.specs.Rule.{Rule, stored, take-out}
 use Rattle.store.specs.Laid.{Holds}
 
 pub record InTable (table : List ℕ) : Type 0 where
   pub rs : List Rule
-  pub holds : Holds table rs
+  pub holds : Holds limits table rs
 
 -- the table afterwards: on a refusal it stays
 abbrev pub withdrawn : ℕ → List Rule → List ℕ → List ℕ
-withdrawn n rs before = cond (eqb (withdrawal-refusal n rs) 0) (stored (take-out n rs) before) before
+withdrawn n rs before = cond (eqb (withdrawal-refusal n rs) 0) (stored limits (take-out n rs) before) before

@@ -15,6 +15,7 @@ ghost use lib.ListN.{length};
 ghost use Rattle.signature.specs.Decoded.{decoded-length};
 ghost use Rattle.builder.specs.Build.{row-room};
 ghost use Rattle.loading.specs.Add.{rows-room};
+ghost use Rattle.table.specs.Limits.{limits};
 ghost use Rattle.table.specs.Calls.{Withdraw};
 ghost use Rattle.table.specs.Refusals.{withdrawal-refusal};
 ghost use Rattle.withdrawing.specs.Withdraw.{InTable, withdrawn};
@@ -51,7 +52,7 @@ fn withdraw_in(
     work: &mut [u64],
 ) -> u16
     requires { ⌜ (length (now t) ≡ decoded-length) × (rows-room ≤ length (now rows)) × (row-room ≤ length (now work)) ⌝ }
-    ensures { λ r. ⌜ Withdraw (now (ss .entry)) number (now (table .entry)) r (now (table .exit)) ⌝ }
+    ensures { λ r. ⌜ Withdraw limits (now (ss .entry)) number (now (table .entry)) r (now (table .exit)) ⌝ }
 {
     let long = table.len() >= TABLE;
     let o = open(ss, long, table, t, rows, work);
@@ -62,7 +63,7 @@ fn withdraw_in(
 }
 
 pub fn withdraw(ss: &[u16], number: u16, table: &mut [u16]) -> u16
-    ensures { λ r. ⌜ Withdraw (now (ss .entry)) number (now (table .entry)) r (now (table .exit)) ⌝ }
+    ensures { λ r. ⌜ Withdraw limits (now (ss .entry)) number (now (table .entry)) r (now (table .exit)) ⌝ }
 {
     let mut t = [0u16; DECODED];
     let mut rows = [0u64; ROWS_ROOM];

@@ -6,6 +6,7 @@ use native.Mathlib.Omega.{arith}
 use lib.ListN.{length}
 use borrow.Author.Needs.{needs}
 use Rattle.signature.proofs.Booleans.{not-true, not-false}
+use Rattle.table.specs.Limits.{limits}
 use Rattle.table.specs.Rule.{Rule}
 use Rattle.store.specs.Laid.{Holds}
 use Rattle.loading.specs.Load.{GivenLoad}
@@ -14,7 +15,7 @@ use Rattle.loading.proofs.load.load.Statement.{statement}
 use Rattle.loading.proofs.load.load.Tie as tie
 
 abbrev Inv-loop : tie.InvT-loop
-Inv-loop t table rows₀ work₀ n at₀ used₀ total₀ i₀ rows work at used total i = (length rows ≡ length rows₀) × (length work ≡ length work₀) × ((g : GivenLoad t table (length rows₀) (length work₀)) (rs : List Rule) (h : Holds table rs) → Mid g rs h at used total i rows)
+Inv-loop t table rows₀ work₀ n at₀ used₀ total₀ i₀ rows work at used total i = (length rows ≡ length rows₀) × (length work ≡ length work₀) × ((g : GivenLoad t table (length rows₀) (length work₀)) (rs : List Rule) (h : Holds limits table rs) → Mid g rs h at used total i rows)
 
 abbrev μ-loop : tie.MeasureT-loop
 μ-loop t table rows₀ work₀ n at₀ used₀ total₀ i₀ rows work at used total i = n - i

@@ -3,7 +3,7 @@ use Prim.Native.Nat.{_+_, _-_, _≤_}
 use mathlib.Core.List.{List}
 use native.Mathlib.Omega.{arith}
 use lib.ListN.{length, getD}
-use Rattle.table.specs.Limits.{table-length}
+use Rattle.table.specs.Limits.{limits, table-length}
 use Rattle.table.specs.Rule.{Rule}
 use Rattle.store.specs.Laid.{Holds}
 use Rattle.store.proofs.FindFacts.{Now, begin, now-step, now-end}
@@ -11,7 +11,7 @@ use Rattle.store.proofs.find.end.Statement.{statement}
 use Rattle.store.proofs.find.end.Tie as tie
 
 abbrev Inv-loop : tie.InvT-loop
-Inv-loop table n at₀ i₀ at i = (at ≤ table-length) × (table-length ≤ length table) × ((rs : List Rule) → Holds table rs → Now rs i at)
+Inv-loop table n at₀ i₀ at i = (at ≤ (table-length limits)) × (table-length limits ≤ length table) × ((rs : List Rule) → Holds limits table rs → Now rs i at)
 
 abbrev μ-loop : tie.MeasureT-loop
 μ-loop table n at₀ i₀ at i = n - i
@@ -21,7 +21,7 @@ entry l = l .before .before
 
 -- the next rule is in the table
 within : (c : tie.In-loop Inv-loop μ-loop) → let l = c .before in let t = entry l .args .table .now in
-    l .loop .at + 3 + getD t (l .loop .at + 2) 0 ≤ table-length
+    l .loop .at + 3 + getD t (l .loop .at + 2) 0 ≤ (table-length limits)
 within c = let l = c .before in let (rs, h) = entry l .pre in now-step h (l .loop .i) (l .loop .at) (l .loop .inv .2 rs h) (c .loop-test .taken) .0
 
 pub end-spec : {M : Type 1} → statement M

@@ -4,7 +4,7 @@ use mathlib.Core.List.{List}
 use Prim.Native.Nat.{_+_, _-_, _≤_}
 use native.Mathlib.Omega.{arith}
 use lib.ListN.{length, getD}
-use Rattle.table.specs.Limits.{table-length}
+use Rattle.table.specs.Limits.{limits, table-length}
 use Rattle.table.specs.Rule.{Rule}
 use Rattle.store.specs.Laid.{Holds}
 use Rattle.store.proofs.FindFacts.{Seek, seek-begin, seek-within, seek-next, seek-held, seek-free, seek-end}
@@ -12,7 +12,7 @@ use Rattle.store.proofs.find.find.Statement.{statement}
 use Rattle.store.proofs.find.find.Tie as tie
 
 abbrev Inv-loop : tie.InvT-loop
-Inv-loop table number n at₀ i₀ at i = (at ≤ table-length) × (table-length ≤ length table) × ((rs : List Rule) → Holds table rs → Seek number rs i at)
+Inv-loop table number n at₀ i₀ at i = (at ≤ (table-length limits)) × (table-length limits ≤ length table) × ((rs : List Rule) → Holds limits table rs → Seek number rs i at)
 
 abbrev μ-loop : tie.MeasureT-loop
 μ-loop table number n at₀ i₀ at i = n - i
@@ -25,7 +25,7 @@ top c = c .before .before
 
 -- the next rule is in the table
 within : (c : tie.In-loop Inv-loop μ-loop) → let l = c .before in let t = entry l .args .table .now in
-    l .loop .at + 3 + getD t (l .loop .at + 2) 0 ≤ table-length
+    l .loop .at + 3 + getD t (l .loop .at + 2) 0 ≤ (table-length limits)
 within c = let l = c .before in let (rs, h) = entry l .pre in seek-within h (entry l .args .number) (l .loop .i) (l .loop .at) (l .loop .inv .2 rs h) (c .loop-test .taken)
 
 pub find-spec : {M : Type 1} → statement M

@@ -4,7 +4,7 @@ use Prim.Native.Nat.{_-_, _≤_}
 use native.Mathlib.Omega.{arith}
 use borrow.Author.Needs.{needs}
 use Rattle.signature.specs.Lists.{is-some}
-use Rattle.table.specs.Limits.{table-length}
+use Rattle.table.specs.Limits.{limits, table-length}
 use Rattle.table.specs.Sound.{read-rules}
 use Rattle.store.specs.Head.{HeadAt, from}
 use Rattle.store.specs.Laid.{laid}
@@ -13,7 +13,7 @@ use Rattle.store.proofs.layout.layout.Statement.{statement}
 use Rattle.store.proofs.layout.layout.Tie as tie
 
 abbrev Inv-loop : tie.InvT-loop
-Inv-loop table n at₀ last₀ i₀ at last i = (at ≤ table-length) × (is-some (laid table) ≡ is-some (read-rules (n - i) last (from table at)))
+Inv-loop table n at₀ last₀ i₀ at last i = (at ≤ (table-length limits)) × (is-some (laid limits table) ≡ is-some (read-rules (n - i) last (from table at)))
 
 abbrev μ-loop : tie.MeasureT-loop
 μ-loop table n at₀ last₀ i₀ at last i = n - i

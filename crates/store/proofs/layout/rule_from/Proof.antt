@@ -3,7 +3,7 @@ use Prim.Native.Nat.{ℕ, _+_, _≤_}
 use native.Mathlib.Omega.{arith}
 use lib.ListN.{getD}
 use borrow.Author.Needs.{needs}
-use Rattle.table.specs.Limits.{table-length}
+use Rattle.table.specs.Limits.{limits, table-length}
 use Rattle.store.proofs.Reading.{no-room, falls, high, cut, on}
 use Rattle.store.proofs.layout.rule_from.Statement.{statement}
 use Rattle.store.proofs.layout.rule_from.Tie as tie

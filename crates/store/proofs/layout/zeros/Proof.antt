@@ -4,17 +4,17 @@ use Prim.Native.Nat.{_-_, _≤_}
 use native.Mathlib.Omega.{arith}
 use lib.Dec.{eqb}
 use Rattle.signature.specs.Lists.{all}
-use Rattle.table.specs.Limits.{table-length}
+use Rattle.table.specs.Limits.{limits, table-length}
 use Rattle.store.specs.Head.{from}
 use Rattle.store.proofs.Reading.{zero-not, zero-on, zero-end}
 use Rattle.store.proofs.layout.zeros.Statement.{statement}
 use Rattle.store.proofs.layout.zeros.Tie as tie
 
 abbrev Inv-loop : tie.InvT-loop
-Inv-loop table at i₀ i = (i ≤ table-length) × (all (λ w. eqb w 0) (from table at) ≡ all (λ w. eqb w 0) (from table i))
+Inv-loop table at i₀ i = (i ≤ (table-length limits)) × (all (λ w. eqb w 0) (from table at) ≡ all (λ w. eqb w 0) (from table i))
 
 abbrev μ-loop : tie.MeasureT-loop
-μ-loop table at i₀ i = table-length - i
+μ-loop table at i₀ i = table-length limits - i
 
 pub zeros-spec : {M : Type 1} → statement M
 zeros-spec =
