@@ -17,7 +17,7 @@ use Rattle.table.specs.Calls.{Empty, Enter, DecideCall}
 use Rattle.table.specs.Limits.{limits, table-length, witness-length}
 use Rattle.table.specs.Refusals.{entry-refusal}
 use Rattle.table.specs.Rule.{Rule, add-rule}
-use Rattle.entry.specs.Entry.{answer-of, Numbered}
+use Rattle.entry.specs.Entry.{entry-answer, Numbered}
 use Rattle.entry.specs.declared.sound.Entry.{Entry}
 use Rattle.entry.specs.declared.sound.Entry.the-variants as entry
 use Rattle.entry.proofs.sound.Entry.{the-type}
@@ -51,7 +51,7 @@ same-rule : (q : Rule) (n p : ℕ) (ws : List ℕ) → q .number ≡ n → q .pl
 unfolding rule-of-parts
 same-rule q n p ws a b c = ap (λ i. rule-of-parts i p ws) (sym a) ∙ ap (λ j. rule-of-parts (q .number) j ws) (sym b) ∙ ap (λ v. rule-of-parts (q .number) (q .plan) v) c
 
-not-0 : (y : Entry) → Numbered y → (y ≡ entry.Entered → ⊥) → answer-of y .number ≡ 0 → ⊥
+not-0 : (y : Entry) → Numbered y → (y ≡ entry.Entered → ⊥) → entry-answer y .number ≡ 0 → ⊥
 not-0 entry.Entered h f z = f refl
 not-0 (entry.Refused n) h f z = omega (arith, h, z)
 not-0 (entry.Shares rule words) h f z = omega (arith, z)
@@ -101,23 +101,23 @@ module _ {text : List ℕ} {at : ℕ} {ss table : List ℕ} (r : Ready text at s
           rule-is : record { number = n; plan = p; pattern = take m w′ } ≡ here .rule
           rule-is = same-rule (here .rule) n p (take m w′) (values .0) (values .1) pattern-is
 
-          module _ (witness : List ℕ) (long : witness-length ≤ length witness) (y : Entry) (after witness′ : List ℕ) (did : Enter limits ss n p (take m w′) table witness (answer-of y) after witness′) (numbered : Numbered y) where
-            number-is : entry-refusal limits (r .sig) (here .rule .number) (here .rule .pattern) (r .held) ≡ answer-of y .number
-            number-is = ap₂ (λ i ws. entry-refusal limits (r .sig) i ws (r .held)) (values .0) (sym pattern-is) ∙ entry-number ss (r .sig) (r .lawful) table (r .held) (r .in-force) n p (take m w′) witness long (answer-of y) after witness′ did
+          module _ (witness : List ℕ) (long : witness-length ≤ length witness) (y : Entry) (after witness′ : List ℕ) (did : Enter limits ss n p (take m w′) table witness (entry-answer y) after witness′) (numbered : Numbered y) where
+            number-is : entry-refusal limits (r .sig) (here .rule .number) (here .rule .pattern) (r .held) ≡ entry-answer y .number
+            number-is = ap₂ (λ i ws. entry-refusal limits (r .sig) i ws (r .held)) (values .0) (sym pattern-is) ∙ entry-number ss (r .sig) (r .lawful) table (r .held) (r .in-force) n p (take m w′) witness long (entry-answer y) after witness′ did
 
-            pub rule-refused : (y ≡ entry.Entered → ⊥) → printed text ≡ print-refused (answer-of y .number)
-            rule-refused f = refused (r .going) here (answer-of y .number) number-is (not-0 y numbered f)
+            pub rule-refused : (y ≡ entry.Entered → ⊥) → printed text ≡ print-refused (entry-answer y .number)
+            rule-refused f = refused (r .going) here (entry-answer y .number) number-is (not-0 y numbered f)
 
             pub rule-entered : y ≡ entry.Entered → Ready text (at + u) ss after
             rule-entered f =
-                let z : answer-of y .number ≡ 0 = ap (λ v. answer-of v .number) f in
+                let z : entry-answer y .number ≡ 0 = ap (λ v. entry-answer v .number) f in
                 record {
                   sig = r .sig;
                   lawful = r .lawful;
                   held = add-rule (here .rule) (r .held);
-                  in-force = entry-stored ss (r .sig) (r .lawful) table (r .held) (r .in-force) n p (take m w′) witness long (answer-of y) after witness′ did z ∙ ap (λ q. some (add-rule q (r .held))) rule-is;
+                  in-force = entry-stored ss (r .sig) (r .lawful) table (r .held) (r .in-force) n p (take m w′) witness long (entry-answer y) after witness′ did z ∙ ap (λ q. some (add-rule q (r .held))) rule-is;
                   within = lines-fit .1;
-                  going = subst (λ v. Going text (r .sig) v (add-rule (here .rule) (r .held))) (ap (λ i. drop i (drop at text)) (values .3) ∙ drop-drop u at text) (entered (r .going) here (answer-of y .number) number-is z);
+                  going = subst (λ v. Going text (r .sig) v (add-rule (here .rule) (r .held))) (ap (λ i. drop i (drop at text)) (values .3) ∙ drop-drop u at text) (entered (r .going) here (entry-answer y .number) number-is z);
                 }
 
   -- book= is next

@@ -13,7 +13,7 @@ ghost use Prim.Native.Nat.{_≤_};
 ghost use lib.ListN.{length, drop};
 ghost use Rattle.signature.specs.Lists.{is-some};
 ghost use Rattle.table.specs.Limits.{witness-length};
-ghost use Rattle.entry.specs.Entry.{answer-of};
+ghost use Rattle.entry.specs.Entry.{entry-answer};
 ghost use Rattle.text.specs.Format.{after-key, key-rule};
 ghost use Rattle.text.specs.Limits.{list-limit};
 ghost use Rattle.text.specs.Print.{printed};
@@ -27,7 +27,7 @@ const SHARED: u16 = 12;
 pub const FORMAT_BROKEN: u16 = 17;
 
 fn entry_number(e: Entry) -> u16
-    ensures { λ r. ⌜ r ≡ answer-of e .number ⌝ }
+    ensures { λ r. ⌜ r ≡ entry-answer e .number ⌝ }
 {
     match e {
         Entry::Entered => 0,

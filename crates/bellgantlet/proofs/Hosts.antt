@@ -17,13 +17,13 @@ use Rattle.signature.proofs.Tests.{eqb-no}
 use Rattle.signature.proofs.Values.{length-code, some-size}
 use Rattle.table.specs.Limits.{limits}
 use Rattle.table.specs.Calls.{Enter}
-use Rattle.entry.specs.Entry.{answer-of}
+use Rattle.entry.specs.Entry.{entry-answer}
 use Rattle.entry.specs.declared.sound.Entry.{Entry}
 use Rattle.bellgantlet.specs.Answers.{PartCall}
 
 -- an entry's answer, by its case
-pub by-case : (ss : List ℕ) (n plan : ℕ) (ws before witness : List ℕ) (e e′ : Entry) (after witness′ : List ℕ) → e ≡ e′ → Enter limits ss n plan ws before witness (answer-of e) after witness′ → Enter limits ss n plan ws before witness (answer-of e′) after witness′
-by-case ss n plan ws before witness e e′ after witness′ p h = subst (λ z. Enter limits ss n plan ws before witness (answer-of z) after witness′) p h
+pub by-case : (ss : List ℕ) (n plan : ℕ) (ws before witness : List ℕ) (e e′ : Entry) (after witness′ : List ℕ) → e ≡ e′ → Enter limits ss n plan ws before witness (entry-answer e) after witness′ → Enter limits ss n plan ws before witness (entry-answer e′) after witness′
+by-case ss n plan ws before witness e e′ after witness′ p h = subst (λ z. Enter limits ss n plan ws before witness (entry-answer z) after witness′) p h
 
 -- on a refusal the part is empty
 none-16 : (b : Bool) (ws : List ℕ) → (cond {A = ℕ × List ℕ} b (0, ws) (16, []) .0 ≡ 0 → ⊥) → cond {A = ℕ × List ℕ} b (0, ws) (16, []) .1 ≡ []

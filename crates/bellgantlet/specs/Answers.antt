@@ -14,8 +14,8 @@ use Rattle.bellgantlet.specs.declared.Entered.{Entered as HostEntered}
 abbrev pub entered-of : HostEntered → Entered
 entered-of r = record { number = r .number; sharer = r .rule; shown = r .length }
 
-abbrev pub answer-of : HostAnswer → Answer
-answer-of r = record { rule = r .rule; plan = r .plan; places = r .places }
+abbrev pub host-answer : HostAnswer → Answer
+host-answer r = record { rule = r .rule; plan = r .plan; places = r .places }
 
 -- "One call hands back the part of the booking that begins at a given place; on a refusal that part is empty", by where it begins and its length: the words that stand there are the part
 pub record PartCall (ss bs : List ℕ) (place number start len : ℕ) : Type 0 where

@@ -9,7 +9,7 @@ use run::run;
 ghost use Rattle.tree.specs.RunCall.{RunCall};
 ghost use Rattle.table.specs.Limits.{limits};
 ghost use Rattle.table.specs.Calls.{Empty, Enter, Withdraw, Compile, DecideCall};
-ghost use Rattle.bellgantlet.specs.Answers.{entered-of, answer-of, PartCall};
+ghost use Rattle.bellgantlet.specs.Answers.{entered-of, host-answer, PartCall};
 
 // 12: the pattern shares a booking with a held rule.
 const SHARED: u16 = 12;
@@ -102,7 +102,7 @@ pub extern "C" fn bellgantlet_compile(signature: &[u16], table: &[u16], space: &
 
 #[no_mangle]
 pub extern "C" fn bellgantlet_decide(signature: &[u16], table: &[u16], booking: &[u16]) -> Answer
-    ensures { λ r. ⌜ DecideCall limits (now (signature .entry)) (now (table .entry)) (now (booking .entry)) (r .number) (answer-of r) ⌝ }
+    ensures { λ r. ⌜ DecideCall limits (now (signature .entry)) (now (table .entry)) (now (booking .entry)) (r .number) (host-answer r) ⌝ }
 {
     let a = decide(signature, table, booking);
     let places = a.places;
@@ -116,7 +116,7 @@ pub extern "C" fn bellgantlet_decide(signature: &[u16], table: &[u16], booking: 
 
 #[no_mangle]
 pub extern "C" fn bellgantlet_run(signature: &[u16], tree: &[u16], booking: &[u16]) -> Answer
-    ensures { λ r. ⌜ RunCall (now (signature .entry)) (now (tree .entry)) (now (booking .entry)) (r .number) (answer-of r) ⌝ }
+    ensures { λ r. ⌜ RunCall (now (signature .entry)) (now (tree .entry)) (now (booking .entry)) (r .number) (host-answer r) ⌝ }
 {
     let r = run(signature, tree, booking);
     let places = r.places;

@@ -24,7 +24,7 @@ use Rattle.table.specs.Decide.{direct, answer-by, or-none}
 use Rattle.table.specs.Limits.{limits, table-length}
 use Rattle.table.specs.Rule.{Rule}
 use Rattle.store.specs.Laid.{Holds}
-use Rattle.store.specs.Place.{Walked, Step}
+use Rattle.store.specs.Place.{Walked, NextRule}
 use Rattle.store.proofs.LaidFacts.{is-stored}
 use Rattle.store.proofs.Walk.{walk-start, walk-step, walk-end}
 use Rattle.loading.proofs.Loads.{sound-holds}
@@ -81,7 +81,7 @@ module _ {t table bs : List ℕ} (g : Judging t table bs) where
     finished e = l .same ∙ ap (λ z. direct default-plan (g .known .sig) z (g .value)) (walk-end (l .walked) (omega (arith, e, count-is)) .0)
 
     module _ (e : i < getD table 0 0) where
-      abbrev step : Step table (g .rs) (l .before) (l .after) i at
+      abbrev step : NextRule table (g .rs) (l .before) (l .after) i at
       step = walk-step (g .rs) (l .before) (l .after) i at holds (l .walked) (omega (arith, e, count-is))
 
       pub end-le : at + 3 + getD table (at + 2) 0 ≤ (table-length limits)

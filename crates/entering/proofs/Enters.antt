@@ -21,7 +21,7 @@ use Rattle.opening.specs.Open.{GivenOpen, InForce, OpenedAs}
 use Rattle.opening.specs.declared.open.Opened.{Opened}
 use Rattle.opening.specs.declared.open.Opened.the-variants.{Begun, Refused as Closed}
 use Rattle.entry.specs.Check.{GivenCheck}
-use Rattle.entry.specs.Entry.{answer-of, Numbered}
+use Rattle.entry.specs.Entry.{entry-answer, Numbered}
 use Rattle.entry.specs.Settle.{EntryOf}
 use Rattle.entry.specs.declared.sound.Entry.the-variants.{Refused}
 
@@ -66,7 +66,7 @@ refused-some ss long table q e = on-lawful (read-signature ss) e
     on-lawful (some sig) x = on-long sig long x
 
 module _ (ss : List ℕ) (n plan : ℕ) (ws table witness : List ℕ) where
-  pub refused-early : (q : ℕ) → enter-start limits ss table witness ≡ refused q → Enter limits ss n plan ws table witness (answer-of (Refused q)) table witness
+  pub refused-early : (q : ℕ) → enter-start limits ss table witness ≡ refused q → Enter limits ss n plan ws table witness (entry-answer (Refused q)) table witness
   refused-early q e = record {
     number-is = sym (ap (λ s. enter-number limits s n ws) e);
     table-is = sym (ap (λ s. enter-table limits s n plan ws table) e);
@@ -90,7 +90,7 @@ module _ (ss : List ℕ) (n plan : ℕ) (ws table witness : List ℕ) (long : Bo
   open-given l k m a b c = record { decoded-room = a; table-long = λ e. table-long table witness long long-so e; room = omega (arith, b); work-room = omega (arith, c) }
 
   module _ (r : Opened) (t rows : List ℕ) (gave : OpenedAs ss long table r t rows) where
-    pub not-opened : (q : ℕ) → r ≡ Closed q → Enter limits ss n plan ws table witness (answer-of (Refused q)) table witness
+    pub not-opened : (q : ℕ) → r ≡ Closed q → Enter limits ss n plan ws table witness (entry-answer (Refused q)) table witness
     not-opened q e = refused-early ss n plan ws table witness q (ap (λ b. start limits ss b table) (sym long-so) ∙ subst (λ z. OpenedAs ss long table z t rows) e gave)
 
     pub numbered : (q : ℕ) → r ≡ Closed q → Numbered (Refused q)

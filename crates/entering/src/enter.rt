@@ -11,7 +11,7 @@ ghost use mathlib.Core.Path.{_≡_};
 ghost use mathlib.Core.Bool.{_&&_};
 ghost use Rattle.table.specs.Limits.{limits};
 ghost use Rattle.table.specs.Calls.{Enter, long-table, long-witness};
-ghost use Rattle.entry.specs.Entry.{answer-of, Numbered};
+ghost use Rattle.entry.specs.Entry.{entry-answer, Numbered};
 
 // The words of a witness buffer.
 pub const WITNESS: usize = 4096;
@@ -34,7 +34,7 @@ pub fn enter(
     table: &mut [u16],
     witness: &mut [u16],
 ) -> Entry
-    ensures { λ r. ⌜ Enter limits (now (ss .entry)) number plan (now (pattern .entry)) (now (table .entry)) (now (witness .entry)) (answer-of r) (now (table .exit)) (now (witness .exit)) ⌝ }
+    ensures { λ r. ⌜ Enter limits (now (ss .entry)) number plan (now (pattern .entry)) (now (table .entry)) (now (witness .entry)) (entry-answer r) (now (table .exit)) (now (witness .exit)) ⌝ }
     ensures { λ r. ⌜ Numbered r ⌝ }
 {
     let long = long_enough(table, witness);

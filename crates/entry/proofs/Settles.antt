@@ -22,12 +22,12 @@ use Rattle.table.proofs.TableFacts.{Valid}
 use Rattle.builder.specs.Build.{row-room}
 use Rattle.store.specs.Change.{GivenPut}
 use Rattle.store.proofs.LaidFacts.{sound-holds}
-use Rattle.loading.specs.Add.{GivenPlace, Placed}
+use Rattle.loading.specs.Add.{GivenPlace, ListPlaced}
 use Rattle.loading.specs.Lists.{rows-by, list-for, lists-for}
 use Rattle.loading.specs.Load.{patterns}
 use Rattle.sharing.specs.Sharer.{GivenSharer, SharerOf}
 use Rattle.sharing.specs.declared.first.Sharer.{Sharer}
-use Rattle.entry.specs.Entry.{answer-of}
+use Rattle.entry.specs.Entry.{entry-answer}
 use Rattle.entry.specs.Settle.{GivenSettle, EntryOf}
 use Rattle.entry.specs.declared.sound.Entry.the-variants.{Entered, Shares}
 
@@ -50,8 +50,8 @@ module _ {t table : List ℕ} {n : ℕ} {ws : List ℕ} {at used : ℕ} {rows : 
   pub put-given : GivenPut table at n ws
   put-given = record { rs = g .rs; holds = sound-holds (g .known .sig) table (g .rs) (g .is-sound); free = g .cleared .free; few = g .cleared .few; short = valid .short; short-new = short-of (g .known .sig) ws (g .cleared .passed) }
 
-  module _ (r : ℕ) (o : List ℕ) (put : (q : GivenPlace t ws used (length rows) m) → Placed (q .known .sig) (q .p) used r rows o) where
-    placed : Placed (g .known .sig) (passed .pat) used r rows o
+  module _ (r : ℕ) (o : List ℕ) (put : (q : GivenPlace t ws used (length rows) m) → ListPlaced (q .known .sig) (q .p) used r rows o) where
+    placed : ListPlaced (g .known .sig) (passed .pat) used r rows o
     unfolding place-given
     placed = put place-given
 
@@ -104,7 +104,7 @@ module _ {t table : List ℕ} {n : ℕ} {ws : List ℕ} {at used : ℕ} {rows : 
       unfolding sharer-given
       said = gave sharer-given
 
-      pub shared : 0 < s .length → EntryOf (g .known .sig) (g .rs) n plan ws table witness (answer-of (Shares (s .rule) (s .length))) table witness′
+      pub shared : 0 < s .length → EntryOf (g .known .sig) (g .rs) n plan ws table witness (entry-answer (Shares (s .rule) (s .length))) table witness′
       shared h =
           let (e, w) = said .one-shares (omega (arith, h)) in
           let z : entry-refusal limits (g .known .sig) n ws (g .rs) ≡ 12 = g .cleared .refusal-is ∙ ap (λ b. cond b 12 0) e in
@@ -115,7 +115,7 @@ module _ {t table : List ℕ} {n : ℕ} {ws : List ℕ} {at used : ℕ} {rows : 
             on-12 = λ x. w;
           }
 
-      pub entered : s .length ≤ 0 → (after : List ℕ) → ((q : GivenPut table at n ws) → after ≡ stored limits (add-rule (record { number = n; plan = plan; pattern = ws }) (q .rs)) table) → EntryOf (g .known .sig) (g .rs) n plan ws table witness (answer-of Entered) after witness′
+      pub entered : s .length ≤ 0 → (after : List ℕ) → ((q : GivenPut table at n ws) → after ≡ stored limits (add-rule (record { number = n; plan = plan; pattern = ws }) (q .rs)) table) → EntryOf (g .known .sig) (g .rs) n plan ws table witness (entry-answer Entered) after witness′
       unfolding put-given
       entered h after did =
           let (e, u, w) = said .none-shares (omega (arith, h)) in

@@ -11,7 +11,7 @@ use Rattle.table.specs.Calls.{Entered as Answer}
 use Rattle.table.specs.Limits.{limits, witness-length}
 use Rattle.table.specs.Rule.{stored, add-rule}
 use Rattle.entry.specs.Check.{GivenCheck, CheckedAs}
-use Rattle.entry.specs.Entry.{answer-of, Numbered}
+use Rattle.entry.specs.Entry.{entry-answer, Numbered}
 use Rattle.entry.specs.Settle.{GivenSettle, EntryOf}
 use Rattle.entry.specs.declared.check.Checked.{Checked}
 use Rattle.entry.specs.declared.check.Checked.the-variants.{Free, Refused as Barred}
@@ -21,7 +21,7 @@ not-0 : (q : ℕ) (x y : List ℕ) → 1 ≤ q → cond (eqb q 0) x y ≡ y
 not-0 q x y h = ap (λ b. cond b x y) (eqb-no q 0 (λ e. omega (arith, e, h)))
 
 module _ {t table : List ℕ} {used total : ℕ} {rows : List ℕ} {m : ℕ} (g : GivenCheck t table used total rows m) (n plan : ℕ) (ws witness : List ℕ) (r : Checked) (rows′ : List ℕ) (gave : (q : GivenCheck t table used total rows m) → CheckedAs (q .known .sig) (q .rs) n ws used total r rows′) where
-  pub turned-down : (q : ℕ) → r ≡ Barred q → EntryOf (g .known .sig) (g .rs) n plan ws table witness (answer-of (Refused q)) table witness
+  pub turned-down : (q : ℕ) → r ≡ Barred q → EntryOf (g .known .sig) (g .rs) n plan ws table witness (entry-answer (Refused q)) table witness
   turned-down q e =
       let (a, b, c) = subst (λ z. CheckedAs (g .known .sig) (g .rs) n ws used total z rows′) e (gave g) in
       record {

@@ -4,7 +4,7 @@ use loading::add::place;
 use sharing::first::first_sharer;
 use store::change::put;
 ghost use lib.ListN.{length};
-ghost use Rattle.entry.specs.Entry.{answer-of, Numbered};
+ghost use Rattle.entry.specs.Entry.{entry-answer, Numbered};
 ghost use Rattle.entry.specs.Settle.{GivenSettle, EntryOf};
 
 // The rule goes in at an index of the table where no held rule shares a booking with it.
@@ -21,7 +21,7 @@ pub fn settle(
     witness: &mut [u16],
 ) -> Entry
     requires { ⌜ GivenSettle (now t) (now table) number (now pattern) at used (now rows) (length (now work)) (length (now witness)) ⌝ }
-    ensures { λ r. ⌜ ((g : GivenSettle (now (t .entry)) (now (table .entry)) number (now (pattern .entry)) at used (now (rows .entry)) (length (now (work .entry))) (length (now (witness .entry)))) → EntryOf (g .known .sig) (g .rs) number plan (now (pattern .entry)) (now (table .entry)) (now (witness .entry)) (answer-of r) (now (table .exit)) (now (witness .exit))) ⌝ }
+    ensures { λ r. ⌜ ((g : GivenSettle (now (t .entry)) (now (table .entry)) number (now (pattern .entry)) at used (now (rows .entry)) (length (now (work .entry))) (length (now (witness .entry)))) → EntryOf (g .known .sig) (g .rs) number plan (now (pattern .entry)) (now (table .entry)) (now (witness .entry)) (entry-answer r) (now (table .exit)) (now (witness .exit))) ⌝ }
     ensures { λ r. ⌜ Numbered r ⌝ }
 {
     place(t, pattern, used, rows, work);

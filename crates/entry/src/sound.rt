@@ -6,7 +6,7 @@ ghost use Prim.Native.Nat.{_≤_};
 ghost use lib.ListN.{length};
 ghost use Rattle.table.specs.Limits.{witness-length};
 ghost use Rattle.entry.specs.Check.{GivenCheck};
-ghost use Rattle.entry.specs.Entry.{answer-of, Numbered};
+ghost use Rattle.entry.specs.Entry.{entry-answer, Numbered};
 ghost use Rattle.entry.specs.Settle.{EntryOf};
 
 // What an entry answers: the rule is in; a refusal; or a held rule's number, and the length of the booking that it shares.
@@ -30,7 +30,7 @@ pub fn enter_sound(
     witness: &mut [u16],
 ) -> Entry
     requires { ⌜ GivenCheck (now t) (now table) used total (now rows) (length (now work)) × (witness-length ≤ length (now witness)) ⌝ }
-    ensures { λ r. ⌜ ((g : GivenCheck (now (t .entry)) (now (table .entry)) used total (now (rows .entry)) (length (now (work .entry)))) → EntryOf (g .known .sig) (g .rs) number plan (now (pattern .entry)) (now (table .entry)) (now (witness .entry)) (answer-of r) (now (table .exit)) (now (witness .exit))) ⌝ }
+    ensures { λ r. ⌜ ((g : GivenCheck (now (t .entry)) (now (table .entry)) used total (now (rows .entry)) (length (now (work .entry)))) → EntryOf (g .known .sig) (g .rs) number plan (now (pattern .entry)) (now (table .entry)) (now (witness .entry)) (entry-answer r) (now (table .exit)) (now (witness .exit))) ⌝ }
     ensures { λ r. ⌜ Numbered r ⌝ }
 {
     match check(t, table, number, pattern, used, total, rows, work) {

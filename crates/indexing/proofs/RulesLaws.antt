@@ -20,7 +20,7 @@ use Rattle.path.specs.Wrote.{word-limit}
 use Rattle.writer.specs.Write.{RuleRow, Fit, AllPlaced, Placed}
 use Rattle.table.specs.Limits.{limits, table-length}
 use Rattle.table.specs.Rule.{Rule}
-use Rattle.store.specs.Place.{Walked, Step}
+use Rattle.store.specs.Place.{Walked, NextRule}
 use Rattle.store.proofs.LaidFacts.{is-stored}
 use Rattle.store.proofs.Walk.{walk-start, walk-step, walk-end}
 use Rattle.loading.specs.Lists.{rows-for, lists-for, list-for}
@@ -67,7 +67,7 @@ module _ {t table lists : List ℕ} {room : ℕ} (g : GivenRules t table lists r
         subst (λ (z : List Rule). RulesIndexed (g .known .sig) t lists z r tab) (sym q) (record { many = l .many; placed = l .placed })
 
     module _ (e : i < getD table 0 0) where
-      abbrev step : Step table (g .rs) (l .before) (l .after) i here
+      abbrev step : NextRule table (g .rs) (l .before) (l .after) i here
       step = walk-step (g .rs) (l .before) (l .after) i here (g .holds) (l .walked) (omega (arith, e, count-is))
 
       pub end-le : here + 3 + getD table (here + 2) 0 ≤ (table-length limits)

@@ -28,7 +28,7 @@ use Rattle.builder.specs.Build.{row-room}
 use Rattle.admission.specs.Admission.{GivenWords, admission-of}
 use Rattle.admission.specs.declared.admit.Admission.{Admission}
 use Rattle.admission.specs.declared.admit.Admission.the-variants.{Passed, Refused}
-use Rattle.loading.specs.Add.{weights, GivenPlace, Placed, GivenAdd, goes-with, Stepped, lists-room, row-words}
+use Rattle.loading.specs.Add.{weights, GivenPlace, ListPlaced, GivenAdd, goes-with, Stepped, lists-room, row-words}
 use Rattle.loading.specs.Lists.{rows-by, rows-for, list-for, lists-for, GivenLists}
 use Rattle.loading.specs.declared.add.Step.the-variants.{Added, Unsound}
 
@@ -88,8 +88,8 @@ module _ {t : List ℕ} {n used total : ℕ} {rows : List ℕ} {m : ℕ} (g : Gi
         pub place-given : GivenPlace t ws used n'' m''
         place-given = record { known = g .known; p = passed .pat; words = pattern-words (g .known .sig) ws (passed .pat) (passed .read); light = passed .light; room = omega (arith, n''-is, used-le); work-room = omega (arith, m''-is, g .work-room) }
 
-        module _ (o : List ℕ) (kept : take used o ≡ take used rows) (r' : ℕ) (o' : List ℕ) (put : (q : GivenPlace t ws used n'' m'') → Placed (q .known .sig) (q .p) used r' o o') where
-          placed : Placed (g .known .sig) (passed .pat) used r' o o'
+        module _ (o : List ℕ) (kept : take used o ≡ take used rows) (r' : ℕ) (o' : List ℕ) (put : (q : GivenPlace t ws used n'' m'') → ListPlaced (q .known .sig) (q .p) used r' o o') where
+          placed : ListPlaced (g .known .sig) (passed .pat) used r' o o'
           unfolding place-given
           placed = put place-given
 

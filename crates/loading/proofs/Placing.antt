@@ -11,7 +11,7 @@ use Rattle.cell.specs.Coded.{kinds-of}
 use Rattle.cell.specs.RowList.{list-code, from}
 use Rattle.cell.proofs.Walk.{from-is, back}
 use Rattle.builder.specs.Build.{GivenWhole, RowsFirst, row-room}
-use Rattle.loading.specs.Add.{GivenPlace, Placed, row-words}
+use Rattle.loading.specs.Add.{GivenPlace, ListPlaced, row-words}
 
 -- a part to the end
 pub part-length : (o : List ℕ) (i : ℕ) → i ≤ length o → length (from o i) ≡ length o - i
@@ -40,7 +40,7 @@ module _ {t ws : List ℕ} {used n m : ℕ} (g : GivenPlace t ws used n m) where
         ap (λ z. z ++ (ys ++ D)) (ap (λ z. take z o) (add-one used) ∙ take-suc o used 0 (omega (arith, o-is, g .room)))
         ∙ append-assoc (take used o) (getD o used 0 ∷ []) (ys ++ D)
 
-    pub placed : Placed (g .known .sig) (g .p) used (used + 1 + k + 1) o (set (back o (used + 1) ys) used (k + 1))
+    pub placed : ListPlaced (g .known .sig) (g .p) used (used + 1 + k + 1) o (set (back o (used + 1) ys) used (k + 1))
     placed =
         let L = list-code (kinds-of (g .known .sig)) 0 (rows-plus (g .known .sig) 0 (g .p)) in
         let D = drop (length o - (used + 1)) (drop (used + 1) o) in

@@ -50,7 +50,7 @@ pub record GivenPlace (t ws : List ℕ) (used n m : ℕ) : Type 0 where
   pub work-room : row-room ≤ m
 
 -- the list of its rows stands there, behind its number of words
-pub record Placed (sig : Signature) (p : Pattern) (used r : ℕ) (rows rows′ : List ℕ) : Type 0 where
+pub record ListPlaced (sig : Signature) (p : Pattern) (used r : ℕ) (rows rows′ : List ℕ) : Type 0 where
   pub rest : List ℕ
   pub code-is : rows′ ≡ take used rows ++ (length (list-code (kinds-of sig) 0 (rows-plus sig 0 p)) ∷ (list-code (kinds-of sig) 0 (rows-plus sig 0 p) ++ rest))
   pub next : r ≡ used + 1 + length (list-code (kinds-of sig) 0 (rows-plus sig 0 p))

@@ -4,7 +4,7 @@ use admission::admit::Admission;
 use admission::admit::admit;
 use builder::build::build;
 ghost use lib.ListN.{length};
-ghost use Rattle.loading.specs.Add.{GivenPlace, Placed, GivenAdd, Stepped};
+ghost use Rattle.loading.specs.Add.{GivenPlace, ListPlaced, GivenAdd, Stepped};
 
 // Room for the rows of all rules of a table, and of one pattern more: 193 words for each of the weight of 256, two for each of 64 rules, and what `build` asks.
 pub const ROWS_ROOM: usize = 65985;
@@ -21,7 +21,7 @@ pub enum Step {
 // The list of a pattern's rows, behind its number of words, from an index on; the index behind it.
 pub fn place(t: &[u16], p: &[u16], used: usize, rows: &mut [u64], work: &mut [u64]) -> usize
     requires { ⌜ GivenPlace (now t) (now p) used (length (now rows)) (length (now work)) ⌝ }
-    ensures { λ r. ⌜ ((g : GivenPlace (now (t .entry)) (now (p .entry)) used (length (now (rows .entry))) (length (now (work .entry)))) → Placed (g .known .sig) (g .p) used r (now (rows .entry)) (now (rows .exit))) ⌝ }
+    ensures { λ r. ⌜ ((g : GivenPlace (now (t .entry)) (now (p .entry)) used (length (now (rows .entry))) (length (now (work .entry)))) → ListPlaced (g .known .sig) (g .p) used r (now (rows .entry)) (now (rows .exit))) ⌝ }
 {
     let at = used + 1;
     let k = build(t, p, &mut rows[at..], work);

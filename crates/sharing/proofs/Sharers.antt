@@ -28,7 +28,7 @@ use Rattle.table.specs.Rule.{Rule, Rises, rises-cons}
 use Rattle.table.proofs.Reckoning.{in-above}
 use Rattle.table.proofs.SoundFacts.{sound-table}
 use Rattle.store.specs.Laid.{Holds}
-use Rattle.store.specs.Place.{Walked, Step}
+use Rattle.store.specs.Place.{Walked, NextRule}
 use Rattle.store.proofs.FindFacts.{count-is}
 use Rattle.store.proofs.LaidFacts.{sound-holds}
 use Rattle.store.proofs.Walk.{walk-start, walk-step, walk-end}
@@ -88,7 +88,7 @@ module _ {t table rows : List ℕ} {at n : ℕ} (g : GivenSharer t table rows at
         none-any (λ s. shares (g .known .sig) (g .ws) (s .pattern)) (g .rs) (λ s k x. l .none s (subst (In s) (q .1) k) (shares-exists (g .known .sig) (g .known .signed) (g .ws) (s .pattern) x))
 
     module _ (below : i < getD table 0 0) where
-      abbrev step : Step table (g .rs) (l .before) (l .after) i place
+      abbrev step : NextRule table (g .rs) (l .before) (l .after) i place
       step = walk-step (g .rs) (l .before) (l .after) i place holds (l .walked) (omega (arith, below, count-is holds))
 
       rules-are : g .rs ≡ l .before ++ (step .rule ∷ step .later)

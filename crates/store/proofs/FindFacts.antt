@@ -12,7 +12,7 @@ use lib.Dec.{eqb}
 use Rattle.table.specs.Limits.{limits, table-length}
 use Rattle.table.specs.Rule.{Rule, Rises, rises-nil, rises-cons, rules-words, held}
 use Rattle.store.specs.Laid.{Holds}
-use Rattle.store.specs.Place.{Walked, Step, HeldAt, FreeAt}
+use Rattle.store.specs.Place.{Walked, NextRule, HeldAt, FreeAt}
 use Rattle.store.proofs.LaidFacts.{is-stored}
 use Rattle.store.proofs.Walk.{walk-start, walk-step, walk-end}
 
@@ -54,7 +54,7 @@ begin rs = ([], rs, walk-start rs)
 module _ {table : List ℕ} {rs : List Rule} (h : Holds limits table rs) (i at : ℕ) where
   pub now-step : Now rs i at → i < getD table 0 0 → (at + 3 + getD table (at + 2) 0 ≤ (table-length limits)) × Now rs (i + 1) (at + 3 + getD table (at + 2) 0)
   now-step (before, after, w) l =
-      let s : Step table rs before after i at = walk-step rs before after i at h w (omega (arith, count-is h)) in
+      let s : NextRule table rs before after i at = walk-step rs before after i at h w (omega (arith, count-is h)) in
       (omega (arith, s .reads .within, s .reads .length-is), (before ++ (s .rule ∷ []), s .later, s .next))
 
   pub now-end : Now rs i at → getD table 0 0 ≤ i → at ≡ suc (length (rules-words rs))
@@ -71,7 +71,7 @@ pub seek-begin : (n : ℕ) (rs : List Rule) → Seek n rs 0 1
 seek-begin n rs = ([], rs, walk-start rs, none-left)
 
 module _ {table : List ℕ} {rs : List Rule} (h : Holds limits table rs) (n i at : ℕ) where
-  seek-rule : (q : Seek n rs i at) → i < getD table 0 0 → Step table rs (q .0) (q .1) i at
+  seek-rule : (q : Seek n rs i at) → i < getD table 0 0 → NextRule table rs (q .0) (q .1) i at
   seek-rule (before, after, w, b) l = walk-step rs before after i at h w (omega (arith, count-is h))
 
   pub seek-within : Seek n rs i at → i < getD table 0 0 → at + 3 + getD table (at + 2) 0 ≤ (table-length limits)

@@ -5,10 +5,10 @@ use Prim.Native.Nat.{ℕ, zero, suc, _+_, _-_, _≤_, _<_}
 use native.Mathlib.Omega.{arith}
 use lib.ListN.{length, getD, take, drop, replicate, length-append, length-drop}
 use lib.Seq.{take-at, drop-at, drop-drop, getD-drop}
-use Rattle.table.specs.Limits.{limits, table-length}
+use Rattle.table.specs.Limits.{limits, table-length, rule-head}
 use Rattle.table.specs.Rule.{Rule, rule-words, rules-words}
 use Rattle.store.specs.Laid.{Holds}
-use Rattle.store.specs.Place.{rule-head, RuleAt, Walked, Step}
+use Rattle.store.specs.Place.{RuleAt, Walked, NextRule}
 use Rattle.store.proofs.LaidFacts.{behind, room, is-stored}
 
 pub words-append : (before after : List Rule) → rules-words (before ++ after) ≡ rules-words before ++ rules-words after
@@ -69,7 +69,7 @@ walk-end {rs} {before} {after} {i} {at} w l = go after (w .are)
     go (r ∷ ls) e = absurd (omega (arith, ap length e, length-append before (r ∷ ls), w .passed))
 
 module _ {table : List ℕ} where
-  step : (before : List Rule) (r : Rule) (later : List Rule) (i at : ℕ) (rs : List Rule) → Holds limits table rs → Walked rs before (r ∷ later) i at → Step table rs before (r ∷ later) i at
+  step : (before : List Rule) (r : Rule) (later : List Rule) (i at : ℕ) (rs : List Rule) → Holds limits table rs → Walked rs before (r ∷ later) i at → NextRule table rs before (r ∷ later) i at
   step before r later i at rs h w =
       let g : Holds limits table (before ++ (r ∷ later)) = subst (Holds limits table) (w .are) h in
       let q : RuleAt table at r = subst (λ (n : ℕ). RuleAt table n r) (sym (w .at-is)) (rule-at before r later g) in
@@ -89,7 +89,7 @@ module _ {table : List ℕ} where
         };
       }
 
-  pub walk-step : (rs before after : List Rule) (i at : ℕ) → Holds limits table rs → Walked rs before after i at → i < length rs → Step table rs before after i at
+  pub walk-step : (rs before after : List Rule) (i at : ℕ) → Holds limits table rs → Walked rs before after i at → i < length rs → NextRule table rs before after i at
   walk-step rs before [] i at h w l = absurd (omega (arith, ap length (walk-end-nil before (w .are)), w .passed))
     where
       walk-end-nil : (bs : List Rule) → rs ≡ bs ++ [] → rs ≡ bs

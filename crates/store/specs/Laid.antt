@@ -7,20 +7,21 @@ use Prim.Native.Nat.{ℕ, _≤_}
 use lib.Dec.{leb}
 use lib.ListN.{length, take}
 use Rattle.signature.specs.Lists.{require, _>>=_}
-use Rattle.table.specs.Limits.{table-length, rules-length, rule-limit}
+use Rattle.table.specs.Limits.{Limits, table-length, rules-length}
 use Rattle.table.specs.Rule.{Rule, table-words, Rises}
 use Rattle.table.specs.Sound.{read-rules}
 
--- the rules of a table with that layout
-abbrev pub laid : List ℕ → Option (List Rule)
-laid [] = none
-laid (n ∷ ws) = do
-  _ ← require (leb rules-length (length ws) && leb n rule-limit)
-  read-rules n 0 (take rules-length ws)
+module _ (l : Limits) where
+  -- the rules of a table with that layout
+  abbrev pub laid : List ℕ → Option (List Rule)
+  laid [] = none
+  laid (n ∷ ws) = do
+    _ ← require (leb (rules-length l) (length ws) && leb n (l .rules))
+    read-rules n 0 (take (rules-length l) ws)
 
--- the same said without reading
-pub record Holds (table : List ℕ) (rs : List Rule) : Type 0 where
-  pub long : table-length ≤ length table
-  pub layout : take table-length table ≡ table-words rs
-  pub rises : Rises 0 rs
-  pub few : length rs ≤ rule-limit
+  -- the same said without reading
+  pub record Holds (table : List ℕ) (rs : List Rule) : Type 0 where
+    pub long : table-length l ≤ length table
+    pub layout : take (table-length l) table ≡ table-words l rs
+    pub rises : Rises 0 rs
+    pub few : length rs ≤ l .rules

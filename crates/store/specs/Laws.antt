@@ -11,11 +11,11 @@ use Rattle.signature.specs.Lists.{All, all, is-some, require, _>>=_}
 use Rattle.signature.specs.Signature.{Signature}
 use Rattle.pattern.specs.Limits.{pattern-limit}
 use Rattle.row.specs.Admitted.{refusal-of-pattern}
-use Rattle.table.specs.Limits.{limits, table-length}
-use Rattle.table.specs.Rule.{Rule, Rises, rule-words, rules-words, stored, total-weight}
+use Rattle.table.specs.Limits.{limits, table-length, rule-head, rules-at}
+use Rattle.table.specs.Rule.{Rule, Rises, rule-words, rules-words, stored, total-weight, packed}
 use Rattle.table.specs.Sound.{sound, no-shared}
 use Rattle.store.specs.Laid.{laid, Holds}
-use Rattle.store.specs.Place.{rule-head, RuleAt, Walked, Step}
+use Rattle.store.specs.Place.{RuleAt, Walked, NextRule}
 
 pub record Laws : Type 0 where
   -- exactly the tables with that layout are read, and what was read is there
@@ -31,11 +31,11 @@ pub record Laws : Type 0 where
   -- "the rule count"
   pub count-is : (table : List ℕ) (rs : List Rule) → Holds limits table rs → getD table 0 0 ≡ length rs
   -- the words from a rule on
-  pub words-at : (table : List ℕ) (before : List Rule) (r : Rule) (after : List Rule) → Holds limits table (before ++ (r ∷ after)) → drop (suc (length (rules-words before))) table ≡ rule-words r ++ (rules-words after ++ (replicate (table-length limits - suc (length (rules-words (before ++ (r ∷ after))))) 0 ++ drop (table-length limits) table))
-  pub rule-at : (table : List ℕ) (before : List Rule) (r : Rule) (after : List Rule) → Holds limits table (before ++ (r ∷ after)) → RuleAt table (suc (length (rules-words before))) r
+  pub words-at : (table : List ℕ) (before : List Rule) (r : Rule) (after : List Rule) → Holds limits table (before ++ (r ∷ after)) → drop (length (packed before)) table ≡ rule-words r ++ (rules-words after ++ (replicate (table-length limits - length (packed (before ++ (r ∷ after)))) 0 ++ drop (table-length limits) table))
+  pub rule-at : (table : List ℕ) (before : List Rule) (r : Rule) (after : List Rule) → Holds limits table (before ++ (r ∷ after)) → RuleAt table (length (packed before)) r
   -- a rule's pattern as a part of the table
   pub pattern-part : (table : List ℕ) (at : ℕ) (r : Rule) → RuleAt table at r → take (at + rule-head + getD table (at + 2) 0 - (at + rule-head)) (drop (at + rule-head) table) ≡ r .pattern
-  -- a walk over the rules, from index 1 to the index behind the last
-  pub walk-start : (rs : List Rule) → Walked rs [] rs 0 1
-  pub walk-step : (table : List ℕ) (rs before after : List Rule) (i at : ℕ) → Holds limits table rs → Walked rs before after i at → i < length rs → Step table rs before after i at
+  -- a walk over the rules, from the first rule to the index behind the last
+  pub walk-start : (rs : List Rule) → Walked rs [] rs 0 rules-at
+  pub walk-step : (table : List ℕ) (rs before after : List Rule) (i at : ℕ) → Holds limits table rs → Walked rs before after i at → i < length rs → NextRule table rs before after i at
   pub walk-end : (rs before after : List Rule) (i at : ℕ) → Walked rs before after i at → length rs ≤ i → (after ≡ []) × (rs ≡ before)

@@ -2,17 +2,13 @@
 use mathlib.Core.Path.{_≡_}
 use mathlib.Core.List.{List, [], _∷_, _++_}
 use mathlib.Core.Bool.{true, false}
-use Prim.Native.Nat.{ℕ, suc, _+_, _<_, _≤_}
+use Prim.Native.Nat.{ℕ, _+_, _<_, _≤_}
 use lib.ListN.{length, getD, take, drop}
 use Rattle.signature.specs.Lists.{All}
-use Rattle.table.specs.Limits.{limits, table-length}
-use Rattle.table.specs.Rule.{Rule, rules-words, held}
+use Rattle.table.specs.Limits.{limits, table-length, rule-head}
+use Rattle.table.specs.Rule.{Rule, packed, held}
 use Rattle.store.specs.declared.find.Found.{Found}
 use Rattle.store.specs.declared.find.Found.the-variants.{Held, Free}
-
--- "number, plan, pattern length": the words before a pattern
-abbrev pub rule-head : ℕ
-rule-head = 3
 
 -- "per rule number, plan, pattern length and pattern": the words of a rule at an index
 pub record RuleAt (table : List ℕ) (at : ℕ) (r : Rule) : Type 0 where
@@ -26,10 +22,10 @@ pub record RuleAt (table : List ℕ) (at : ℕ) (r : Rule) : Type 0 where
 pub record Walked (rs before after : List Rule) (i at : ℕ) : Type 0 where
   pub are : rs ≡ before ++ after
   pub passed : length before ≡ i
-  pub at-is : at ≡ suc (length (rules-words before))
+  pub at-is : at ≡ length (packed before)
 
 -- the next rule of a walk, and the walk behind it
-pub record Step (table : List ℕ) (rs before after : List Rule) (i at : ℕ) : Type 0 where
+pub record NextRule (table : List ℕ) (rs before after : List Rule) (i at : ℕ) : Type 0 where
   pub rule : Rule
   pub later : List Rule
   pub here : after ≡ rule ∷ later
@@ -45,7 +41,7 @@ pub record HeldAt (n : ℕ) (rs : List Rule) (at : ℕ) : Type 0 where
   pub number-is : rule .number ≡ n
   pub below : All (λ r. r .number < n) before
   pub above : All (λ r. n < r .number) after
-  pub at-is : at ≡ suc (length (rules-words before))
+  pub at-is : at ≡ length (packed before)
   pub is-held : held n rs ≡ true
 
 -- no rule n is held; it would go in there
@@ -55,7 +51,7 @@ pub record FreeAt (n : ℕ) (rs : List Rule) (at : ℕ) : Type 0 where
   pub are : rs ≡ before ++ after
   pub below : All (λ r. r .number < n) before
   pub above : All (λ r. n < r .number) after
-  pub at-is : at ≡ suc (length (rules-words before))
+  pub at-is : at ≡ length (packed before)
   pub not-held : held n rs ≡ false
 
 abbrev pub FoundAt : ℕ → List Rule → Found → Type 0

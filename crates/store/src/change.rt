@@ -13,10 +13,9 @@ ghost use mathlib.Core.List.{[]};
 ghost use Prim.Native.Nat.{_+_, _≤_};
 ghost use lib.ListN.{length};
 ghost use Rattle.pattern.specs.Limits.{pattern-limit};
-ghost use Rattle.table.specs.Limits.{limits, table-length};
+ghost use Rattle.table.specs.Limits.{limits, table-length, rule-head};
 ghost use Rattle.table.specs.Rule.{rule-words, stored, add-rule, take-out};
 ghost use Rattle.store.specs.Change.{GivenPut, GivenTake};
-ghost use Rattle.store.specs.Place.{rule-head};
 
 // The empty table.
 pub fn clear(table: &mut [u16])

@@ -1,12 +1,12 @@
 // Where rules stand in a table.
 use crate::layout::LENGTH;
+use crate::layout::RULES_AT;
 use crate::layout::RULE_HEAD;
 ghost use mathlib.Core.Path.{_≡_};
 ghost use mathlib.Core.List.{List};
-ghost use Prim.Native.Nat.{suc};
 ghost use lib.ListN.{length};
 ghost use Rattle.table.specs.Limits.{limits};
-ghost use Rattle.table.specs.Rule.{Rule, rules-words};
+ghost use Rattle.table.specs.Rule.{Rule, packed};
 ghost use Rattle.store.specs.Laid.{Holds};
 ghost use Rattle.store.specs.Place.{FoundAt};
 
@@ -19,10 +19,10 @@ pub enum Found {
 // The index behind the last rule.
 pub(crate) fn end(table: &[u16]) -> usize
     requires { ⌜ ((rs : List Rule) × Holds limits (now table) rs) ⌝ }
-    ensures { λ r. ⌜ ((rs : List Rule) → Holds limits (now (table .entry)) rs → r ≡ suc (length (rules-words rs))) ⌝ }
+    ensures { λ r. ⌜ ((rs : List Rule) → Holds limits (now (table .entry)) rs → r ≡ length (packed rs)) ⌝ }
 {
     let n = table[0];
-    let mut at = 1;
+    let mut at = RULES_AT;
     let mut i = 0;
     while i < n {
         let len = table[at + LENGTH] as usize;
@@ -38,7 +38,7 @@ pub fn find(table: &[u16], number: u16) -> Found
     ensures { λ r. ⌜ ((rs : List Rule) → Holds limits (now (table .entry)) rs → FoundAt number rs r) ⌝ }
 {
     let n = table[0];
-    let mut at = 1;
+    let mut at = RULES_AT;
     let mut i = 0;
     while i < n {
         let m = table[at];

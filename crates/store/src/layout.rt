@@ -1,4 +1,6 @@
 // The layout of a table (part of refusal 3).
+use pattern::limits::PATTERN_WORDS;
+use tree::words::LAST_NUMBER;
 ghost use mathlib.Core.Path.{_≡_};
 ghost use Prim.Native.Nat.{_≤_};
 ghost use lib.ListN.{length};
@@ -8,19 +10,19 @@ ghost use Rattle.table.specs.Limits.{limits, table-length};
 ghost use Rattle.store.specs.Head.{HeadAt, from};
 ghost use Rattle.store.specs.Laid.{laid};
 
-// The words of a table, the rules that it may hold, and their highest number.
-pub const TABLE: usize = 4289;
-
+// The rules that a table may hold, the index of the first, and the words before a rule's pattern: number, plan, pattern length.
 pub const RULES: u16 = 64;
 
-pub const LAST_NUMBER: u16 = 999;
+pub const RULES_AT: usize = 1;
 
-// The words before a rule's pattern: number, plan, pattern length.
 pub const RULE_HEAD: usize = 3;
 
 pub const PLAN: usize = 1;
 
 pub const LENGTH: usize = 2;
+
+// The words of a table.
+pub const TABLE: usize = RULES_AT + RULES as usize * (RULE_HEAD + PATTERN_WORDS);
 
 // A rule's number, and the index behind it.
 enum Head {
@@ -30,7 +32,7 @@ enum Head {
 
 // The rule that begins at an index, whose number must rise above the last one.
 fn rule_from(table: &[u16], at: usize, last: u16) -> Head
-    requires { ⌜ (table-length limits ≤ length (now table)) × (at ≤ (table-length limits)) ⌝ }
+    requires { ⌜ (table-length limits ≤ length (now table)) × (at ≤ table-length limits) ⌝ }
     ensures { λ r. ⌜ HeadAt (now (table .entry)) at last r ⌝ }
 {
     if TABLE - at < RULE_HEAD {
@@ -53,7 +55,7 @@ fn rule_from(table: &[u16], at: usize, last: u16) -> Head
 
 // Whether zeros stand from an index up to the table's end.
 fn zeros(table: &[u16], at: usize) -> bool
-    requires { ⌜ (table-length limits ≤ length (now table)) × (at ≤ (table-length limits)) ⌝ }
+    requires { ⌜ (table-length limits ≤ length (now table)) × (at ≤ table-length limits) ⌝ }
     ensures { λ r. ⌜ r ≡ all (λ w. eqb w 0) (from (now (table .entry)) at) ⌝ }
 {
     let mut i = at;
@@ -75,7 +77,7 @@ pub fn layout(table: &[u16]) -> bool
     if RULES < n {
         return false;
     }
-    let mut at = 1;
+    let mut at = RULES_AT;
     let mut last = 0;
     let mut i = 0;
     while i < n {

@@ -43,12 +43,14 @@ add-rule r (s ∷ rs) = cond (ltb (r .number) (s .number)) (r ∷ (s ∷ rs)) (s
 abbrev pub take-out : ℕ → List Rule → List Rule
 take-out n rs = keep (λ r. not (eqb n (r .number))) rs
 
+-- "the rule count, then per rule ..": the words up to the end of the last rule, behind which a further one stands
+abbrev pub packed : List Rule → List ℕ
+packed rs = length rs ∷ rules-words rs
+
 module _ (l : Limits) where
-  -- "the rule count, then per rule ..; zeros up to 4,289"
+  -- "zeros up to 4,289"
   abbrev pub table-words : List Rule → List ℕ
-  table-words rs =
-      let ws = length rs ∷ rules-words rs in
-      ws ++ replicate (table-length l - length ws) 0
+  table-words rs = packed rs ++ replicate (table-length l - length (packed rs)) 0
 
   -- "the rest untouched"
   abbrev pub stored : List Rule → List ℕ → List ℕ
