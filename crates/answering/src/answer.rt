@@ -1,7 +1,5 @@
 // The whole text: its format, its signature, its rules, its booking.
-use crate::rules::FORMAT_BROKEN;
 use crate::rules::enter_rules;
-use booking::part::SIGNATURE_UNLAWFUL;
 use decoding::decode::decode;
 use emptying::empty::empty;
 use entering::enter::WITNESS;
@@ -12,6 +10,8 @@ use numbers::list::LIST_LIMIT;
 use printing::print;
 use printing::print::PRINT_LIMIT;
 use signature::decoded::DECODED;
+use signature::refusals::FORMAT_BROKEN;
+use signature::refusals::SIGNATURE_UNLAWFUL;
 use store::layout::TABLE;
 ghost use mathlib.Core.Path.{_≡_};
 ghost use Prim.Native.Nat.{_≤_};

@@ -7,6 +7,8 @@ use lines::line::CountLine;
 use lines::line::RuleLines;
 use numbers::bytes;
 use printing::print;
+use signature::refusals::FORMAT_BROKEN;
+use signature::refusals::SHARED;
 ghost use mathlib.Core.Path.{_≡_};
 ghost use mathlib.Core.Bool.{false};
 ghost use Prim.Native.Nat.{_≤_};
@@ -19,12 +21,6 @@ ghost use Rattle.text.specs.Limits.{list-limit};
 ghost use Rattle.text.specs.Print.{printed};
 ghost use Rattle.printing.specs.Printed.{print-limit, Printed};
 ghost use Rattle.answering.specs.Ready.{Ready};
-
-// 12: the pattern shares a booking with a held rule.
-const SHARED: u16 = 12;
-
-// 17; behind the check of the whole text no line is broken.
-pub const FORMAT_BROKEN: u16 = 17;
 
 fn entry_number(e: Entry) -> u16
     ensures { λ r. ⌜ r ≡ entry-answer e .number ⌝ }

@@ -6,13 +6,11 @@ use entering::enter::enter;
 use entry::sound::Entry;
 use run::leaf::VARIABLES;
 use run::run;
+use signature::refusals::SHARED;
 ghost use Rattle.tree.specs.RunCall.{RunCall};
 ghost use Rattle.table.specs.Limits.{limits};
 ghost use Rattle.table.specs.Calls.{Empty, Enter, Withdraw, Compile, DecideCall};
 ghost use Rattle.bellgantlet.specs.Answers.{entered-of, host-answer, PartCall};
-
-// 12: the pattern shares a booking with a held rule.
-const SHARED: u16 = 12;
 
 // On 12 the rule that shares a booking and the length of the booking.
 #[repr(C)]

@@ -2,17 +2,11 @@
 use crate::walk;
 use decoding::decode;
 use signature::decoded;
+use signature::refusals::BOOKING_UNLAWFUL;
+use signature::refusals::PLACE_OUTSIDE;
+use signature::refusals::SIGNATURE_UNLAWFUL;
 ghost use mathlib.Core.Path.{_≡_};
 ghost use Rattle.signature.specs.Part.{part-call};
-
-// The signature is unlawful.
-pub const SIGNATURE_UNLAWFUL: u16 = 1;
-
-// The booking is unlawful.
-pub const BOOKING_UNLAWFUL: u16 = 13;
-
-// The place is not below the booking's length.
-pub const PLACE_OUTSIDE: u16 = 16;
 
 pub fn part<'a>(ss: &[u16], b: &'a [u16], place: usize) -> &'a [u16]
     ensures { λ r. ⌜ now r ≡ part-call (now (ss .entry)) (now (b .entry)) place .1 ⌝ }

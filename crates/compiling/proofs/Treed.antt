@@ -11,7 +11,7 @@ use Rattle.tree.specs.Limits.{tree-limit, default-plan}
 use Rattle.tree.specs.Tree.{Line, Tree, compile}
 use Rattle.tree.specs.Words.{words, layout}
 use Rattle.tree.proofs.RunFacts.{length-layout}
-use Rattle.table.specs.Calls.{too-large}
+use Rattle.table.specs.Calls.{TreeIn, too-large}
 use Rattle.table.specs.Limits.{limits, visit-bound}
 use Rattle.table.specs.Matrix.{tree, tree-words}
 use Rattle.table.specs.Rule.{total-weight}
@@ -25,7 +25,7 @@ use Rattle.loading.specs.Load.{tests}
 use Rattle.loading.proofs.Loads.{sound-holds}
 use Rattle.loading.proofs.Tested.{tests-light}
 use Rattle.indexing.specs.Indexing.{rows-all, GivenRules, RulesIndexed}
-use Rattle.compiling.specs.Compile.{InTable, TreeIn}
+use Rattle.compiling.specs.Compile.{InTable}
 use Rattle.compiling.proofs.RowsOf.{lines-are, few-rows, rows-are-fit}
 
 -- ---- the answer of the writer as the call's
@@ -80,32 +80,32 @@ treed T ts space w space′ e f h = rw (f, h, ← e) (told T space)
 -- ---- the rows of the rules
 
 module _ {t table lists : List ℕ} (g : InTable t table lists) where
-  holds : Holds limits table (g .rs)
-  holds = sound-holds (g .known .sig) table (g .rs) (g .is-sound) .0
+  holds : Holds limits table (g .force .rs)
+  holds = sound-holds (g .force .known .sig) table (g .force .rs) (g .force .is-sound) .0
 
-  good : tests (g .known .sig) (g .rs) ≡ true
-  good = sound-holds (g .known .sig) table (g .rs) (g .is-sound) .1
+  good : tests (g .force .known .sig) (g .force .rs) ≡ true
+  good = sound-holds (g .force .known .sig) table (g .force .rs) (g .force .is-sound) .1
 
-  light : total-weight (g .known .sig) (g .rs) ≤ limits .weight
-  light = tests-light (g .known .sig) (g .rs) good
+  light : total-weight (g .force .known .sig) (g .force .rs) ≤ limits .weight
+  light = tests-light (g .force .known .sig) (g .force .rs) good
 
-  pub few : length (rows-all (g .known .sig) (g .rs)) ≤ row-limit
-  few = omega (arith, few-rows (g .known .sig) (g .rs), light)
+  pub few : length (rows-all (g .force .known .sig) (g .force .rs)) ≤ row-limit
+  few = omega (arith, few-rows (g .force .known .sig) (g .force .rs), light)
 
   pub given-rules : (room : ℕ) → row-stride * row-limit ≤ room → GivenRules t table lists room
   given-rules room x = record {
-    known = g .known;
-    rs = g .rs;
+    known = g .force .known;
+    rs = g .force .rs;
     holds = holds;
-    rest = g .ready .rest;
-    code-is = g .ready .code-is;
-    near = omega (arith, g .ready .used-is, g .ready .total-is, g .ready .small, light, holds .few);
-    fit = rows-are-fit (g .known) (g .rs) good;
+    rest = g .force .ready .rest;
+    code-is = g .force .ready .code-is;
+    near = omega (arith, g .force .ready .used-is, g .force .ready .total-is, g .force .ready .small, light, holds .few);
+    fit = rows-are-fit (g .force .known) (g .force .rs) good;
     room-is = omega (arith, few, x);
   }
 
-  module _ (room : ℕ) (x : row-stride * row-limit ≤ room) (n : ℕ) (tab : List ℕ) (gave : (q : GivenRules t table lists room) → RulesIndexed (q .known .sig) t lists (q .rs) n tab) where
-    indexed : RulesIndexed (g .known .sig) t lists (g .rs) n tab
+  module _ (room : ℕ) (x : row-stride * row-limit ≤ room) (n : ℕ) (tab : List ℕ) (gave : (q : GivenRules t table lists room) → RulesIndexed (q .force .known .sig) t lists (q .force .rs) n tab) where
+    indexed : RulesIndexed (g .force .known .sig) t lists (g .force .rs) n tab
     unfolding given-rules
     indexed = gave (given-rules room x)
 
@@ -114,20 +114,20 @@ module _ {t table lists : List ℕ} (g : InTable t table lists) where
 
     pub given-rows : GivenRows t lists tab n
     given-rows = record {
-      known = g .known;
-      rows = rows-all (g .known .sig) (g .rs);
+      known = g .force .known;
+      rows = rows-all (g .force .known .sig) (g .force .rs);
       count = indexed .many;
       few = many;
-      fit = rows-are-fit (g .known) (g .rs) good;
+      fit = rows-are-fit (g .force .known) (g .force .rs) good;
       placed = indexed .placed;
     }
 
-    tree-is : layout (compile default-plan visit-bound (g .known .sig) (0 ∷ []) (map line-of (rows-all (g .known .sig) (g .rs))) 0) 0 ≡ tree-words default-plan (g .known .sig) (g .rs)
+    tree-is : layout (compile default-plan visit-bound (g .force .known .sig) (0 ∷ []) (map line-of (rows-all (g .force .known .sig) (g .force .rs))) 0) 0 ≡ tree-words default-plan (g .force .known .sig) (g .force .rs)
     unfolding tree-words tree
-    tree-is = ap (λ (ls : List Line). layout (compile default-plan visit-bound (g .known .sig) (0 ∷ []) ls 0) 0) (lines-are (g .known .sig) (g .rs))
+    tree-is = ap (λ (ls : List Line). layout (compile default-plan visit-bound (g .force .known .sig) (0 ∷ []) ls 0) 0) (lines-are (g .force .known .sig) (g .force .rs))
 
-    pub written : (w : Written) (space space′ : List ℕ) → ((q : GivenRows t lists tab n) (dft fuel : ℕ) → tree-limit < fuel → (w ≡ answer (tree-of-rows q dft fuel) space) × (space′ ≡ space-after (tree-of-rows q dft fuel) space)) → (v : Written) → w ≡ v → TreeIn (tree-words default-plan (g .known .sig) (g .rs)) space (number-by v) (length-by v) space′
+    pub written : (w : Written) (space space′ : List ℕ) → ((q : GivenRows t lists tab n) (dft fuel : ℕ) → tree-limit < fuel → (w ≡ answer (tree-of-rows q dft fuel) space) × (space′ ≡ space-after (tree-of-rows q dft fuel) space)) → (v : Written) → w ≡ v → TreeIn (tree-words default-plan (g .force .known .sig) (g .force .rs)) space (number-by v) (length-by v) space′
     unfolding given-rows
     written w space space′ h v e =
         let z = h given-rows default-plan visit-bound (omega arith) in
-        treed (compile default-plan visit-bound (g .known .sig) (0 ∷ []) (map line-of (rows-all (g .known .sig) (g .rs))) 0) (tree-words default-plan (g .known .sig) (g .rs)) space v space′ tree-is (sym e ∙ z .0) (z .1)
+        treed (compile default-plan visit-bound (g .force .known .sig) (0 ∷ []) (map line-of (rows-all (g .force .known .sig) (g .force .rs))) 0) (tree-words default-plan (g .force .known .sig) (g .force .rs)) space v space′ tree-is (sym e ∙ z .0) (z .1)

@@ -2,6 +2,7 @@
 use crate::compile::Compiled;
 use indexing::rules::index_rules;
 use signature::decoded::DECODED;
+use signature::refusals::TREE_TOO_LARGE;
 use writer::write::CURSORS;
 use writer::write::INDEX_ROOM;
 use writer::write::VISITS;
@@ -14,9 +15,8 @@ ghost use Rattle.tree.specs.Limits.{tree-limit, default-plan};
 ghost use Rattle.path.specs.Alive.{row-limit};
 ghost use Rattle.path.specs.State.{row-stride};
 ghost use Rattle.table.specs.Matrix.{tree-words};
-ghost use Rattle.compiling.specs.Compile.{InTable, TreeIn};
-
-pub const TREE_TOO_LARGE: u16 = 14;
+ghost use Rattle.table.specs.Calls.{TreeIn};
+ghost use Rattle.compiling.specs.Compile.{InTable};
 
 // `rows` takes the table of the rules' rows; the slices behind it are the writer's working space.
 pub fn write_rules(
@@ -30,7 +30,7 @@ pub fn write_rules(
     space: &mut [u16],
 ) -> Compiled
     requires { ⌜ InTable (now t) (now table) (now lists) × (row-stride * row-limit ≤ length (now rows)) × (row-limit ≤ length (now cur)) × (pattern-limit * row-limit ≤ length (now vis)) × (tree-limit ≤ length (now tree)) ⌝ }
-    ensures { λ r. ⌜ ((g : InTable (now (t .entry)) (now (table .entry)) (now (lists .entry))) → TreeIn (tree-words default-plan (g .known .sig) (g .rs)) (now (space .entry)) (r .number) (r .len) (now (space .exit))) ⌝ }
+    ensures { λ r. ⌜ ((g : InTable (now (t .entry)) (now (table .entry)) (now (lists .entry))) → TreeIn (tree-words default-plan (g .force .known .sig) (g .force .rs)) (now (space .entry)) (r .number) (r .len) (now (space .exit))) ⌝ }
 {
     let n = index_rules(t, table, lists, rows);
     let w = write(t, lists, rows, n, cur, vis, tree, space);

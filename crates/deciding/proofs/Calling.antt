@@ -17,7 +17,8 @@ use Rattle.table.specs.Calls.{DecideCall, start, refused, begin, long-table, de
 use Rattle.table.specs.Decide.{direct}
 use Rattle.run.specs.Outcome.{answer-of, outcome}
 use Rattle.run.specs.declared.Ran.{Ran}
-use Rattle.opening.specs.Open.{OpenedAs, InForce}
+use Rattle.loading.specs.Load.{InForce}
+use Rattle.opening.specs.Open.{OpenedAs, Started}
 use Rattle.opening.specs.declared.open.Opened.{Opened}
 use Rattle.opening.specs.declared.open.Opened.the-variants.{Begun, Refused}
 use Rattle.deciding.specs.Decide.{Judging}
@@ -29,19 +30,22 @@ module _ (ss table bs t rows : List ℕ) (o : Opened) (open-so : OpenedAs ss (lo
       record { result-is = q ∙ sym (ap (λ x. decide-from x bs) z) }
 
   module _ (used total : ℕ) (e : o ≡ Begun used total) where
-    abbrev pub force : InForce ss (long-table limits table) table used total t rows
-    force = subst (λ x. OpenedAs ss (long-table limits table) table x t rows) e open-so
+    abbrev begun : Started ss (long-table limits table) table used total t rows
+    begun = subst (λ x. OpenedAs ss (long-table limits table) table x t rows) e open-so
+
+    abbrev pub force : InForce t table used total rows
+    force = begun .force
 
     from-start : (x : Option Value) → read-booking (force .known .sig) bs ≡ x → decide-from (start limits ss (long-table limits table) table) bs ≡ decide-booking (force .known .sig) (force .rs) x
-    from-start x q = ap (λ z. decide-from z bs) (force .started) ∙ ap (decide-booking (force .known .sig) (force .rs)) q
+    from-start x q = ap (λ z. decide-from z bs) (begun .started) ∙ ap (decide-booking (force .known .sig) (force .rs)) q
 
     pub refused-13 : (r : Ran) → false ≡ is-some (read-booking (force .known .sig) bs) → outcome r ≡ refusal 13 → DecideCall limits ss table bs (r .number) (answer-of r)
     refused-13 r l q = record { result-is = q ∙ sym (from-start none (missing (read-booking (force .known .sig) bs) l)) }
 
     module _ (l : true ≡ is-some (read-booking (force .known .sig) bs)) where
       pub judging : Judging t table bs
-      judging = let (v, q) = there (read-booking (force .known .sig) bs) l in record { known = force .known; rs = force .rs; is-sound = force .is-sound; value = v; booked = q }
+      judging = let (v, q) = there (read-booking (force .known .sig) bs) l in record { used = used; total = total; rows = rows; force = force; value = v; booked = q }
 
-      pub answered : (r : Ran) → ((g : Judging t table bs) → outcome r ≡ (0, direct default-plan (g .known .sig) (g .rs) (g .value))) → DecideCall limits ss table bs (r .number) (answer-of r)
+      pub answered : (r : Ran) → ((g : Judging t table bs) → outcome r ≡ (0, direct default-plan (g .force .known .sig) (g .force .rs) (g .value))) → DecideCall limits ss table bs (r .number) (answer-of r)
       unfolding judging
       answered r f = record { result-is = f judging ∙ sym (from-start (some (judging .value)) (judging .booked)) }

@@ -54,35 +54,35 @@ by-fit {table = table} {at = at} g places f =
     ap (λ z. (0, record { rule = getD table at 0; plan = getD table (at + 1) 0; places = z })) (f (g .asked) (q .0) (q .1) ∙ sym (ap places-by (q .1)))
 
 module _ {t table bs : List ℕ} (g : Judging t table bs) where
-  holds : Holds limits table (g .rs)
-  holds = sound-holds (g .known .sig) table (g .rs) (g .is-sound) .0
+  holds : Holds limits table (g .force .rs)
+  holds = sound-holds (g .force .known .sig) table (g .force .rs) (g .force .is-sound) .0
 
-  good : tests (g .known .sig) (g .rs) ≡ true
-  good = sound-holds (g .known .sig) table (g .rs) (g .is-sound) .1
+  good : tests (g .force .known .sig) (g .force .rs) ≡ true
+  good = sound-holds (g .force .known .sig) table (g .force .rs) (g .force .is-sound) .1
 
   pub long : table-length limits ≤ length table
   long = holds .long
 
-  count-is : getD table 0 0 ≡ length (g .rs)
+  count-is : getD table 0 0 ≡ length (g .force .rs)
   count-is = ap (λ z. getD z 0 0) (is-stored holds)
 
   -- i rules are passed, and none took the booking
   pub record Mid (at i : ℕ) : Type 0 where
     pub before : List Rule
     pub after : List Rule
-    pub walked : Walked (g .rs) before after i at
-    pub same : direct default-plan (g .known .sig) (g .rs) (g .value) ≡ direct default-plan (g .known .sig) after (g .value)
+    pub walked : Walked (g .force .rs) before after i at
+    pub same : direct default-plan (g .force .known .sig) (g .force .rs) (g .value) ≡ direct default-plan (g .force .known .sig) after (g .value)
 
   pub start : Mid 1 0
-  start = record { before = []; after = g .rs; walked = walk-start (g .rs); same = refl }
+  start = record { before = []; after = g .force .rs; walked = walk-start (g .force .rs); same = refl }
 
   module _ {at i : ℕ} (l : Mid at i) where
-    pub finished : getD table 0 0 ≤ i → direct default-plan (g .known .sig) (g .rs) (g .value) ≡ no-rule default-plan
-    finished e = l .same ∙ ap (λ z. direct default-plan (g .known .sig) z (g .value)) (walk-end (l .walked) (omega (arith, e, count-is)) .0)
+    pub finished : getD table 0 0 ≤ i → direct default-plan (g .force .known .sig) (g .force .rs) (g .value) ≡ no-rule default-plan
+    finished e = l .same ∙ ap (λ z. direct default-plan (g .force .known .sig) z (g .value)) (walk-end (l .walked) (omega (arith, e, count-is)) .0)
 
     module _ (e : i < getD table 0 0) where
-      abbrev step : NextRule table (g .rs) (l .before) (l .after) i at
-      step = walk-step (g .rs) (l .before) (l .after) i at holds (l .walked) (omega (arith, e, count-is))
+      abbrev step : NextRule table (g .force .rs) (l .before) (l .after) i at
+      step = walk-step (g .force .rs) (l .before) (l .after) i at holds (l .walked) (omega (arith, e, count-is))
 
       pub end-le : at + 3 + getD table (at + 2) 0 ≤ (table-length limits)
       end-le = omega (arith, step .reads .length-is, step .reads .within)
@@ -98,14 +98,14 @@ module _ {t table bs : List ℕ} (g : Judging t table bs) where
           let z : at + 3 + getD table (at + 2) 0 - (at + 3) ≡ length (step .rule .pattern) = omega (arith, step .reads .length-is) in
           ap (λ z. take z (drop (at + 3) table)) z ∙ step .reads .pattern-is
 
-      rules-are : g .rs ≡ l .before ++ (step .rule ∷ step .later)
+      rules-are : g .force .rs ≡ l .before ++ (step .rule ∷ step .later)
       rules-are = l .walked .are ∙ ap (λ z. l .before ++ z) (step .here)
 
-      abbrev passed : Passed (g .known .sig) (step .rule .pattern)
-      passed = passed-of (g .known .sig) (step .rule .pattern) (passed-at (g .known .sig) (l .before) (step .rule) (step .later) (ap (tests (g .known .sig)) (sym rules-are) ∙ good))
+      abbrev passed : Passed (g .force .known .sig) (step .rule .pattern)
+      passed = passed-of (g .force .known .sig) (step .rule .pattern) (passed-at (g .force .known .sig) (l .before) (step .rule) (step .later) (ap (tests (g .force .known .sig)) (sym rules-are) ∙ good))
 
       pub asked : Asked t words bs
-      asked = record { known = g .known; pattern = passed .pat; read = ap (read-pattern (g .known .sig)) words-are ∙ passed .read; value = g .value; booked = g .booked }
+      asked = record { known = g .force .known; pattern = passed .pat; read = ap (read-pattern (g .force .known .sig)) words-are ∙ passed .read; value = g .value; booked = g .booked }
 
       module _ (b : Bool) (gave : (q : Asked t words bs) → b ≡ is-fit (decide (q .pattern) (q .value) 0)) where
         said : is-fit (decide (passed .pat) (g .value) 0) ≡ b
@@ -115,19 +115,19 @@ module _ {t table bs : List ℕ} (g : Judging t table bs) where
         pub by-rule : b ≡ true → ByRule t table at words bs
         by-rule h = record { asked = asked; fits = λ q. sym (gave q) ∙ h; within = omega (arith, end-le, long) }
 
-        pub hit : (h : b ≡ true) → (r : ℕ × Answer) → ((q : ByRule t table at words bs) → r ≡ answered-by q) → r ≡ (0, direct default-plan (g .known .sig) (g .rs) (g .value))
+        pub hit : (h : b ≡ true) → (r : ℕ × Answer) → ((q : ByRule t table at words bs) → r ≡ answered-by q) → r ≡ (0, direct default-plan (g .force .known .sig) (g .force .rs) (g .value))
         unfolding by-rule asked
         hit h r f =
             let q = the-binds (decide (passed .pat) (g .value) 0) (said ∙ h) in
             f (by-rule h)
             ∙ ap (λ o. (0, record { rule = getD table at 0; plan = getD table (at + 1) 0; places = places-by o })) (q .1)
             ∙ ap₂ (λ (x y : ℕ). (0, record { rule = x; plan = y; places = bind-all (q .0) unbound })) (step .reads .number-is) (step .reads .plan-is)
-            ∙ ap (λ a. (0, a)) (sym (l .same ∙ ap (λ z. direct default-plan (g .known .sig) z (g .value)) (step .here) ∙ taken (g .known .sig) (step .rule) (step .later) (g .value) (passed .pat) (q .0) (passed .read) (q .1)))
+            ∙ ap (λ a. (0, a)) (sym (l .same ∙ ap (λ z. direct default-plan (g .force .known .sig) z (g .value)) (step .here) ∙ taken (g .force .known .sig) (step .rule) (step .later) (g .value) (passed .pat) (q .0) (passed .read) (q .1)))
 
         pub again : b ≡ false → Mid (at + 3 + getD table (at + 2) 0) (i + 1)
         again h = record {
           before = l .before ++ (step .rule ∷ []);
           after = step .later;
           walked = step .next;
-          same = l .same ∙ ap (λ z. direct default-plan (g .known .sig) z (g .value)) (step .here) ∙ not-taken (g .known .sig) (step .rule) (step .later) (g .value) (passed .pat) (passed .read) (said ∙ h);
+          same = l .same ∙ ap (λ z. direct default-plan (g .force .known .sig) z (g .value)) (step .here) ∙ not-taken (g .force .known .sig) (step .rule) (step .later) (g .value) (passed .pat) (passed .read) (said ∙ h);
         }

@@ -15,14 +15,16 @@ use Rattle.tree.specs.Answer.{Answer}
 use Rattle.table.specs.Limits.{limits}
 use Rattle.table.specs.Rule.{Rule}
 use Rattle.table.specs.Sound.{sound}
+use Rattle.loading.specs.Load.{InForce}
 
--- a sound table and a lawful booking
+-- rules in force and a lawful booking; where the rules' rows stand does not matter
 pub record Judging (t table bs : List ℕ) : Type 0 where
-  pub known : Known t
-  pub rs : List Rule
-  pub is-sound : sound limits (known .sig) table ≡ some rs
+  pub used : ℕ
+  pub total : ℕ
+  pub rows : List ℕ
+  pub force : InForce t table used total rows
   pub value : Value
-  pub booked : read-booking (known .sig) bs ≡ some value
+  pub booked : read-booking (force .known .sig) bs ≡ some value
 
 -- a rule at an index whose pattern takes the booking
 pub record ByRule (t table : List ℕ) (at : ℕ) (ws bs : List ℕ) : Type 0 where

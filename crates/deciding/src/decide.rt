@@ -8,6 +8,7 @@ use opening::open::open;
 use run::Ran;
 use run::leaf::refused;
 use signature::decoded::DECODED;
+use signature::refusals::BOOKING_UNLAWFUL;
 use store::layout::TABLE;
 ghost use mathlib.Core.Path.{_≡_};
 ghost use Prim.Native.Nat.{_≤_};
@@ -18,8 +19,6 @@ ghost use Rattle.loading.specs.Add.{rows-room};
 ghost use Rattle.table.specs.Limits.{limits};
 ghost use Rattle.table.specs.Calls.{DecideCall};
 ghost use Rattle.run.specs.Outcome.{answer-of};
-
-pub const BOOKING_UNLAWFUL: u16 = 13;
 
 // The call over lent workspaces.
 fn decide_in(

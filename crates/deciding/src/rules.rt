@@ -27,7 +27,7 @@ fn by_rule(t: &[u16], table: &[u16], at: usize, p: &[u16], b: &[u16]) -> Ran
 
 pub fn by_rules(t: &[u16], table: &[u16], b: &[u16]) -> Ran
     requires { ⌜ Judging (now t) (now table) (now b) ⌝ }
-    ensures { λ r. ⌜ ((g : Judging (now (t .entry)) (now (table .entry)) (now (b .entry))) → outcome r ≡ (0, direct default-plan (g .known .sig) (g .rs) (g .value))) ⌝ }
+    ensures { λ r. ⌜ ((g : Judging (now (t .entry)) (now (table .entry)) (now (b .entry))) → outcome r ≡ (0, direct default-plan (g .force .known .sig) (g .force .rs) (g .value))) ⌝ }
 {
     let n = table[0];
     let mut at = 1;

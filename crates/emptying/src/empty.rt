@@ -1,5 +1,5 @@
 // The call that empties a table.
-use opening::open::TOO_SHORT;
+use signature::refusals::TOO_SHORT;
 use store::change::clear;
 use store::layout::TABLE;
 ghost use Rattle.table.specs.Limits.{limits};

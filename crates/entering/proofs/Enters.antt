@@ -17,7 +17,7 @@ use Rattle.table.specs.Rule.{Rule}
 use Rattle.table.specs.Sound.{sound}
 use Rattle.builder.specs.Build.{row-room}
 use Rattle.loading.specs.Add.{rows-room}
-use Rattle.opening.specs.Open.{GivenOpen, InForce, OpenedAs}
+use Rattle.opening.specs.Open.{GivenOpen, Started, OpenedAs}
 use Rattle.opening.specs.declared.open.Opened.{Opened}
 use Rattle.opening.specs.declared.open.Opened.the-variants.{Begun, Refused as Closed}
 use Rattle.entry.specs.Check.{GivenCheck}
@@ -97,15 +97,15 @@ module _ (ss : List ℕ) (n plan : ℕ) (ws table witness : List ℕ) (long : Bo
     numbered q e = refused-some ss long table q (subst (λ z. OpenedAs ss long table z t rows) e gave)
 
     module _ (used total : ℕ) (e : r ≡ Begun used total) (m : ℕ) (rows-is : length rows ≡ rows-room) (m-is : m ≡ row-room) where
-      in-force : InForce ss long table used total t rows
-      in-force = subst (λ z. OpenedAs ss long table z t rows) e gave
+      begun : Started ss long table used total t rows
+      begun = subst (λ z. OpenedAs ss long table z t rows) e gave
 
       pub check-given : GivenCheck t table used total rows m
-      check-given = record { known = in-force .known; rs = in-force .rs; is-sound = in-force .is-sound; ready = in-force .ready; room = omega (arith, rows-is); work-room = omega (arith, m-is) }
+      check-given = record { force = begun .force; room = omega (arith, rows-is); work-room = omega (arith, m-is) }
 
       pub buffer-long : witness-length ≤ length witness
-      buffer-long = witness-long table witness long long-so (in-force .is-long)
+      buffer-long = witness-long table witness long long-so (begun .is-long)
 
-      pub entered : (a : Answer) (after witness′ : List ℕ) → ((q : GivenCheck t table used total rows m) → EntryOf (q .known .sig) (q .rs) n plan ws table witness a after witness′) → Enter limits ss n plan ws table witness a after witness′
+      pub entered : (a : Answer) (after witness′ : List ℕ) → ((q : GivenCheck t table used total rows m) → EntryOf (q .force .known .sig) (q .force .rs) n plan ws table witness a after witness′) → Enter limits ss n plan ws table witness a after witness′
       unfolding check-given
-      entered a after witness′ did = as-whole ss n plan ws table witness (in-force .known .sig) (in-force .rs) (ap (λ b. start limits ss b table) (sym long-so) ∙ in-force .started) a after witness′ (did check-given)
+      entered a after witness′ did = as-whole ss n plan ws table witness (begun .force .known .sig) (begun .force .rs) (ap (λ b. start limits ss b table) (sym long-so) ∙ begun .started) a after witness′ (did check-given)

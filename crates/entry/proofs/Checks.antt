@@ -95,88 +95,88 @@ own-number : (x later : ℕ) → 1 ≤ x → cond (not (eqb x 0)) x later ≡ x
 own-number x later h = ap (λ b. cond (not b) x later) (eqb-no x 0 (λ e. omega (arith, e, h)))
 
 module _ {t table : List ℕ} {used total : ℕ} {rows : List ℕ} {m : ℕ} (g : GivenCheck t table used total rows m) where
-  pub holds : Holds limits table (g .rs)
-  holds = sound-holds (g .known .sig) table (g .rs) (g .is-sound)
+  pub holds : Holds limits table (g .force .rs)
+  holds = sound-holds (g .force .known .sig) table (g .force .rs) (g .force .is-sound)
 
   light : total ≤ limits .weight
-  light = omega (arith, g .ready .total-is, sound-valid (g .known .sig) (g .known .signed) table (g .rs) (g .is-sound) .0 .light)
+  light = omega (arith, g .force .ready .total-is, sound-valid (g .force .known .sig) (g .force .known .signed) table (g .force .rs) (g .force .is-sound) .0 .light)
 
   used-room : used + 1 + row-room ≤ length rows
-  used-room = omega (arith, g .ready .small, light, holds .few, g .room)
+  used-room = omega (arith, g .force .ready .small, light, holds .few, g .room)
 
   pub le : used ≤ length rows
   le = omega (arith, used-room)
 
   pub words-given : (n' m' : ℕ) → n' ≡ length rows - used → m' ≡ m → GivenWords t n' m'
-  words-given n' m' e e' = record { known = g .known; room = omega (arith, e, used-room); work-room = omega (arith, e', g .work-room) }
+  words-given n' m' e e' = record { known = g .force .known; room = omega (arith, e, used-room); work-room = omega (arith, e', g .work-room) }
 
-  ready-kept : (ys : List ℕ) → Ready (g .known .sig) (g .rs) used total (back rows used ys)
+  ready-kept : (ys : List ℕ) → Ready (g .force .known .sig) (g .force .rs) used total (back rows used ys)
   ready-kept ys =
-      let L = lists-for (g .known .sig) (patterns (g .rs)) in
-      let front : take used rows ≡ L = ap (take used) (g .ready .code-is) ∙ take-at L (g .ready .rest) used (sym (g .ready .used-is)) in
+      let L = lists-for (g .force .known .sig) (patterns (g .force .rs)) in
+      let front : take used rows ≡ L = ap (take used) (g .force .ready .code-is) ∙ take-at L (g .force .ready .rest) used (sym (g .force .ready .used-is)) in
       record {
         rest = ys ++ drop (length rows - used) (drop used rows);
         code-is = ap (λ z. z ++ (ys ++ drop (length rows - used) (drop used rows))) front;
-        used-is = g .ready .used-is;
-        total-is = g .ready .total-is;
-        small = g .ready .small;
+        used-is = g .force .ready .used-is;
+        total-is = g .force .ready .total-is;
+        small = g .force .ready .small;
       }
 
   module _ (n : ℕ) (ws : List ℕ) where
     abbrev later : ℕ
-    later = cond (leb (limits .rules) (length (g .rs)) || ltb (limits .weight) (weight (g .known .sig) ws + total-weight (g .known .sig) (g .rs))) 11 (cond (any (λ r. shares (g .known .sig) ws (r .pattern)) (g .rs)) 12 0)
+    later = cond (leb (limits .rules) (length (g .force .rs)) || ltb (limits .weight) (weight (g .force .known .sig) ws + total-weight (g .force .known .sig) (g .force .rs))) 11 (cond (any (λ r. shares (g .force .known .sig) ws (r .pattern)) (g .force .rs)) 12 0)
 
     abbrev after-number : ℕ
-    after-number = cond (not (eqb (refusal-of-pattern (g .known .sig) ws) 0)) (refusal-of-pattern (g .known .sig) ws) later
+    after-number = cond (not (eqb (refusal-of-pattern (g .force .known .sig) ws) 0)) (refusal-of-pattern (g .force .known .sig) ws) later
 
     module _ (s : Checked) (said : (rs : List Rule) → Holds limits table rs → FreeFor n rs s) where
-      pub bad-number : (q : ℕ) → s ≡ Refused q → CheckedAs (g .known .sig) (g .rs) n ws used total (Refused q) rows
-      bad-number q e = let f = subst (FreeFor n (g .rs)) e (said (g .rs) holds) in (f .0, f .1, f .2 after-number)
+      pub bad-number : (q : ℕ) → s ≡ Refused q → CheckedAs (g .force .known .sig) (g .force .rs) n ws used total (Refused q) rows
+      bad-number q e = let f = subst (FreeFor n (g .force .rs)) e (said (g .force .rs) holds) in (f .0, f .1, f .2 after-number)
 
-    module _ (s : Checked) (said : (rs : List Rule) → Holds limits table rs → FreeFor n rs s) (at : ℕ) (s-is : s ≡ Free at) (n' m' : ℕ) (n'-is : n' ≡ length rows - used) (m'-is : m' ≡ m) (r : Admission) (gave : (q : GivenWords t n' m') → r ≡ admission-of (q .known .sig) ws) where
-      told : Tells (g .known .sig) ws r
+    module _ (s : Checked) (said : (rs : List Rule) → Holds limits table rs → FreeFor n rs s) (at : ℕ) (s-is : s ≡ Free at) (n' m' : ℕ) (n'-is : n' ≡ length rows - used) (m'-is : m' ≡ m) (r : Admission) (gave : (q : GivenWords t n' m') → r ≡ admission-of (q .force .known .sig) ws) where
+      told : Tells (g .force .known .sig) ws r
       unfolding words-given
-      told = subst (Tells (g .known .sig) ws) (sym (gave (words-given n' m' n'-is m'-is))) (tells (g .known .sig) ws)
+      told = subst (Tells (g .force .known .sig) ws) (sym (gave (words-given n' m' n'-is m'-is))) (tells (g .force .known .sig) ws)
 
-      f : FreeFor n (g .rs) (Free at)
-      f = subst (FreeFor n (g .rs)) s-is (said (g .rs) holds)
+      f : FreeFor n (g .force .rs) (Free at)
+      f = subst (FreeFor n (g .force .rs)) s-is (said (g .force .rs) holds)
 
-      start : entry-refusal limits (g .known .sig) n ws (g .rs) ≡ after-number
-      start = not-held n (g .rs) (f .0) (f .1) at (f .2) after-number
+      start : entry-refusal limits (g .force .known .sig) n ws (g .force .rs) ≡ after-number
+      start = not-held n (g .force .rs) (f .0) (f .1) at (f .2) after-number
 
-      pub bad-pattern : (q : ℕ) → r ≡ Barred q → CheckedAs (g .known .sig) (g .rs) n ws used total (Refused q) rows
+      pub bad-pattern : (q : ℕ) → r ≡ Barred q → CheckedAs (g .force .known .sig) (g .force .rs) n ws used total (Refused q) rows
       bad-pattern q e =
-          let z : Tells (g .known .sig) ws (Barred q) = subst (Tells (g .known .sig) ws) e told in
-          (z .0, omega (arith, z .1), start ∙ own-number (refusal-of-pattern (g .known .sig) ws) later (omega (arith, z .0, z .2)) ∙ sym (z .2))
+          let z : Tells (g .force .known .sig) ws (Barred q) = subst (Tells (g .force .known .sig) ws) e told in
+          (z .0, omega (arith, z .1), start ∙ own-number (refusal-of-pattern (g .force .known .sig) ws) later (omega (arith, z .0, z .2)) ∙ sym (z .2))
 
       module _ (w : ℕ) (e : r ≡ Passed w) where
-        so : (refusal-of-pattern (g .known .sig) ws ≡ 0) × (w ≡ weight (g .known .sig) ws)
-        so = subst (Tells (g .known .sig) ws) e told
+        so : (refusal-of-pattern (g .force .known .sig) ws ≡ 0) × (w ≡ weight (g .force .known .sig) ws)
+        so = subst (Tells (g .force .known .sig) ws) e told
 
         pub sum-small : total + w ≤ limits .weight + part-weight-limit
         sum-small =
-            let p = passed-of (g .known .sig) ws (so .0) in
+            let p = passed-of (g .force .known .sig) ws (so .0) in
             omega (arith, so .1, ap weight-by (p .read), light-weight plus (p .pat) (p .light), light)
 
-        good : entry-refusal limits (g .known .sig) n ws (g .rs) ≡ later
+        good : entry-refusal limits (g .force .known .sig) n ws (g .force .rs) ≡ later
         good = start ∙ ap (λ q. cond (not (eqb q 0)) q later) (so .0)
 
-        pub full : (limits .rules) ≤ getD table 0 0 → CheckedAs (g .known .sig) (g .rs) n ws used total (Refused 11) rows
-        full h = (omega arith, omega arith, good ∙ ap (λ b. cond (b || ltb (limits .weight) (weight (g .known .sig) ws + total-weight (g .known .sig) (g .rs))) 11 (cond (any (λ r. shares (g .known .sig) ws (r .pattern)) (g .rs)) 12 0)) (leb-yes (limits .rules) (length (g .rs)) (omega (arith, h, count-is holds))))
+        pub full : (limits .rules) ≤ getD table 0 0 → CheckedAs (g .force .known .sig) (g .force .rs) n ws used total (Refused 11) rows
+        full h = (omega arith, omega arith, good ∙ ap (λ b. cond (b || ltb (limits .weight) (weight (g .force .known .sig) ws + total-weight (g .force .known .sig) (g .force .rs))) 11 (cond (any (λ r. shares (g .force .known .sig) ws (r .pattern)) (g .force .rs)) 12 0)) (leb-yes (limits .rules) (length (g .force .rs)) (omega (arith, h, count-is holds))))
 
-        pub heavy : (limits .weight) < total + w → CheckedAs (g .known .sig) (g .rs) n ws used total (Refused 11) rows
+        pub heavy : (limits .weight) < total + w → CheckedAs (g .force .known .sig) (g .force .rs) n ws used total (Refused 11) rows
         heavy h = (
           omega arith,
           omega arith,
           good
-              ∙ ap (λ b. cond (leb (limits .rules) (length (g .rs)) || b) 11 (cond (any (λ r. shares (g .known .sig) ws (r .pattern)) (g .rs)) 12 0)) (ltb-yes (limits .weight) (weight (g .known .sig) ws + total-weight (g .known .sig) (g .rs)) (omega (arith, h, so .1, g .ready .total-is)))
-              ∙ ap (λ b. cond b 11 (cond (any (λ r. shares (g .known .sig) ws (r .pattern)) (g .rs)) 12 0)) (or-true (leb (limits .rules) (length (g .rs)))),
+              ∙ ap (λ b. cond (leb (limits .rules) (length (g .force .rs)) || b) 11 (cond (any (λ r. shares (g .force .known .sig) ws (r .pattern)) (g .force .rs)) 12 0)) (ltb-yes (limits .weight) (weight (g .force .known .sig) ws + total-weight (g .force .known .sig) (g .force .rs)) (omega (arith, h, so .1, g .force .ready .total-is)))
+              ∙ ap (λ b. cond b 11 (cond (any (λ r. shares (g .force .known .sig) ws (r .pattern)) (g .force .rs)) 12 0)) (or-true (leb (limits .rules) (length (g .force .rs)))),
         )
 
-        pub clear : getD table 0 0 < limits .rules → total + w ≤ limits .weight → (ys : List ℕ) → CheckedAs (g .known .sig) (g .rs) n ws used total (Free at) (back rows used ys)
+        pub clear : getD table 0 0 < limits .rules → total + w ≤ limits .weight → (ys : List ℕ) → CheckedAs (g .force .known .sig) (g .force .rs) n ws used total (Free at) (back rows used ys)
         clear h k ys =
-            let few : length (g .rs) < limits .rules = omega (arith, h, count-is holds) in
-            let a = leb-no (limits .rules) (length (g .rs)) few in
-            let b = ltb-no (limits .weight) (weight (g .known .sig) ws + total-weight (g .known .sig) (g .rs)) (omega (arith, k, so .1, g .ready .total-is)) in
-            let c : later ≡ cond (any (λ r. shares (g .known .sig) ws (r .pattern)) (g .rs)) 12 0 = rw (a, b) in
+            let few : length (g .force .rs) < limits .rules = omega (arith, h, count-is holds) in
+            let a = leb-no (limits .rules) (length (g .force .rs)) few in
+            let b = ltb-no (limits .weight) (weight (g .force .known .sig) ws + total-weight (g .force .known .sig) (g .force .rs)) (omega (arith, k, so .1, g .force .ready .total-is)) in
+            let c : later ≡ cond (any (λ r. shares (g .force .known .sig) ws (r .pattern)) (g .force .rs)) 12 0 = rw (a, b) in
             (record { free = f .2; passed = so .0; few = few; refusal-is = good ∙ c }, ready-kept ys)

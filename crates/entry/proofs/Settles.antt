@@ -32,46 +32,46 @@ use Rattle.entry.specs.Settle.{GivenSettle, EntryOf}
 use Rattle.entry.specs.declared.sound.Entry.the-variants.{Entered, Shares}
 
 module _ {t table : List ℕ} {n : ℕ} {ws : List ℕ} {at used : ℕ} {rows : List ℕ} {m l : ℕ} (g : GivenSettle t table n ws at used rows m l) where
-  valid : Valid (g .known .sig) (g .rs)
-  valid = sound-valid (g .known .sig) (g .known .signed) table (g .rs) (g .is-sound) .0
+  valid : Valid (g .force .known .sig) (g .force .rs)
+  valid = sound-valid (g .force .known .sig) (g .force .known .signed) table (g .force .rs) (g .force .is-sound) .0
 
   used-room : used + 1 + row-room ≤ length rows
-  used-room = omega (arith, g .ready .small, g .ready .total-is, valid .light, g .cleared .few, g .room)
+  used-room = omega (arith, g .force .ready .small, g .force .ready .total-is, valid .light, g .cleared .few, g .room)
 
   pub next-le : used + 1 ≤ length rows
   next-le = omega (arith, used-room)
 
-  abbrev passed : PassedWords (g .known .sig) ws
-  passed = passed-of (g .known .sig) ws (g .cleared .passed)
+  abbrev passed : PassedWords (g .force .known .sig) ws
+  passed = passed-of (g .force .known .sig) ws (g .cleared .passed)
 
   pub place-given : GivenPlace t ws used (length rows) m
-  place-given = record { known = g .known; p = passed .pat; words = pattern-words (g .known .sig) ws (passed .pat) (passed .read); light = passed .light; room = used-room; work-room = g .work-room }
+  place-given = record { known = g .force .known; p = passed .pat; words = pattern-words (g .force .known .sig) ws (passed .pat) (passed .read); light = passed .light; room = used-room; work-room = g .work-room }
 
   pub put-given : GivenPut table at n ws
-  put-given = record { rs = g .rs; holds = sound-holds (g .known .sig) table (g .rs) (g .is-sound); free = g .cleared .free; few = g .cleared .few; short = valid .short; short-new = short-of (g .known .sig) ws (g .cleared .passed) }
+  put-given = record { rs = g .force .rs; holds = sound-holds (g .force .known .sig) table (g .force .rs) (g .force .is-sound); free = g .cleared .free; few = g .cleared .few; short = valid .short; short-new = short-of (g .force .known .sig) ws (g .cleared .passed) }
 
-  module _ (r : ℕ) (o : List ℕ) (put : (q : GivenPlace t ws used (length rows) m) → ListPlaced (q .known .sig) (q .p) used r rows o) where
-    placed : ListPlaced (g .known .sig) (passed .pat) used r rows o
+  module _ (r : ℕ) (o : List ℕ) (put : (q : GivenPlace t ws used (length rows) m) → ListPlaced (q .force .known .sig) (q .p) used r rows o) where
+    placed : ListPlaced (g .force .known .sig) (passed .pat) used r rows o
     unfolding place-given
     placed = put place-given
 
     L : List ℕ
-    L = list-for (g .known .sig) ws
+    L = list-for (g .force .known .sig) ws
 
-    L-is : list-code (kinds-of (g .known .sig)) 0 (rows-plus (g .known .sig) 0 (passed .pat)) ≡ L
+    L-is : list-code (kinds-of (g .force .known .sig)) 0 (rows-plus (g .force .known .sig) 0 (passed .pat)) ≡ L
     unfolding L
-    L-is = ap (λ z. list-code (kinds-of (g .known .sig)) 0 (rows-by (g .known .sig) z)) (sym (passed .read))
+    L-is = ap (λ z. list-code (kinds-of (g .force .known .sig)) 0 (rows-by (g .force .known .sig) z)) (sym (passed .read))
 
     front : List ℕ
-    front = lists-for (g .known .sig) (patterns (g .rs))
+    front = lists-for (g .force .known .sig) (patterns (g .force .rs))
 
     front-is : take used rows ≡ front
     unfolding front
-    front-is = ap (take used) (g .ready .code-is) ∙ take-at (lists-for (g .known .sig) (patterns (g .rs))) (g .ready .rest) used (sym (g .ready .used-is))
+    front-is = ap (take used) (g .force .ready .code-is) ∙ take-at (lists-for (g .force .known .sig) (patterns (g .force .rs))) (g .force .ready .rest) used (sym (g .force .ready .used-is))
 
     used-is : used ≡ length front
     unfolding front
-    used-is = g .ready .used-is
+    used-is = g .force .ready .used-is
 
     code-so : o ≡ front ++ (length L ∷ (L ++ placed .rest))
     code-so = placed .code-is ∙ ap₂ (λ x y. x ++ (length y ∷ (y ++ placed .rest))) front-is L-is
@@ -82,9 +82,9 @@ module _ {t table : List ℕ} {n : ℕ} {ws : List ℕ} {at used : ℕ} {rows : 
     pub sharer-given : GivenSharer t table o (used + 1) l
     unfolding L front
     sharer-given = record {
-      known = g .known;
-      rs = g .rs;
-      is-sound = g .is-sound;
+      known = g .force .known;
+      rs = g .force .rs;
+      is-sound = g .force .is-sound;
       rest = length L ∷ (L ++ placed .rest);
       code-is = code-so;
       ws = ws;
@@ -99,30 +99,30 @@ module _ {t table : List ℕ} {n : ℕ} {ws : List ℕ} {at used : ℕ} {rows : 
       room = g .witness-long;
     }
 
-    module _ (plan : ℕ) (witness : List ℕ) (s : Sharer) (witness′ : List ℕ) (gave : (q : GivenSharer t table o (used + 1) l) → SharerOf (q .known .sig) (q .rs) (q .ws) witness s witness′) where
-      said : SharerOf (g .known .sig) (g .rs) ws witness s witness′
+    module _ (plan : ℕ) (witness : List ℕ) (s : Sharer) (witness′ : List ℕ) (gave : (q : GivenSharer t table o (used + 1) l) → SharerOf (q .force .known .sig) (q .force .rs) (q .ws) witness s witness′) where
+      said : SharerOf (g .force .known .sig) (g .force .rs) ws witness s witness′
       unfolding sharer-given
       said = gave sharer-given
 
-      pub shared : 0 < s .length → EntryOf (g .known .sig) (g .rs) n plan ws table witness (entry-answer (Shares (s .rule) (s .length))) table witness′
+      pub shared : 0 < s .length → EntryOf (g .force .known .sig) (g .force .rs) n plan ws table witness (entry-answer (Shares (s .rule) (s .length))) table witness′
       shared h =
           let (e, w) = said .one-shares (omega (arith, h)) in
-          let z : entry-refusal limits (g .known .sig) n ws (g .rs) ≡ 12 = g .cleared .refusal-is ∙ ap (λ b. cond b 12 0) e in
+          let z : entry-refusal limits (g .force .known .sig) n ws (g .force .rs) ≡ 12 = g .cleared .refusal-is ∙ ap (λ b. cond b 12 0) e in
           record {
             number-is = sym z;
-            table-is = sym (ap (λ q. cond (eqb q 0) (stored limits (add-rule (record { number = n; plan = plan; pattern = ws }) (g .rs)) table) table) z);
+            table-is = sym (ap (λ q. cond (eqb q 0) (stored limits (add-rule (record { number = n; plan = plan; pattern = ws }) (g .force .rs)) table) table) z);
             not-12 = λ f. absurd (f refl);
             on-12 = λ x. w;
           }
 
-      pub entered : s .length ≤ 0 → (after : List ℕ) → ((q : GivenPut table at n ws) → after ≡ stored limits (add-rule (record { number = n; plan = plan; pattern = ws }) (q .rs)) table) → EntryOf (g .known .sig) (g .rs) n plan ws table witness (entry-answer Entered) after witness′
+      pub entered : s .length ≤ 0 → (after : List ℕ) → ((q : GivenPut table at n ws) → after ≡ stored limits (add-rule (record { number = n; plan = plan; pattern = ws }) (q .force .rs)) table) → EntryOf (g .force .known .sig) (g .force .rs) n plan ws table witness (entry-answer Entered) after witness′
       unfolding put-given
       entered h after did =
           let (e, u, w) = said .none-shares (omega (arith, h)) in
-          let z : entry-refusal limits (g .known .sig) n ws (g .rs) ≡ 0 = g .cleared .refusal-is ∙ ap (λ b. cond b 12 0) e in
+          let z : entry-refusal limits (g .force .known .sig) n ws (g .force .rs) ≡ 0 = g .cleared .refusal-is ∙ ap (λ b. cond b 12 0) e in
           record {
             number-is = sym z;
-            table-is = did put-given ∙ sym (ap (λ q. cond (eqb q 0) (stored limits (add-rule (record { number = n; plan = plan; pattern = ws }) (g .rs)) table) table) z);
+            table-is = did put-given ∙ sym (ap (λ q. cond (eqb q 0) (stored limits (add-rule (record { number = n; plan = plan; pattern = ws }) (g .force .rs)) table) table) z);
             not-12 = λ f. (refl, refl, w);
             on-12 = λ x. absurd (omega (arith, x));
           }

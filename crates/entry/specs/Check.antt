@@ -19,7 +19,7 @@ use Rattle.table.specs.Sound.{sound}
 use Rattle.builder.specs.Build.{row-room}
 use Rattle.store.specs.Place.{FreeAt}
 use Rattle.loading.specs.Add.{rows-room}
-use Rattle.loading.specs.Load.{Ready}
+use Rattle.loading.specs.Load.{InForce, Ready}
 use Rattle.entry.specs.declared.check.Checked.{Checked}
 use Rattle.entry.specs.declared.check.Checked.the-variants.{Free, Refused}
 
@@ -32,12 +32,9 @@ abbrev pub FreeFor : ℕ → List Rule → Checked → Type 0
 FreeFor n rs (Refused q) = (1 ≤ q) × (q ≤ 11) × ((later : ℕ) → number-refusal n rs later ≡ q)
 FreeFor n rs (Free at) = (1 ≤ n) × (n ≤ last-number) × FreeAt n rs at
 
--- a sound table with the rows of its rules
+-- rules in force, and room
 pub record GivenCheck (t table : List ℕ) (used total : ℕ) (rows : List ℕ) (m : ℕ) : Type 0 where
-  pub known : Known t
-  pub rs : List Rule
-  pub is-sound : sound limits (known .sig) table ≡ some rs
-  pub ready : Ready (known .sig) rs used total rows
+  pub force : InForce t table used total rows
   pub room : rows-room ≤ length rows
   pub work-room : row-room ≤ m
 

@@ -13,17 +13,14 @@ use Rattle.table.specs.Rule.{Rule}
 use Rattle.table.specs.Sound.{sound}
 use Rattle.builder.specs.Build.{row-room}
 use Rattle.loading.specs.Add.{rows-room}
-use Rattle.loading.specs.Load.{Ready}
+use Rattle.loading.specs.Load.{InForce, Ready}
 use Rattle.entry.specs.Check.{Cleared}
 
 -- an entry that none of 4 to 11 applies to
 pub record GivenSettle (t table : List ℕ) (n : ℕ) (ws : List ℕ) (at used : ℕ) (rows : List ℕ) (m l : ℕ) : Type 0 where
-  pub known : Known t
-  pub rs : List Rule
-  pub is-sound : sound limits (known .sig) table ≡ some rs
   pub total : ℕ
-  pub ready : Ready (known .sig) rs used total rows
-  pub cleared : Cleared (known .sig) rs n ws at
+  pub force : InForce t table used total rows
+  pub cleared : Cleared (force .known .sig) (force .rs) n ws at
   pub room : rows-room ≤ length rows
   pub work-room : row-room ≤ m
   pub witness-long : witness-length ≤ l

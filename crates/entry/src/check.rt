@@ -2,22 +2,19 @@
 use admission::admit::Admission;
 use admission::admit::admit;
 use loading::add::WEIGHT;
+use signature::refusals::FULL;
+use signature::refusals::HELD;
+use signature::refusals::NUMBER_OUTSIDE;
 use store::find::Found;
 use store::find::find;
-use store::layout::LAST_NUMBER;
 use store::layout::RULES;
+use tree::words::LAST_NUMBER;
 ghost use mathlib.Core.List.{List};
 ghost use lib.ListN.{length};
 ghost use Rattle.table.specs.Limits.{limits};
 ghost use Rattle.table.specs.Rule.{Rule};
 ghost use Rattle.store.specs.Laid.{Holds};
 ghost use Rattle.entry.specs.Check.{FreeFor, GivenCheck, CheckedAs};
-
-pub const NO_NUMBER: u16 = 4;
-
-pub const HELD: u16 = 5;
-
-pub const FULL: u16 = 11;
 
 // The index at which the rule goes in, or the refusal.
 pub enum Checked {
@@ -31,10 +28,10 @@ fn free_at(table: &[u16], number: u16) -> Checked
     ensures { λ r. ⌜ ((rs : List Rule) → Holds limits (now (table .entry)) rs → FreeFor number rs r) ⌝ }
 {
     if number < 1 {
-        return Checked::Refused(NO_NUMBER);
+        return Checked::Refused(NUMBER_OUTSIDE);
     }
     if LAST_NUMBER < number {
-        return Checked::Refused(NO_NUMBER);
+        return Checked::Refused(NUMBER_OUTSIDE);
     }
     let Found::Free(at) = find(table, number) else {
         return Checked::Refused(HELD);
@@ -54,7 +51,7 @@ pub fn check(
     work: &mut [u64],
 ) -> Checked
     requires { ⌜ GivenCheck (now t) (now table) used total (now rows) (length (now work)) ⌝ }
-    ensures { λ r. ⌜ ((g : GivenCheck (now (t .entry)) (now (table .entry)) used total (now (rows .entry)) (length (now (work .entry)))) → CheckedAs (g .known .sig) (g .rs) number (now (pattern .entry)) used total r (now (rows .exit))) ⌝ }
+    ensures { λ r. ⌜ ((g : GivenCheck (now (t .entry)) (now (table .entry)) used total (now (rows .entry)) (length (now (work .entry)))) → CheckedAs (g .force .known .sig) (g .force .rs) number (now (pattern .entry)) used total r (now (rows .exit))) ⌝ }
 {
     match free_at(table, number) {
         Checked::Refused(q) => Checked::Refused(q),

@@ -21,7 +21,7 @@ pub fn settle(
     witness: &mut [u16],
 ) -> Entry
     requires { ⌜ GivenSettle (now t) (now table) number (now pattern) at used (now rows) (length (now work)) (length (now witness)) ⌝ }
-    ensures { λ r. ⌜ ((g : GivenSettle (now (t .entry)) (now (table .entry)) number (now (pattern .entry)) at used (now (rows .entry)) (length (now (work .entry))) (length (now (witness .entry)))) → EntryOf (g .known .sig) (g .rs) number plan (now (pattern .entry)) (now (table .entry)) (now (witness .entry)) (entry-answer r) (now (table .exit)) (now (witness .exit))) ⌝ }
+    ensures { λ r. ⌜ ((g : GivenSettle (now (t .entry)) (now (table .entry)) number (now (pattern .entry)) at used (now (rows .entry)) (length (now (work .entry))) (length (now (witness .entry)))) → EntryOf (g .force .known .sig) (g .force .rs) number plan (now (pattern .entry)) (now (table .entry)) (now (witness .entry)) (entry-answer r) (now (table .exit)) (now (witness .exit))) ⌝ }
     ensures { λ r. ⌜ Numbered r ⌝ }
 {
     place(t, pattern, used, rows, work);

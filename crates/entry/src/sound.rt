@@ -30,7 +30,7 @@ pub fn enter_sound(
     witness: &mut [u16],
 ) -> Entry
     requires { ⌜ GivenCheck (now t) (now table) used total (now rows) (length (now work)) × (witness-length ≤ length (now witness)) ⌝ }
-    ensures { λ r. ⌜ ((g : GivenCheck (now (t .entry)) (now (table .entry)) used total (now (rows .entry)) (length (now (work .entry)))) → EntryOf (g .known .sig) (g .rs) number plan (now (pattern .entry)) (now (table .entry)) (now (witness .entry)) (entry-answer r) (now (table .exit)) (now (witness .exit))) ⌝ }
+    ensures { λ r. ⌜ ((g : GivenCheck (now (t .entry)) (now (table .entry)) used total (now (rows .entry)) (length (now (work .entry)))) → EntryOf (g .force .known .sig) (g .force .rs) number plan (now (pattern .entry)) (now (table .entry)) (now (witness .entry)) (entry-answer r) (now (table .exit)) (now (witness .exit))) ⌝ }
     ensures { λ r. ⌜ Numbered r ⌝ }
 {
     match check(t, table, number, pattern, used, total, rows, work) {

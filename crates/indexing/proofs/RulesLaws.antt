@@ -20,8 +20,9 @@ use Rattle.path.specs.Wrote.{word-limit}
 use Rattle.writer.specs.Write.{RuleRow, Fit, AllPlaced, Placed}
 use Rattle.table.specs.Limits.{limits, table-length}
 use Rattle.table.specs.Rule.{Rule}
+use Rattle.store.specs.Laid.{Holds}
 use Rattle.store.specs.Place.{Walked, NextRule}
-use Rattle.store.proofs.LaidFacts.{is-stored}
+use Rattle.store.proofs.LaidFacts.{is-stored, sound-holds}
 use Rattle.store.proofs.Walk.{walk-start, walk-step, walk-end}
 use Rattle.loading.specs.Lists.{rows-for, lists-for, list-for}
 use Rattle.loading.specs.Load.{patterns}
@@ -39,105 +40,108 @@ same-fit h none-left = none-left
 same-fit h (also a p ps) = also a (h a p) (same-fit h ps)
 
 module _ {t table lists : List ℕ} {room : ℕ} (g : GivenRules t table lists room) where
-  pub long : table-length limits ≤ length table
-  long = g .holds .long
+  holds : Holds limits table (g .force .rs)
+  holds = sound-holds (g .force .known .sig) table (g .force .rs) (g .force .is-sound)
 
-  pub count-is : getD table 0 0 ≡ length (g .rs)
-  count-is = ap (λ z. getD z 0 0) (is-stored (g .holds))
+  pub long : table-length limits ≤ length table
+  long = holds .long
+
+  pub count-is : getD table 0 0 ≡ length (g .force .rs)
+  count-is = ap (λ z. getD z 0 0) (is-stored (holds))
 
   -- i rules are passed, their rows are in the table of rows
   pub record Mid (here from r i : ℕ) (tab : List ℕ) : Type 0 where
     pub before : List Rule
     pub after : List Rule
-    pub walked : Walked (g .rs) before after i here
-    pub code-is : drop from lists ≡ lists-for (g .known .sig) (patterns after) ++ g .rest
+    pub walked : Walked (g .force .rs) before after i here
+    pub code-is : drop from lists ≡ lists-for (g .force .known .sig) (patterns after) ++ g .force .ready .rest
     pub within : from ≤ length lists
-    pub near : from + length (lists-for (g .known .sig) (patterns after)) < word-limit
-    pub many : r ≡ length (rows-all (g .known .sig) before)
-    pub fit : All (Fit (g .known .sig) t) (rows-all (g .known .sig) after)
-    pub placed : AllPlaced (g .known .sig) t lists tab (rows-all (g .known .sig) before)
+    pub near : from + length (lists-for (g .force .known .sig) (patterns after)) < word-limit
+    pub many : r ≡ length (rows-all (g .force .known .sig) before)
+    pub fit : All (Fit (g .force .known .sig) t) (rows-all (g .force .known .sig) after)
+    pub placed : AllPlaced (g .force .known .sig) t lists tab (rows-all (g .force .known .sig) before)
 
   pub start : (tab : List ℕ) → Mid 1 0 0 0 tab
-  start tab = record { before = []; after = g .rs; walked = walk-start (g .rs); code-is = g .code-is; within = omega arith; near = omega (arith, g .near); many = refl; fit = g .fit; placed = λ r e i. none≢some i }
+  start tab = record { before = []; after = g .force .rs; walked = walk-start (g .force .rs); code-is = g .force .ready .code-is; within = omega arith; near = omega (arith, g .near); many = refl; fit = g .fit; placed = λ r e i. none≢some i }
 
   module _ {here from r i : ℕ} {tab : List ℕ} (l : Mid here from r i tab) where
-    pub done : getD table 0 0 ≤ i → RulesIndexed (g .known .sig) t lists (g .rs) r tab
+    pub done : getD table 0 0 ≤ i → RulesIndexed (g .force .known .sig) t lists (g .force .rs) r tab
     done e =
-        let q : g .rs ≡ l .before = walk-end (l .walked) (omega (arith, e, count-is)) .1 in
-        subst (λ (z : List Rule). RulesIndexed (g .known .sig) t lists z r tab) (sym q) (record { many = l .many; placed = l .placed })
+        let q : g .force .rs ≡ l .before = walk-end (l .walked) (omega (arith, e, count-is)) .1 in
+        subst (λ (z : List Rule). RulesIndexed (g .force .known .sig) t lists z r tab) (sym q) (record { many = l .many; placed = l .placed })
 
     module _ (e : i < getD table 0 0) where
-      abbrev step : NextRule table (g .rs) (l .before) (l .after) i here
-      step = walk-step (g .rs) (l .before) (l .after) i here (g .holds) (l .walked) (omega (arith, e, count-is))
+      abbrev step : NextRule table (g .force .rs) (l .before) (l .after) i here
+      step = walk-step (g .force .rs) (l .before) (l .after) i here (holds) (l .walked) (omega (arith, e, count-is))
 
       pub end-le : here + 3 + getD table (here + 2) 0 ≤ (table-length limits)
       end-le = omega (arith, step .reads .length-is, step .reads .within)
 
       pub few : i < limits .rules
-      few = omega (arith, e, count-is, g .holds .few)
+      few = omega (arith, e, count-is, holds .few)
 
       abbrev ws : List Row
-      ws = rows-for (g .known .sig) (step .rule .pattern)
+      ws = rows-for (g .force .known .sig) (step .rule .pattern)
 
       abbrev L : List ℕ
-      L = list-for (g .known .sig) (step .rule .pattern)
+      L = list-for (g .force .known .sig) (step .rule .pattern)
 
       abbrev later-code : List ℕ
-      later-code = lists-for (g .known .sig) (patterns (step .later)) ++ g .rest
+      later-code = lists-for (g .force .known .sig) (patterns (step .later)) ++ g .force .ready .rest
 
       list-there : drop from lists ≡ length L ∷ (L ++ later-code)
       list-there =
-          l .code-is ∙ ap (λ (z : List Rule). lists-for (g .known .sig) (patterns z) ++ g .rest) (step .here)
-          ∙ ap (λ (z : List ℕ). length L ∷ z) (append-assoc L (lists-for (g .known .sig) (patterns (step .later))) (g .rest))
+          l .code-is ∙ ap (λ (z : List Rule). lists-for (g .force .known .sig) (patterns z) ++ g .force .ready .rest) (step .here)
+          ∙ ap (λ (z : List ℕ). length L ∷ z) (append-assoc L (lists-for (g .force .known .sig) (patterns (step .later))) (g .force .ready .rest))
 
       list-word : (getD lists from 0 ≡ length L) × (from < length lists) × (drop (from + 1) lists ≡ L ++ later-code)
       list-word = word-at lists from (length L) _ list-there
 
-      near-later : from + 1 + length L + length (lists-for (g .known .sig) (patterns (step .later))) < word-limit
-      near-later = omega (arith, l .near, ap (λ (z : List Rule). length (lists-for (g .known .sig) (patterns z))) (step .here), length-append L (lists-for (g .known .sig) (patterns (step .later))))
+      near-later : from + 1 + length L + length (lists-for (g .force .known .sig) (patterns (step .later))) < word-limit
+      near-later = omega (arith, l .near, ap (λ (z : List Rule). length (lists-for (g .force .known .sig) (patterns z))) (step .here), length-append L (lists-for (g .force .known .sig) (patterns (step .later))))
 
       pub list-le : (from + 1 + getD lists from 0 ≤ length lists) × (from < length lists) × (from + 1 + getD lists from 0 < word-limit)
       list-le = (omega (arith, list-word, length-drop (from + 1) lists, ap length (list-word .2), length-append L later-code), list-word .1, omega (arith, list-word .0, near-later))
 
-      all-are : (l .before ++ (step .rule ∷ [])) ++ step .later ≡ g .rs
+      all-are : (l .before ++ (step .rule ∷ [])) ++ step .later ≡ g .force .rs
       all-are = append-assoc (l .before) (step .rule ∷ []) (step .later) ∙ ap (λ (z : List Rule). l .before ++ z) (sym (step .here)) ∙ sym (l .walked .are)
 
       abbrev named : Row → RuleRow
       named = row-of (step .rule .number) (step .rule .plan)
 
-      fit-here : All (Fit (g .known .sig) t) (map named ws ++ rows-all (g .known .sig) (step .later))
-      fit-here = subst (λ (z : List Rule). All (Fit (g .known .sig) t) (rows-all (g .known .sig) z)) (step .here) (l .fit)
+      fit-here : All (Fit (g .force .known .sig) t) (map named ws ++ rows-all (g .force .known .sig) (step .later))
+      fit-here = subst (λ (z : List Rule). All (Fit (g .force .known .sig) t) (rows-all (g .force .known .sig) z)) (step .here) (l .fit)
 
-      rows-fit : All (λ (w : Row). Fit (g .known .sig) t (named w)) ws
-      rows-fit = each-fit named (Fit (g .known .sig) t) ws (rows-all (g .known .sig) (step .later)) fit-here .0
+      rows-fit : All (λ (w : Row). Fit (g .force .known .sig) t (named w)) ws
+      rows-fit = each-fit named (Fit (g .force .known .sig) t) ws (rows-all (g .force .known .sig) (step .later)) fit-here .0
 
-      rows-le : r + length ws ≤ length (rows-all (g .known .sig) (g .rs))
-      rows-le = omega (arith, l .many, count-last (g .known .sig) (l .before) (step .rule), count-less (g .known .sig) (l .before ++ (step .rule ∷ [])) (step .later), ap (λ (z : List Rule). length (rows-all (g .known .sig) z)) all-are)
+      rows-le : r + length ws ≤ length (rows-all (g .force .known .sig) (g .force .rs))
+      rows-le = omega (arith, l .many, count-last (g .force .known .sig) (l .before) (step .rule), count-less (g .force .known .sig) (l .before ++ (step .rule ∷ [])) (step .later), ap (λ (z : List Rule). length (rows-all (g .force .known .sig) z)) all-are)
 
       pub given : (room' : ℕ) → room' ≡ room → GivenList t lists (from + 1) r room'
       given room' x = record {
-        known = g .known;
+        known = g .force .known;
         ws = ws;
         rest = later-code;
-        code-is = list-word .2 ∙ append-assoc (entries (kinds-of (g .known .sig)) 0 ws) (0 ∷ []) later-code;
+        code-is = list-word .2 ∙ append-assoc (entries (kinds-of (g .force .known .sig)) 0 ws) (0 ∷ []) later-code;
         within = omega (arith, list-word .1);
-        near = omega (arith, near-later, length-append (entries (kinds-of (g .known .sig)) 0 ws) (0 ∷ []));
+        near = omega (arith, near-later, length-append (entries (kinds-of (g .force .known .sig)) 0 ws) (0 ∷ []));
         fit = same-fit (λ w f. record { good = f .good; short = f .short }) rows-fit;
         room-is = omega (arith, rows-le, g .room-is, x);
       }
 
       module _ (room' : ℕ) (x : room' ≡ room) (q : ℕ) (tab′ : List ℕ) (gave : (k : GivenList t lists (from + 1) r room') → ListIndexed (k .known .sig) t lists (k .ws) (getD table here 0) (getD table (here + 1) 0) r q tab tab′) where
-        said : ListIndexed (g .known .sig) t lists ws (getD table here 0) (getD table (here + 1) 0) r q tab tab′
+        said : ListIndexed (g .force .known .sig) t lists ws (getD table here 0) (getD table (here + 1) 0) r q tab tab′
         unfolding given
         said = gave (given room' x)
 
-        mine : (j : ℕ) (d : RuleRow) → getElem? (map named ws) j ≡ some d → Placed (g .known .sig) t lists tab′ (r + j) d
+        mine : (j : ℕ) (d : RuleRow) → getElem? (map named ws) j ≡ some d → Placed (g .force .known .sig) t lists tab′ (r + j) d
         mine j d h =
             let (w, a, b) = at-made named ws j d h in
-            subst (λ (z : RuleRow). Placed (g .known .sig) t lists tab′ (r + j) z) (ap₂ (λ (x y : ℕ). row-of x y w) (step .reads .number-is) (step .reads .plan-is) ∙ b) (said .placed j w a)
+            subst (λ (z : RuleRow). Placed (g .force .known .sig) t lists tab′ (r + j) z) (ap₂ (λ (x y : ℕ). row-of x y w) (step .reads .number-is) (step .reads .plan-is) ∙ b) (said .placed j w a)
 
-        in-all : (k : ℕ) (d : RuleRow) → getElem? (rows-all (g .known .sig) (l .before)) k ≡ some d → getElem? (rows-all (g .known .sig) (g .rs)) k ≡ some d
-        in-all k d h = subst (λ (z : List RuleRow). getElem? z k ≡ some d) (sym (all-append (g .known .sig) (l .before) (l .after)) ∙ ap (rows-all (g .known .sig)) (sym (l .walked .are))) (at-left (rows-all (g .known .sig) (l .before)) (rows-all (g .known .sig) (l .after)) k d h)
+        in-all : (k : ℕ) (d : RuleRow) → getElem? (rows-all (g .force .known .sig) (l .before)) k ≡ some d → getElem? (rows-all (g .force .known .sig) (g .force .rs)) k ≡ some d
+        in-all k d h = subst (λ (z : List RuleRow). getElem? z k ≡ some d) (sym (all-append (g .force .known .sig) (l .before) (l .after)) ∙ ap (rows-all (g .force .known .sig)) (sym (l .walked .are))) (at-left (rows-all (g .force .known .sig) (l .before)) (rows-all (g .force .known .sig) (l .after)) k d h)
 
         pub again : Mid (here + 3 + getD table (here + 2) 0) (from + 1 + getD lists from 0) q (i + 1) tab′
         again = record {
@@ -147,11 +151,11 @@ module _ {t table lists : List ℕ} {room : ℕ} (g : GivenRules t table lists r
           code-is = sym (drop-drop (getD lists from 0) (from + 1) lists) ∙ ap (drop (getD lists from 0)) (list-word .2) ∙ drop-at L later-code (getD lists from 0) (sym (list-word .0));
           within = list-le .0;
           near = omega (arith, near-later, list-word .0);
-          many = omega (arith, said .many, l .many, count-last (g .known .sig) (l .before) (step .rule));
-          fit = each-fit named (Fit (g .known .sig) t) ws (rows-all (g .known .sig) (step .later)) fit-here .1;
-          placed = λ k d h. go k d (at-either (rows-all (g .known .sig) (l .before)) (map named ws) k d (subst (λ (z : List RuleRow). getElem? z k ≡ some d) (all-last (g .known .sig) (l .before) (step .rule)) h));
+          many = omega (arith, said .many, l .many, count-last (g .force .known .sig) (l .before) (step .rule));
+          fit = each-fit named (Fit (g .force .known .sig) t) ws (rows-all (g .force .known .sig) (step .later)) fit-here .1;
+          placed = λ k d h. go k d (at-either (rows-all (g .force .known .sig) (l .before)) (map named ws) k d (subst (λ (z : List RuleRow). getElem? z k ≡ some d) (all-last (g .force .known .sig) (l .before) (step .rule)) h));
         }
           where
-            go : (k : ℕ) (d : RuleRow) → (getElem? (rows-all (g .known .sig) (l .before)) k ≡ some d) ⊎ ((j : ℕ) × (k ≡ length (rows-all (g .known .sig) (l .before)) + j) × (getElem? (map named ws) j ≡ some d)) → Placed (g .known .sig) t lists tab′ k d
-            go k d (inl h) = placed-same (g .known .sig) t lists tab tab′ r k d (all-at (g .fit) k d (in-all k d h) .short) (omega (arith, l .many, at-below (rows-all (g .known .sig) (l .before)) k d h)) (said .kept) (l .placed k d h)
+            go : (k : ℕ) (d : RuleRow) → (getElem? (rows-all (g .force .known .sig) (l .before)) k ≡ some d) ⊎ ((j : ℕ) × (k ≡ length (rows-all (g .force .known .sig) (l .before)) + j) × (getElem? (map named ws) j ≡ some d)) → Placed (g .force .known .sig) t lists tab′ k d
+            go k d (inl h) = placed-same (g .force .known .sig) t lists tab tab′ r k d (all-at (g .fit) k d (in-all k d h) .short) (omega (arith, l .many, at-below (rows-all (g .force .known .sig) (l .before)) k d h)) (said .kept) (l .placed k d h)
             go k d (inr (j, h, m)) = let z : k ≡ r + j = omega (arith, h, l .many) in rw z (mine j d m)

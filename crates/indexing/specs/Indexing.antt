@@ -17,7 +17,7 @@ use Rattle.table.specs.Limits.{limits}
 use Rattle.table.specs.Rule.{Rule}
 use Rattle.store.specs.Laid.{Holds}
 use Rattle.loading.specs.Lists.{rows-for, lists-for}
-use Rattle.loading.specs.Load.{patterns}
+use Rattle.loading.specs.Load.{InForce, patterns}
 
 -- a row of the rule of this number and plan
 abbrev pub row-of : ℕ → ℕ → Row → RuleRow
@@ -49,16 +49,14 @@ pub record ListIndexed (sig : Signature) (t a : List ℕ) (ws : List Row) (numbe
   pub placed : (j : ℕ) (w : Row) → getElem? ws j ≡ some w → Placed sig t a tab′ (r + j) (row-of number plan w)
   pub kept : Before (row-stride * r) tab tab′
 
--- the lists of a table's rules, and room for all rows
+-- rules in force with their lists of rows, and room for all rows
 pub record GivenRules (t table lists : List ℕ) (room : ℕ) : Type 0 where
-  pub known : Known t
-  pub rs : List Rule
-  pub holds : Holds limits table rs
-  pub rest : List ℕ
-  pub code-is : lists ≡ lists-for (known .sig) (patterns rs) ++ rest
-  pub near : length (lists-for (known .sig) (patterns rs)) < word-limit
-  pub fit : All (Fit (known .sig) t) (rows-all (known .sig) rs)
-  pub room-is : row-stride * length (rows-all (known .sig) rs) ≤ room
+  pub used : ℕ
+  pub total : ℕ
+  pub force : InForce t table used total lists
+  pub near : length (lists-for (force .known .sig) (patterns (force .rs))) < word-limit
+  pub fit : All (Fit (force .known .sig) t) (rows-all (force .known .sig) (force .rs))
+  pub room-is : row-stride * length (rows-all (force .known .sig) (force .rs)) ≤ room
 
 -- all rows are in it, so many
 pub record RulesIndexed (sig : Signature) (t lists : List ℕ) (rs : List Rule) (n : ℕ) (tab : List ℕ) : Type 0 where

@@ -3,16 +3,17 @@ use crate::list::index_list;
 use store::layout::LENGTH;
 use store::layout::PLAN;
 use store::layout::RULE_HEAD;
+use store::layout::RULES_AT;
 ghost use lib.ListN.{length};
 ghost use Rattle.indexing.specs.Indexing.{GivenRules, RulesIndexed};
 
 // The table of the rows of all rules, in the order of their table. How many rows.
 pub fn index_rules(t: &[u16], table: &[u16], lists: &[u64], rows: &mut [u16]) -> usize
     requires { ⌜ GivenRules (now t) (now table) (now lists) (length (now rows)) ⌝ }
-    ensures { λ n. ⌜ ((g : GivenRules (now (t .entry)) (now (table .entry)) (now (lists .entry)) (length (now (rows .entry)))) → RulesIndexed (g .known .sig) (now (t .entry)) (now (lists .entry)) (g .rs) n (now (rows .exit))) ⌝ }
+    ensures { λ n. ⌜ ((g : GivenRules (now (t .entry)) (now (table .entry)) (now (lists .entry)) (length (now (rows .entry)))) → RulesIndexed (g .force .known .sig) (now (t .entry)) (now (lists .entry)) (g .force .rs) n (now (rows .exit))) ⌝ }
 {
     let n = table[0];
-    let mut at = 1;
+    let mut at = RULES_AT;
     let mut from = 0;
     let mut r = 0;
     let mut i = 0;

@@ -13,7 +13,7 @@ use Rattle.table.specs.Limits.{limits, table-length}
 use Rattle.table.specs.Rule.{Rule}
 use Rattle.table.specs.Sound.{sound}
 use Rattle.store.specs.Laid.{laid, Holds}
-use Rattle.store.specs.Place.{Walked, Step as Walks}
+use Rattle.store.specs.Place.{Walked, NextRule}
 use Rattle.store.proofs.LaidFacts.{laid-holds, holds-laid, sound-laid, is-stored}
 use Rattle.store.proofs.Walk.{walk-start, walk-step, walk-end}
 use Rattle.loading.specs.Add.{GivenAdd, goes-with, weights, Stepped, lists-room}
@@ -65,7 +65,7 @@ module _ {t table : List ℕ} {n m : ℕ} (g : GivenLoad t table n m) (rs : List
         (rs, tested ∙ (rw z), subst (λ qs. Ready (g .known .sig) qs used total rows) (sym (q .1)) (l .ready))
 
     module _ (e : i < getD table 0 0) where
-      abbrev step : Walks table rs (l .before) (l .after) i at
+      abbrev step : NextRule table rs (l .before) (l .after) i at
       step = walk-step rs (l .before) (l .after) i at h (l .walked) (omega (arith, e, count-is))
 
       pub end-le : at + 3 + getD table (at + 2) 0 ≤ (table-length limits)

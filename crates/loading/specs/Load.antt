@@ -37,6 +37,13 @@ pub record Ready (sig : Signature) (rs : List Rule) (used total : ℕ) (rows : L
   pub total-is : total ≡ total-weight sig rs
   pub small : used ≤ lists-room total (length rs)
 
+-- a sound table under the signature whose table is t, with the rows of its rules first in rows, as `load` and `open` leave them
+pub record InForce (t table : List ℕ) (used total : ℕ) (rows : List ℕ) : Type 0 where
+  pub known : Known t
+  pub rs : List Rule
+  pub is-sound : sound limits (known .sig) table ≡ some rs
+  pub ready : Ready (known .sig) rs used total rows
+
 abbrev pub LoadedAs : Signature → List ℕ → Loaded → List ℕ → Type 0
 LoadedAs sig table Unsound rows = sound limits sig table ≡ none
 LoadedAs sig table (Sound used total) rows = (rs : List Rule) × (sound limits sig table ≡ some rs) × Ready sig rs used total rows

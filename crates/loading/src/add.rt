@@ -2,15 +2,21 @@
 use crate::lists::some_shares;
 use admission::admit::Admission;
 use admission::admit::admit;
+use builder::build::ROW_ROOM;
 use builder::build::build;
+use pattern::limits::PATTERN_WORDS;
+use store::layout::RULES;
 ghost use lib.ListN.{length};
 ghost use Rattle.loading.specs.Add.{GivenPlace, ListPlaced, GivenAdd, Stepped};
 
-// Room for the rows of all rules of a table, and of one pattern more: 193 words for each of the weight of 256, two for each of 64 rules, and what `build` asks.
-pub const ROWS_ROOM: usize = 65985;
-
 // What the rules of a table may weigh in all.
 pub const WEIGHT: u16 = 256;
+
+// Room for the rows of all rules of a table, and of one pattern more: the words of a row for each of the weight, two for each rule, and what `build` asks.
+pub const ROWS_ROOM: usize = WEIGHT as usize * (1 + 3 * PATTERN_WORDS)
+    + 2 * RULES as usize
+    + 1
+    + ROW_ROOM;
 
 // The words used and the weight, with the rule; or that no sound table has it.
 pub enum Step {

@@ -1,7 +1,9 @@
 // Whether a table is sound (refusal 3), and the rows of all its rules.
 use crate::add::Step;
 use crate::add::add;
+use store::layout::LENGTH;
 use store::layout::RULE_HEAD;
+use store::layout::RULES_AT;
 use store::layout::layout;
 ghost use lib.ListN.{length};
 ghost use Rattle.loading.specs.Load.{GivenLoad, LoadedAs};
@@ -20,13 +22,13 @@ pub fn load(t: &[u16], table: &[u16], rows: &mut [u64], work: &mut [u64]) -> Loa
         return Loaded::Unsound;
     }
     let n = table[0];
-    let mut at = 1;
+    let mut at = RULES_AT;
     let mut used = 0;
     let mut total = 0;
     let mut i = 0;
     while i < n {
         let from = at + RULE_HEAD;
-        let end = from + table[at + 2] as usize;
+        let end = from + table[at + LENGTH] as usize;
         let Step::Added(u, w) = add(t, &table[from..end], i, used, total, rows, work) else {
             return Loaded::Unsound;
         };

@@ -15,7 +15,7 @@ use Rattle.loading.specs.Add.{rows-room}
 use Rattle.loading.specs.Load.{GivenLoad, LoadedAs}
 use Rattle.loading.specs.declared.load.Loaded.{Loaded}
 use Rattle.loading.specs.declared.load.Loaded.the-variants.{Sound, Unsound}
-use Rattle.opening.specs.Open.{GivenOpen, InForce}
+use Rattle.opening.specs.Open.{GivenOpen, Started}
 
 pub refused-1 : (ss : List ℕ) (long : Bool) (table : List ℕ) → false ≡ is-some (read-signature ss) → start limits ss long table ≡ refused 1
 refused-1 ss long table e = ap (λ o. on-signature limits o long table) (missing (read-signature ss) e)
@@ -36,7 +36,7 @@ module _ {ss t : List ℕ} (o : Of ss t) (long : Bool) (table : List ℕ) where
       pub refused-3 : r ≡ Unsound → start limits ss long table ≡ refused 3
       refused-3 x = let z = subst (λ y. LoadedAs (o .known .sig) table y rows) x said in rw (o .read, e, z)
 
-      pub begun : (used total : ℕ) → r ≡ Sound used total → InForce ss long table used total t rows
+      pub begun : (used total : ℕ) → r ≡ Sound used total → Started ss long table used total t rows
       begun used total x =
           let z = subst (λ y. LoadedAs (o .known .sig) table y rows) x said in
-          record { known = o .known; rs = z .0; started = ap (λ x. on-signature limits x long table) (o .read) ∙ ap (λ b. cond b (on-sound (o .known .sig) (sound limits (o .known .sig) table)) (refused 2)) e ∙ ap (on-sound (o .known .sig)) (z .1); is-long = e; is-sound = z .1; ready = z .2 }
+          record { force = record { known = o .known; rs = z .0; is-sound = z .1; ready = z .2 }; started = ap (λ x. on-signature limits x long table) (o .read) ∙ ap (λ b. cond b (on-sound (o .known .sig) (sound limits (o .known .sig) table)) (refused 2)) e ∙ ap (on-sound (o .known .sig)) (z .1); is-long = e }

@@ -12,7 +12,7 @@ use Rattle.table.specs.Rule.{Rule}
 use Rattle.table.specs.Sound.{sound}
 use Rattle.builder.specs.Build.{row-room}
 use Rattle.loading.specs.Add.{rows-room}
-use Rattle.loading.specs.Load.{Ready}
+use Rattle.loading.specs.Load.{InForce, Ready}
 use Rattle.opening.specs.declared.open.Opened.{Opened}
 use Rattle.opening.specs.declared.open.Opened.the-variants.{Begun, Refused}
 
@@ -22,15 +22,12 @@ pub record GivenOpen (long : Bool) (table : List ℕ) (l n m : ℕ) : Type 0 whe
   pub room : rows-room ≤ n
   pub work-room : row-room ≤ m
 
--- the rules in force, under the signature whose table is t, with their rows
-pub record InForce (ss : List ℕ) (long : Bool) (table : List ℕ) (used total : ℕ) (t rows : List ℕ) : Type 0 where
-  pub known : Known t
-  pub rs : List Rule
-  pub started : start limits ss long table ≡ begin (known .sig) rs
+-- none of 1 to 3 applies, and these rules are in force
+pub record Started (ss : List ℕ) (long : Bool) (table : List ℕ) (used total : ℕ) (t rows : List ℕ) : Type 0 where
+  pub force : InForce t table used total rows
+  pub started : start limits ss long table ≡ begin (force .known .sig) (force .rs)
   pub is-long : long ≡ true
-  pub is-sound : sound limits (known .sig) table ≡ some rs
-  pub ready : Ready (known .sig) rs used total rows
 
 abbrev pub OpenedAs : List ℕ → Bool → List ℕ → Opened → List ℕ → List ℕ → Type 0
 OpenedAs ss long table (Refused n) t rows = start limits ss long table ≡ refused n
-OpenedAs ss long table (Begun used total) t rows = InForce ss long table used total t rows
+OpenedAs ss long table (Begun used total) t rows = Started ss long table used total t rows

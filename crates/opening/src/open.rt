@@ -2,14 +2,11 @@
 use decoding::decode::decode;
 use loading::load::Loaded;
 use loading::load::load;
+use signature::refusals::SIGNATURE_UNLAWFUL;
+use signature::refusals::TOO_SHORT;
+use signature::refusals::UNSOUND;
 ghost use lib.ListN.{length};
 ghost use Rattle.opening.specs.Open.{GivenOpen, OpenedAs};
-
-pub const SIGNATURE_UNLAWFUL: u16 = 1;
-
-pub const TOO_SHORT: u16 = 2;
-
-pub const UNSOUND: u16 = 3;
 
 // The words used for the rows and the weight of all rules; or the refusal.
 pub enum Opened {

@@ -1,13 +1,12 @@
 // The bindings: variable and place, variables rising, a space between.
 use crate::put;
+use pattern::limits::UNBOUND;
 ghost use Prim.Native.Nat.{_+_, _≤_};
 ghost use lib.Dec.{ltb};
 ghost use lib.ListN.{length};
 ghost use Rattle.pattern.specs.Limits.{variable-count};
 ghost use Rattle.printing.specs.Pairs.{space, piece, pairs-bytes};
 ghost use Rattle.printing.specs.Put.{Put};
-
-pub const UNBOUND: u16 = 65535;
 
 // A space where something stands between the two indexes.
 fn put_space(out: &mut [u8], from: usize, at: usize) -> usize

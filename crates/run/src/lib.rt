@@ -4,14 +4,14 @@ pub mod promises;
 
 use crate::leaf::TREE_BROKEN;
 use crate::leaf::VARIABLES;
-use booking::part::BOOKING_UNLAWFUL;
-use booking::part::SIGNATURE_UNLAWFUL;
 use booking::walk;
 use booking::walk::BOOKING_LIMIT;
 use decoding::decode;
 use nodes::node;
 use nodes::node::Step;
 use signature::decoded;
+use signature::refusals::BOOKING_UNLAWFUL;
+use signature::refusals::SIGNATURE_UNLAWFUL;
 ghost use mathlib.Core.Path.{_≡_};
 ghost use mathlib.Core.List.{[]};
 ghost use lib.ListN.{length};

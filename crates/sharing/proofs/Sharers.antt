@@ -61,40 +61,40 @@ none-any f (s ∷ rs) h = rw (no (f s) (h s in-here), none-any f rs (λ q i. h q
     no false e = refl
 
 module _ {t table rows : List ℕ} {at n : ℕ} (g : GivenSharer t table rows at n) where
-  holds : Holds limits table (g .rs)
-  holds = sound-holds (g .known .sig) table (g .rs) (g .is-sound)
+  holds : Holds limits table (g .force .rs)
+  holds = sound-holds (g .force .known .sig) table (g .force .rs) (g .force .is-sound)
 
   pub sound-long : table-length limits ≤ length table
   sound-long = holds .long
 
-  passed : (r : Rule) → In r (g .rs) → Passed (g .known .sig) (r .pattern)
-  passed = sound-table (g .known .sig) (g .known .signed) table (g .rs) (g .is-sound) .passed
+  passed : (r : Rule) → In r (g .force .rs) → Passed (g .force .known .sig) (r .pattern)
+  passed = sound-table (g .force .known .sig) (g .force .known .signed) table (g .force .rs) (g .force .is-sound) .passed
 
   -- i rules are passed; the next stands at this index, and the list of its rows behind the word at j
   pub record Mid (place j i : ℕ) : Type 0 where
     pub before : List Rule
     pub after : List Rule
-    pub walked : Walked (g .rs) before after i place
-    pub code-is : drop j rows ≡ lists-for (g .known .sig) (patterns after) ++ g .rest
-    pub none : (s : Rule) → In s before → SharesBooking (g .known .sig) (g .ws) (s .pattern) → ⊥
+    pub walked : Walked (g .force .rs) before after i place
+    pub code-is : drop j rows ≡ lists-for (g .force .known .sig) (patterns after) ++ g .force .ready .rest
+    pub none : (s : Rule) → In s before → SharesBooking (g .force .known .sig) (g .ws) (s .pattern) → ⊥
 
   pub start : Mid 1 0 0
-  start = record { before = []; after = g .rs; walked = walk-start (g .rs); code-is = g .code-is; none = λ s i. no-in i }
+  start = record { before = []; after = g .force .rs; walked = walk-start (g .force .rs); code-is = g .force .ready .code-is; none = λ s i. no-in i }
 
   module _ {place j i : ℕ} (l : Mid place j i) where
-    pub finished : getD table 0 0 ≤ i → any (λ s. shares (g .known .sig) (g .ws) (s .pattern)) (g .rs) ≡ false
+    pub finished : getD table 0 0 ≤ i → any (λ s. shares (g .force .known .sig) (g .ws) (s .pattern)) (g .force .rs) ≡ false
     finished e =
         let q = walk-end (l .walked) (omega (arith, e, count-is holds)) in
-        none-any (λ s. shares (g .known .sig) (g .ws) (s .pattern)) (g .rs) (λ s k x. l .none s (subst (In s) (q .1) k) (shares-exists (g .known .sig) (g .known .signed) (g .ws) (s .pattern) x))
+        none-any (λ s. shares (g .force .known .sig) (g .ws) (s .pattern)) (g .force .rs) (λ s k x. l .none s (subst (In s) (q .1) k) (shares-exists (g .force .known .sig) (g .force .known .signed) (g .ws) (s .pattern) x))
 
     module _ (below : i < getD table 0 0) where
-      abbrev step : NextRule table (g .rs) (l .before) (l .after) i place
-      step = walk-step (g .rs) (l .before) (l .after) i place holds (l .walked) (omega (arith, below, count-is holds))
+      abbrev step : NextRule table (g .force .rs) (l .before) (l .after) i place
+      step = walk-step (g .force .rs) (l .before) (l .after) i place holds (l .walked) (omega (arith, below, count-is holds))
 
-      rules-are : g .rs ≡ l .before ++ (step .rule ∷ step .later)
+      rules-are : g .force .rs ≡ l .before ++ (step .rule ∷ step .later)
       rules-are = l .walked .are ∙ ap (λ z. l .before ++ z) (step .here)
 
-      held : In (step .rule) (g .rs)
+      held : In (step .rule) (g .force .rs)
       held = subst (In (step .rule)) (sym rules-are) (in-middle (l .before) (step .rule) (step .later))
 
       pub end-le : place + 3 + getD table (place + 2) 0 ≤ (table-length limits)
@@ -104,35 +104,35 @@ module _ {t table rows : List ℕ} {at n : ℕ} (g : GivenSharer t table rows at
       few = omega (arith, below, count-is holds, holds .few)
 
       rest : List ℕ
-      rest = lists-for (g .known .sig) (patterns (step .later)) ++ g .rest
+      rest = lists-for (g .force .known .sig) (patterns (step .later)) ++ g .force .ready .rest
 
-      words : drop j rows ≡ length (list-for (g .known .sig) (step .rule .pattern)) ∷ (list-for (g .known .sig) (step .rule .pattern) ++ rest)
+      words : drop j rows ≡ length (list-for (g .force .known .sig) (step .rule .pattern)) ∷ (list-for (g .force .known .sig) (step .rule .pattern) ++ rest)
       unfolding rest
-      words = l .code-is ∙ ap (λ z. lists-for (g .known .sig) (patterns z) ++ g .rest) (step .here) ∙ ap (λ z. length (list-for (g .known .sig) (step .rule .pattern)) ∷ z) (append-assoc (list-for (g .known .sig) (step .rule .pattern)) (lists-for (g .known .sig) (patterns (step .later))) (g .rest))
+      words = l .code-is ∙ ap (λ z. lists-for (g .force .known .sig) (patterns z) ++ g .force .ready .rest) (step .here) ∙ ap (λ z. length (list-for (g .force .known .sig) (step .rule .pattern)) ∷ z) (append-assoc (list-for (g .force .known .sig) (step .rule .pattern)) (lists-for (g .force .known .sig) (patterns (step .later))) (g .force .ready .rest))
 
-      first : (getD rows j 0 ≡ length (list-for (g .known .sig) (step .rule .pattern))) × (j < length rows) × (drop (j + 1) rows ≡ list-for (g .known .sig) (step .rule .pattern) ++ rest)
-      first = word-at rows j (length (list-for (g .known .sig) (step .rule .pattern))) (list-for (g .known .sig) (step .rule .pattern) ++ rest) words
+      first : (getD rows j 0 ≡ length (list-for (g .force .known .sig) (step .rule .pattern))) × (j < length rows) × (drop (j + 1) rows ≡ list-for (g .force .known .sig) (step .rule .pattern) ++ rest)
+      first = word-at rows j (length (list-for (g .force .known .sig) (step .rule .pattern))) (list-for (g .force .known .sig) (step .rule .pattern) ++ rest) words
 
       pub there : j + 1 ≤ length rows
       there = omega (arith, first .1)
 
       pub past-le : j + 1 + getD rows j 0 ≤ length rows
-      past-le = omega (arith, first .0, there, length-drop (j + 1) rows, ap length (first .2), length-append (list-for (g .known .sig) (step .rule .pattern)) rest)
+      past-le = omega (arith, first .0, there, length-drop (j + 1) rows, ap length (first .2), length-append (list-for (g .force .known .sig) (step .rule .pattern)) rest)
 
-      list-is : (ws : List ℕ) (p : Pattern) → read-pattern (g .known .sig) ws ≡ some p → list-for (g .known .sig) ws ≡ list-code (kinds-of (g .known .sig)) 0 (rows-plus (g .known .sig) 0 p)
-      list-is ws p e = ap (λ z. list-code (kinds-of (g .known .sig)) 0 (rows-by (g .known .sig) z)) e
+      list-is : (ws : List ℕ) (p : Pattern) → read-pattern (g .force .known .sig) ws ≡ some p → list-for (g .force .known .sig) ws ≡ list-code (kinds-of (g .force .known .sig)) 0 (rows-plus (g .force .known .sig) 0 p)
+      list-is ws p e = ap (λ z. list-code (kinds-of (g .force .known .sig)) 0 (rows-by (g .force .known .sig) z)) e
 
       pub two : TwoPatterns t (from rows at) (from rows (j + 1))
       two =
           let q = passed (step .rule) held in
           record {
-            known = g .known;
+            known = g .force .known;
             us = g .ws;
             ws = step .rule .pattern;
             p = g .p;
             q = q .pat;
-            words-p = pattern-words (g .known .sig) (g .ws) (g .p) (g .read);
-            words-q = pattern-words (g .known .sig) (step .rule .pattern) (q .pat) (q .read);
+            words-p = pattern-words (g .force .known .sig) (g .ws) (g .p) (g .read);
+            words-q = pattern-words (g .force .known .sig) (step .rule .pattern) (q .pat) (q .read);
             restX = g .rest′;
             restY = rest;
             codeX = g .last ∙ ap (λ z. z ++ g .rest′) (list-is (g .ws) (g .p) (g .read));
@@ -141,15 +141,15 @@ module _ {t table rows : List ℕ} {at n : ℕ} (g : GivenSharer t table rows at
 
       -- in a turn the slice is as it was
       module _ (k : ℕ) (o now o′ : List ℕ) (now-is : now ≡ o) (gave : (q : TwoPatterns t (from rows at) (from rows (j + 1))) → Shown (Shared (q .known .sig) (q .p) (q .q)) (λ s. s .words) k now o′) where
-        shown : Shown (SharesBooking (g .known .sig) (g .ws) (step .rule .pattern)) (λ s. s .words) k o o′
+        shown : Shown (SharesBooking (g .force .known .sig) (g .ws) (step .rule .pattern)) (λ s. s .words) k o o′
         unfolding two
-        shown = laws .words-shown (g .known .sig) (g .known .signed) (g .ws) (step .rule .pattern) (two .p) (two .q) (two .words-p) (two .words-q) k o o′ (subst (λ z. Shown (Shared (g .known .sig) (two .p) (two .q)) (λ s. s .words) k z o′) now-is (gave two))
+        shown = laws .words-shown (g .force .known .sig) (g .force .known .signed) (g .ws) (step .rule .pattern) (two .p) (two .q) (two .words-p) (two .words-q) k o o′ (subst (λ z. Shown (Shared (g .force .known .sig) (two .p) (two .q)) (λ s. s .words) k z o′) now-is (gave two))
 
-        pub hit : 0 < k → SharerOf (g .known .sig) (g .rs) (g .ws) o (record { rule = getD table place 0; length = k }) o′
+        pub hit : 0 < k → SharerOf (g .force .known .sig) (g .force .rs) (g .ws) o (record { rule = getD table place 0; length = k }) o′
         hit h =
             let (s, e, w) = shown .one-shared (omega (arith, h)) in
             let x : Entered = record { number = 12; sharer = getD table place 0; shown = k } in
-            let there : Shows (g .known .sig) (g .rs) (g .ws) o x o′ = record {
+            let there : Shows (g .force .known .sig) (g .force .rs) (g .ws) o x o′ = record {
               rule = step .rule;
               held = held;
               named = step .reads .number-is;
@@ -164,7 +164,7 @@ module _ {t table rows : List ℕ} {at n : ℕ} (g : GivenSharer t table rows at
             } in
             record {
               none-shares = λ z. absurd (omega (arith, z, h));
-              one-shares = λ z. (in-any (λ q. shares (g .known .sig) (g .ws) (q .pattern)) (g .rs) (step .rule) held (exists-shares (g .known .sig) (g .known .signed) (g .ws) (step .rule .pattern) s), there);
+              one-shares = λ z. (in-any (λ q. shares (g .force .known .sig) (g .ws) (q .pattern)) (g .force .rs) (step .rule) held (exists-shares (g .force .known .sig) (g .force .known .signed) (g .ws) (step .rule .pattern) s), there);
             }
 
         pub same : k ≤ 0 → o′ ≡ o
@@ -176,9 +176,9 @@ module _ {t table rows : List ℕ} {at n : ℕ} (g : GivenSharer t table rows at
           before = l .before ++ (step .rule ∷ []);
           after = step .later;
           walked = step .next;
-          code-is = sym (drop-drop (getD rows j 0) (j + 1) rows) ∙ ap (drop (getD rows j 0)) (first .2) ∙ drop-at (list-for (g .known .sig) (step .rule .pattern)) rest (getD rows j 0) (sym (first .0));
-          none = λ s q. in-last (l .before) (step .rule) s q (λ r. SharesBooking (g .known .sig) (g .ws) (r .pattern) → ⊥) (shown .none-shared (omega (arith, h)) .0) (l .none);
+          code-is = sym (drop-drop (getD rows j 0) (j + 1) rows) ∙ ap (drop (getD rows j 0)) (first .2) ∙ drop-at (list-for (g .force .known .sig) (step .rule .pattern)) rest (getD rows j 0) (sym (first .0));
+          none = λ s q. in-last (l .before) (step .rule) s q (λ r. SharesBooking (g .force .known .sig) (g .ws) (r .pattern) → ⊥) (shown .none-shared (omega (arith, h)) .0) (l .none);
         }
 
-    pub at-end : (o : List ℕ) (o′ : List ℕ) → o′ ≡ o → getD table 0 0 ≤ i → SharerOf (g .known .sig) (g .rs) (g .ws) o (record { rule = 0; length = 0 }) o′
+    pub at-end : (o : List ℕ) (o′ : List ℕ) → o′ ≡ o → getD table 0 0 ≤ i → SharerOf (g .force .known .sig) (g .force .rs) (g .ws) o (record { rule = 0; length = 0 }) o′
     at-end o o′ e h = record { none-shares = λ z. (finished h, refl, e); one-shares = λ z. absurd (omega (arith, z)) }

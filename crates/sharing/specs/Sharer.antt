@@ -17,22 +17,20 @@ use Rattle.table.specs.Limits.{limits, witness-length}
 use Rattle.table.specs.Rule.{Rule}
 use Rattle.table.specs.Sound.{sound}
 use Rattle.loading.specs.Lists.{list-for, lists-for}
-use Rattle.loading.specs.Load.{patterns}
+use Rattle.loading.specs.Load.{InForce, patterns}
 use Rattle.sharing.specs.declared.first.Sharer.{Sharer}
 
--- a sound table, the lists of its rules' rows first in rows, and the list of a pattern's rows at an index
+-- rules in force, and the list of a pattern's rows at an index
 pub record GivenSharer (t table rows : List ℕ) (at n : ℕ) : Type 0 where
-  pub known : Known t
-  pub rs : List Rule
-  pub is-sound : sound limits (known .sig) table ≡ some rs
-  pub rest : List ℕ
-  pub code-is : rows ≡ lists-for (known .sig) (patterns rs) ++ rest
+  pub used : ℕ
+  pub total : ℕ
+  pub force : InForce t table used total rows
   pub ws : List ℕ
   pub p : Pattern
-  pub read : read-pattern (known .sig) ws ≡ some p
+  pub read : read-pattern (force .known .sig) ws ≡ some p
   pub rest′ : List ℕ
   pub within : at ≤ length rows
-  pub last : from rows at ≡ list-for (known .sig) ws ++ rest′
+  pub last : from rows at ≡ list-for (force .known .sig) ws ++ rest′
   pub room : witness-length ≤ n
 
 -- no rule shares a booking: both are 0, and nothing is written; or the lowest that does, with the booking that is shown

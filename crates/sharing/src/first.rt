@@ -1,6 +1,7 @@
 // A pattern against the rules of a table, in the order of their numbers.
 use store::layout::LENGTH;
 use store::layout::RULE_HEAD;
+use store::layout::RULES_AT;
 use witness::lists::witness;
 ghost use lib.ListN.{length};
 ghost use Rattle.sharing.specs.Sharer.{GivenSharer, SharerOf};
@@ -14,10 +15,10 @@ pub struct Sharer {
 // The rules' lists of rows stand first in rows, the pattern's begins at an index. The booking goes first into out.
 pub fn first_sharer(t: &[u16], table: &[u16], rows: &[u64], at: usize, out: &mut [u16]) -> Sharer
     requires { ⌜ GivenSharer (now t) (now table) (now rows) at (length (now out)) ⌝ }
-    ensures { λ r. ⌜ ((g : GivenSharer (now (t .entry)) (now (table .entry)) (now (rows .entry)) at (length (now (out .entry)))) → SharerOf (g .known .sig) (g .rs) (g .ws) (now (out .entry)) r (now (out .exit))) ⌝ }
+    ensures { λ r. ⌜ ((g : GivenSharer (now (t .entry)) (now (table .entry)) (now (rows .entry)) at (length (now (out .entry)))) → SharerOf (g .force .known .sig) (g .force .rs) (g .ws) (now (out .entry)) r (now (out .exit))) ⌝ }
 {
     let n = table[0];
-    let mut place = 1;
+    let mut place = RULES_AT;
     let mut from = 0;
     let mut i = 0;
     while i < n {

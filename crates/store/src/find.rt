@@ -1,7 +1,7 @@
 // Where rules stand in a table.
 use crate::layout::LENGTH;
-use crate::layout::RULES_AT;
 use crate::layout::RULE_HEAD;
+use crate::layout::RULES_AT;
 ghost use mathlib.Core.Path.{_≡_};
 ghost use mathlib.Core.List.{List};
 ghost use lib.ListN.{length};

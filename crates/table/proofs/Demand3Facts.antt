@@ -16,10 +16,11 @@ use Rattle.signature.proofs.ListFacts.{drop-exact}
 use Rattle.signature.proofs.Tests.{pass, lt-of-not, ltb-no}
 use Rattle.tree.specs.Limits.{tree-limit, default-plan}
 use Rattle.table.specs.Calls.{long-table, start, begin, Entered, Enter, Empty, too-large, Compile, CompileFrom}
-use Rattle.table.specs.Demand3.{AfterList, Alike, Demand3, Earlier, SharesHeld, UnderOne}
+use Rattle.table.specs.Demand3.{AfterList, Alike, Demand3, Earlier, UnderOne}
 use Rattle.table.specs.Limits.{limits, table-length}
 use Rattle.table.specs.ListsOfCalls.{ListCall, numbers-reckoned, rules-left, Calls}
 use Rattle.table.specs.Matrix.{tree-words}
+use Rattle.table.specs.Refusals.{SharesHeld}
 use Rattle.table.specs.Rule.{Rule, table-words, stored, SameRules}
 use Rattle.table.specs.Sound.{sound, SoundTable}
 use Rattle.table.proofs.Outcomes.{calls-outcome, unlawful-calls}

@@ -1,4 +1,6 @@
 pub mod Outcomes
+pub mod ByRelation
+pub mod Demand1Facts
 pub mod Demand2Facts
 pub mod Demand3Facts
 pub mod Reckoning

@@ -25,10 +25,10 @@ use Rattle.row.proofs.Symmetric.{shares-sym}
 use Rattle.tree.specs.Limits.{last-number}
 use Rattle.table.specs.Calls.{long-witness, long-table, start, begin, enter-start, refused, Entered, Enter, enter-number, enter-table, Withdraw, withdraw-number, withdraw-table}
 use Rattle.row.proofs.PassedFacts.{passed-of, of-passed}
-use Rattle.table.specs.Demand3.{Earlier, SharesHeld}
+use Rattle.table.specs.Demand3.{Earlier}
 use Rattle.table.specs.Limits.{limits, table-length, rule-length, witness-length}
 use Rattle.table.specs.ListsOfCalls.{ListCall, reckon-number, enter, withdraw, numbers-reckoned, reckon-rules, rules-left, Calls, no-call, then-enter, then-withdraw}
-use Rattle.table.specs.Refusals.{entry-refusal, withdrawal-refusal}
+use Rattle.table.specs.Refusals.{entry-refusal, withdrawal-refusal, SharesHeld}
 use Rattle.table.specs.Rule.{Rule, held, total-weight, rises-nil, table-words, rules-words, stored, Rises, rises-cons, add-rule, take-out}
 use Rattle.table.proofs.TableFacts.{Valid, valid-entry, admitted, valid-withdrawal, words-few, sound-stored, stored-again}
 

@@ -6,13 +6,12 @@ use mathlib.Core.Option.{none, some}
 use mathlib.Core.Bool.{false}
 use Prim.Native.Nat.{ℕ, _≤_, _<_, _+_}
 use lib.ListN.{length, take, drop}
-use Rattle.signature.specs.Lists.{In, All}
+use Rattle.signature.specs.Lists.{All}
 use Rattle.signature.specs.Read.{read-booking, read-signature}
 use Rattle.signature.specs.Signature.{Signature}
 use Rattle.signature.specs.Value.{Value}
 use Rattle.pattern.specs.Weight.{weight}
 use Rattle.row.specs.Admitted.{Passed}
-use Rattle.row.specs.Overlap.{SharesBooking}
 use Rattle.tree.specs.Answer.{Answer}
 use Rattle.tree.specs.Limits.{last-number, tree-limit, default-plan}
 use Rattle.tree.specs.RunCall.{RunCall}
@@ -21,6 +20,7 @@ use Rattle.table.specs.Decide.{Answered}
 use Rattle.table.specs.Limits.{Limits, limits, table-length, witness-length}
 use Rattle.table.specs.ListsOfCalls.{ListCall, numbers-reckoned, rules-left, Calls}
 use Rattle.table.specs.Matrix.{tree-words}
+use Rattle.table.specs.Refusals.{SharesHeld}
 use Rattle.table.specs.Rule.{Rule, held, total-weight, SameRules}
 use Rattle.table.specs.Sound.{SoundTable}
 
@@ -33,12 +33,6 @@ pub record Earlier (l : Limits) (sig : Signature) (n : ℕ) (ws witness : List �
   pub good : Passed sig ws
   pub room : length rs < l .rules
   pub light : weight sig ws + total-weight sig rs ≤ l .weight
-
--- some lawful booking is taken by the pattern and by a rule in force
-pub record SharesHeld (sig : Signature) (ws : List ℕ) (rs : List Rule) : Type 0 where
-  pub rule : Rule
-  pub held : In rule rs
-  pub shared : SharesBooking sig ws (rule .pattern)
 
 -- what a list of calls gives and leaves, begun at a table that holds the rules rs; left are the rules that it leaves
 pub record AfterList (ss : List ℕ) (sig : Signature) (table : List ℕ) (rs : List Rule) (cs : List ListCall) (ns last : List ℕ) (left : List Rule) : Type 0 where

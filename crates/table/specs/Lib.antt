@@ -9,5 +9,6 @@ pub mod Rule
 pub mod Sound
 pub mod Cases
 pub mod CaseT
+pub mod Demand1
 pub mod Demand2
 pub mod Laws

@@ -4,11 +4,11 @@ use mathlib.Core.Bool.{cond, not, _&&_, _||_}
 use Prim.Native.Nat.{ℕ, _+_}
 use lib.Dec.{leb, eqb, ltb}
 use lib.ListN.{length}
-use Rattle.signature.specs.Lists.{any}
+use Rattle.signature.specs.Lists.{any, In}
 use Rattle.signature.specs.Signature.{Signature}
 use Rattle.pattern.specs.Weight.{weight}
 use Rattle.row.specs.Admitted.{refusal-of-pattern}
-use Rattle.row.specs.Overlap.{shares}
+use Rattle.row.specs.Overlap.{shares, SharesBooking}
 use Rattle.tree.specs.Limits.{last-number}
 use Rattle.table.specs.Limits.{Limits}
 use Rattle.table.specs.Rule.{Rule, held, total-weight}
@@ -24,6 +24,12 @@ module _ (l : Limits) where
       cond (not (eqb q 0)) q
       (cond (leb (l .rules) (length rs) || ltb (l .weight) (weight sig ws + total-weight sig rs)) 11
       (cond (any (λ r. shares sig ws (r .pattern)) rs) 12 0))))
+
+-- 12: some lawful booking is taken by the pattern and by a rule in force
+pub record SharesHeld (sig : Signature) (ws : List ℕ) (rs : List Rule) : Type 0 where
+  pub rule : Rule
+  pub held : In rule rs
+  pub shared : SharesBooking sig ws (rule .pattern)
 
 -- 12: "the lowest such number"
 abbrev pub sharer : Signature → List ℕ → List Rule → ℕ

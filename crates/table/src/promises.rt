@@ -1,11 +1,16 @@
-// What holds of the definitions before any code: functions that do nothing, whose contracts are the laws, demands 2 and 3, and Case T.
+// What holds of the definitions before any code: functions that do nothing, whose contracts are the laws, the three demands, and Case T.
 ghost use Rattle.table.specs.CaseT.{CaseT};
+ghost use Rattle.table.specs.Demand1.{Demand1};
 ghost use Rattle.table.specs.Demand2.{Demand2};
 ghost use Rattle.table.specs.Demand3.{Demand3};
 ghost use Rattle.table.specs.Laws.{Laws};
 
 pub fn laws()
     ensures { λ _. ⌜ Laws ⌝ }
+{}
+
+pub fn demand_1()
+    ensures { λ _. ⌜ Demand1 ⌝ }
 {}
 
 pub fn demand_2()

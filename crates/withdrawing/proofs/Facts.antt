@@ -18,44 +18,44 @@ use Rattle.store.specs.Place.{FoundAt, HeldAt, FreeAt}
 use Rattle.store.specs.declared.find.Found.{Found}
 use Rattle.store.specs.declared.find.Found.the-variants.{Held, Free}
 use Rattle.store.proofs.LaidFacts.{sound-holds}
-use Rattle.opening.specs.Open.{OpenedAs, InForce}
+use Rattle.opening.specs.Open.{OpenedAs, Started}
 use Rattle.opening.specs.declared.open.Opened.{Opened}
 use Rattle.opening.specs.declared.open.Opened.the-variants.{Begun, Refused}
-use Rattle.withdrawing.specs.Withdraw.{InTable, withdrawn}
+use Rattle.withdrawing.specs.Withdraw.{withdrawn}
 
 -- a refusal leaves the table
 stays : (n k : ℕ) (rs : List Rule) (table : List ℕ) → withdrawal-refusal n rs ≡ k → eqb k 0 ≡ false → (k ≡ withdrawal-refusal n rs) × (table ≡ withdrawn n rs table)
 stays n k rs table e h = (sym e, sym (ap (λ z. cond (eqb z 0) (stored limits (take-out n rs) table) table) e ∙ ap (λ b. cond b (stored limits (take-out n rs) table) table) h))
 
-module _ {table : List ℕ} (g : InTable table) (n : ℕ) where
-  pub zero-4 : n ≡ 0 → (4 ≡ withdrawal-refusal n (g .rs)) × (table ≡ withdrawn n (g .rs) table)
-  zero-4 e = stays n 4 (g .rs) table (ap (λ z. withdrawal-refusal z (g .rs)) e) refl
+module _ {table : List ℕ} (g : (rs : List Rule) × Holds limits table rs) (n : ℕ) where
+  pub zero-4 : n ≡ 0 → (4 ≡ withdrawal-refusal n (g .0)) × (table ≡ withdrawn n (g .0) table)
+  zero-4 e = stays n 4 (g .0) table (ap (λ z. withdrawal-refusal z (g .0)) e) refl
 
-  pub over-4 : last-number < n → (4 ≡ withdrawal-refusal n (g .rs)) × (table ≡ withdrawn n (g .rs) table)
-  over-4 l = stays n 4 (g .rs) table (rw (leb-yes 1 n (omega arith), leb-no n last-number l)) refl
+  pub over-4 : last-number < n → (4 ≡ withdrawal-refusal n (g .0)) × (table ≡ withdrawn n (g .0) table)
+  over-4 l = stays n 4 (g .0) table (rw (leb-yes 1 n (omega arith), leb-no n last-number l)) refl
 
   module _ (low : (n ≡ 0 → ⊥)) (high : n ≤ last-number) where
-    refusal-is : withdrawal-refusal n (g .rs) ≡ cond (not (held n (g .rs))) 6 0
+    refusal-is : withdrawal-refusal n (g .0) ≡ cond (not (held n (g .0))) 6 0
     refusal-is = rw (leb-yes 1 n (omega (arith, low)), leb-yes n last-number high)
 
     module _ (f : Found) (gave : (rs : List Rule) → Holds limits table rs → FoundAt n rs f) where
-      pub not-held-6 : (at : ℕ) → f ≡ Free at → (6 ≡ withdrawal-refusal n (g .rs)) × (table ≡ withdrawn n (g .rs) table)
+      pub not-held-6 : (at : ℕ) → f ≡ Free at → (6 ≡ withdrawal-refusal n (g .0)) × (table ≡ withdrawn n (g .0) table)
       not-held-6 at e =
-          let q : FreeAt n (g .rs) at = subst (FoundAt n (g .rs)) e (gave (g .rs) (g .holds)) in
-          stays n 6 (g .rs) table (refusal-is ∙ ap (λ b. cond (not b) 6 0) (q .not-held)) refl
+          let q : FreeAt n (g .0) at = subst (FoundAt n (g .0)) e (gave (g .0) (g .1)) in
+          stays n 6 (g .0) table (refusal-is ∙ ap (λ b. cond (not b) 6 0) (q .not-held)) refl
 
       module _ (at : ℕ) (e : f ≡ Held at) where
-        found : HeldAt n (g .rs) at
-        found = subst (FoundAt n (g .rs)) e (gave (g .rs) (g .holds))
+        found : HeldAt n (g .0) at
+        found = subst (FoundAt n (g .0)) e (gave (g .0) (g .1))
 
         pub take-given : GivenTake table at
-        take-given = record { rs = g .rs; holds = g .holds; number = n; held = found }
+        take-given = record { rs = g .0; holds = g .1; number = n; held = found }
 
-        pub taken-0 : (after : List ℕ) → ((q : GivenTake table at) → after ≡ stored limits (take-out (q .number) (q .rs)) table) → (0 ≡ withdrawal-refusal n (g .rs)) × (after ≡ withdrawn n (g .rs) table)
+        pub taken-0 : (after : List ℕ) → ((q : GivenTake table at) → after ≡ stored limits (take-out (q .number) (q .rs)) table) → (0 ≡ withdrawal-refusal n (g .0)) × (after ≡ withdrawn n (g .0) table)
         unfolding take-given
         taken-0 after t =
-            let z : withdrawal-refusal n (g .rs) ≡ 0 = refusal-is ∙ ap (λ b. cond (not b) 6 0) (found .is-held) in
-            (sym z, t take-given ∙ sym (ap (λ k. cond (eqb k 0) (stored limits (take-out n (g .rs)) table) table) z))
+            let z : withdrawal-refusal n (g .0) ≡ 0 = refusal-is ∙ ap (λ b. cond (not b) 6 0) (found .is-held) in
+            (sym z, t take-given ∙ sym (ap (λ k. cond (eqb k 0) (stored limits (take-out n (g .0)) table) table) z))
 
 module _ (ss table t rows : List ℕ) (n : ℕ) (o : Opened) (open-so : OpenedAs ss (long-table limits table) table o t rows) where
   pub turned-down : (k : ℕ) → o ≡ Refused k → Withdraw limits ss n table k table
@@ -64,14 +64,14 @@ module _ (ss table t rows : List ℕ) (n : ℕ) (o : Opened) (open-so : OpenedAs
       record { number-is = sym (ap (λ x. withdraw-number x n) z); table-is = sym (ap (λ x. withdraw-table limits x n table) z) }
 
   module _ (used total : ℕ) (e : o ≡ Begun used total) where
-    force : InForce ss (long-table limits table) table used total t rows
-    force = subst (λ x. OpenedAs ss (long-table limits table) table x t rows) e open-so
+    begun : Started ss (long-table limits table) table used total t rows
+    begun = subst (λ x. OpenedAs ss (long-table limits table) table x t rows) e open-so
 
-    pub in-table : InTable table
-    in-table = record { rs = force .rs; holds = sound-holds (force .known .sig) table (force .rs) (force .is-sound) }
+    pub in-table : (rs : List Rule) × Holds limits table rs
+    in-table = (begun .force .rs, sound-holds (begun .force .known .sig) table (begun .force .rs) (begun .force .is-sound))
 
-    pub withdrawn-so : (r : ℕ) (after : List ℕ) → ((g : InTable table) → (r ≡ withdrawal-refusal n (g .rs)) × (after ≡ withdrawn n (g .rs) table)) → Withdraw limits ss n table r after
+    pub withdrawn-so : (r : ℕ) (after : List ℕ) → ((g : (rs : List Rule) × Holds limits table rs) → (r ≡ withdrawal-refusal n (g .0)) × (after ≡ withdrawn n (g .0) table)) → Withdraw limits ss n table r after
     unfolding in-table
     withdrawn-so r after f =
         let q = f in-table in
-        record { number-is = q .0 ∙ sym (ap (λ x. withdraw-number x n) (force .started)); table-is = q .1 ∙ sym (ap (λ x. withdraw-table limits x n table) (force .started)) }
+        record { number-is = q .0 ∙ sym (ap (λ x. withdraw-number x n) (begun .started)); table-is = q .1 ∙ sym (ap (λ x. withdraw-table limits x n table) (begun .started)) }

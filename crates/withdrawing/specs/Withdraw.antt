@@ -6,11 +6,6 @@ use lib.Dec.{eqb}
 use Rattle.table.specs.Limits.{limits}
 use Rattle.table.specs.Refusals.{withdrawal-refusal}
 use Rattle.table.specs.Rule.{Rule, stored, take-out}
-use Rattle.store.specs.Laid.{Holds}
-
-pub record InTable (table : List ℕ) : Type 0 where
-  pub rs : List Rule
-  pub holds : Holds limits table rs
 
 -- the table afterwards: on a refusal it stays
 abbrev pub withdrawn : ℕ → List Rule → List ℕ → List ℕ

@@ -4,12 +4,15 @@ use loading::add::ROWS_ROOM;
 use opening::open::Opened;
 use opening::open::open;
 use signature::decoded::DECODED;
+use signature::refusals::NOT_HELD;
+use signature::refusals::NUMBER_OUTSIDE;
 use store::change::take_out;
 use store::find::Found;
 use store::find::find;
-use store::layout::LAST_NUMBER;
 use store::layout::TABLE;
+use tree::words::LAST_NUMBER;
 ghost use mathlib.Core.Path.{_≡_};
+ghost use mathlib.Core.List.{List};
 ghost use Prim.Native.Nat.{_≤_};
 ghost use lib.ListN.{length};
 ghost use Rattle.signature.specs.Decoded.{decoded-length};
@@ -18,16 +21,14 @@ ghost use Rattle.loading.specs.Add.{rows-room};
 ghost use Rattle.table.specs.Limits.{limits};
 ghost use Rattle.table.specs.Calls.{Withdraw};
 ghost use Rattle.table.specs.Refusals.{withdrawal-refusal};
-ghost use Rattle.withdrawing.specs.Withdraw.{InTable, withdrawn};
-
-pub const NUMBER_OUTSIDE: u16 = 4;
-
-pub const NOT_HELD: u16 = 6;
+ghost use Rattle.table.specs.Rule.{Rule};
+ghost use Rattle.store.specs.Laid.{Holds};
+ghost use Rattle.withdrawing.specs.Withdraw.{withdrawn};
 
 // A rule taken out of a sound table.
 fn withdraw_from(table: &mut [u16], number: u16) -> u16
-    requires { ⌜ InTable (now table) ⌝ }
-    ensures { λ r. ⌜ ((g : InTable (now (table .entry))) → (r ≡ withdrawal-refusal number (g .rs)) × (now (table .exit) ≡ withdrawn number (g .rs) (now (table .entry)))) ⌝ }
+    requires { ⌜ ((rs : List Rule) × Holds limits (now table) rs) ⌝ }
+    ensures { λ r. ⌜ ((g : (rs : List Rule) × Holds limits (now (table .entry)) rs) → (r ≡ withdrawal-refusal number (g .0)) × (now (table .exit) ≡ withdrawn number (g .0) (now (table .entry)))) ⌝ }
 {
     if number == 0 {
         return NUMBER_OUTSIDE;

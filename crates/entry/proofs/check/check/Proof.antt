@@ -11,7 +11,7 @@ pub check-spec : {M : Type 1} → statement M
 check-spec =
     tie.close
     (tie.spec
-    (λ c κs. (c .before .before .before .before .before .pre .rs, holds (c .before .before .before .before .before .pre)))
+    (λ c κs. (c .before .before .before .before .before .pre .force .rs, holds (c .before .before .before .before .before .pre)))
     (λ c. search needs)
     (λ c. search needs)
     (λ c. omega (arith, le (c .before .before .before .before .before .before .before .before .before .pre), c .before .before .before .before .before .before .before .before .before .good))
