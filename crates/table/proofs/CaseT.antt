@@ -3,11 +3,11 @@ use mathlib.Core.Path.{_≡_, refl, ap, sym, subst, _∙_}
 use mathlib.Core.Logic.{_⊎_, inl, inr}
 use mathlib.Core.List.{List, [], _∷_, _++_}
 use mathlib.Core.Option.{some}
-use mathlib.Core.Bool.{true, false, cond}
+use mathlib.Core.Bool.{true, false, cond, _||_}
 use Prim.Native.Nat.{ℕ, _≤_}
 use native.Mathlib.Omega.{arith}
-use lib.Dec.{eqb}
-use lib.ListN.{length, drop}
+use lib.Dec.{eqb, ltb}
+use lib.ListN.{length, drop, drop-of-length-le}
 use Rattle.signature.specs.Cases.{T, words-T}
 use Rattle.signature.specs.Lawful.{OfKind}
 use Rattle.signature.specs.Lists.{In, in-here}
@@ -22,17 +22,19 @@ use Rattle.pattern.specs.Read.{read-pattern}
 use Rattle.pattern.specs.Takes.{Takes}
 use Rattle.pattern.proofs.Exclusive.{exclusive}
 use Rattle.row.proofs.Exists.{shares-exists}
+use Rattle.tree.specs.Cases.{tree-T}
 use Rattle.tree.specs.Limits.{last-number}
-use Rattle.table.specs.Calls.{Entered, Enter, Shows, long-witness}
-use Rattle.table.specs.CaseT.{CaseT}
-use Rattle.table.specs.Cases.{rules-T}
+use Rattle.table.specs.Calls.{Entered, Empty, Enter, Compile, CompileFrom, TreeIn, Shows, long-witness, too-large}
+use Rattle.table.specs.CaseT.{CaseT, IntoEmpty}
+use Rattle.table.specs.Cases.{rules-T, ors-8-8, ors-5-13}
 use Rattle.table.specs.Limits.{limits, witness-length}
 use Rattle.table.specs.ListsOfCalls.{enter, reckon-number, reckon-rules, changed}
+use Rattle.table.specs.Refusals.{entry-refusal}
 use Rattle.table.specs.Rule.{held, stored, table-words}
 use Rattle.table.proofs.Cases.{cases}
-use Rattle.table.proofs.Reckoning.{step-enter, entry-start}
-use Rattle.table.proofs.SoundFacts.{sound-valid}
-use Rattle.table.proofs.TableFacts.{Valid}
+use Rattle.table.proofs.Reckoning.{step-enter, entry-start, valid-nil, emptied-is}
+use Rattle.table.proofs.SoundFacts.{sound-valid, sound-start}
+use Rattle.table.proofs.TableFacts.{Valid, sound-stored}
 
 abbrev entered : List ℕ
 entered = 0 ∷ 258 ∷ 4 ∷ []
@@ -84,5 +86,44 @@ entry-T n plan lent witness after witness′ e low high free l h =
 never : (bs : List ℕ) (σ : Binds) → Takes T (260 ∷ 261 ∷ []) bs σ → ⊥
 never bs σ (p, v, e, b, f) = exclusive (neg (var 0)) (fits-of (260 ∷ 261 ∷ []) bs (neg (var 0)) v refl b (p, v, e, b, f)) (fails-not fits-var)
 
+-- a sound table with T's rules compiles into TreeIn of T's tree
+tree-of : (lent space space′ : List ℕ) (number len : ℕ) → Compile limits words-T (stored limits rules-T lent) space number len space′ → TreeIn tree-T space number len space′
+tree-of lent space space′ number len k = subst (λ t. TreeIn t space number len space′) (cases .tree) (subst (λ s. CompileFrom s space number len space′) (sound-start words-T T refl (stored limits rules-T lent) rules-T (sound-stored T rules-T lent valid-T)) (k .result-is))
+
+in-37 : (lent space space′ : List ℕ) (number len : ℕ) → length space ≡ 37 → Compile limits words-T (stored limits rules-T lent) space number len space′ → (number ≡ 0) × (len ≡ 37) × (space′ ≡ tree-T)
+in-37 lent space space′ number len l k =
+    let r = tree-of lent space space′ number len k in
+    let fits : too-large tree-T space ≡ false = ap (λ n. ltb n 37 || false) l in
+    (r .number-is ∙ ap (λ b. cond b 14 0) fits, r .length-is ∙ ap (λ b. cond b 0 37) fits, r .space-is ∙ ap (λ b. cond b space (tree-T ++ drop 37 space)) fits ∙ ap (λ z. tree-T ++ z) (drop-of-length-le space {i = 37} (omega (arith, l))))
+
+in-36 : (lent space space′ : List ℕ) (number len : ℕ) → length space ≡ 36 → Compile limits words-T (stored limits rules-T lent) space number len space′ → (number ≡ 14) × (len ≡ 0) × (space′ ≡ space)
+in-36 lent space space′ number len l k =
+    let r = tree-of lent space space′ number len k in
+    let large : too-large tree-T space ≡ true = ap (λ n. ltb n 37 || false) l in
+    (r .number-is ∙ ap (λ b. cond b 14 0) large, r .length-is ∙ ap (λ b. cond b 0 37) large, r .space-is ∙ ap (λ b. cond b space (tree-T ++ drop 37 space)) large)
+
+-- the number does not matter where it is lawful
+into-empty : (ws : List ℕ) (k : ℕ) → entry-refusal limits T 1 ws [] ≡ k → IntoEmpty ws k
+into-empty ws k c n plan lent emptied witness after witness′ e low high l h x =
+    let q = step-enter words-T T refl [] lent (valid-nil T) (subst (λ z. Enter limits words-T n plan ws z witness e after witness′) (emptied-is lent emptied h) x) .0 in
+    let m : reckon-number limits T (enter n plan ws witness) [] ≡ entry-refusal limits T 1 ws [] = rw (leb-yes witness-length (length witness) l, leb-yes 1 n low, leb-yes n last-number high) in
+    q ∙ m ∙ c
+
 pub case-t : CaseT
-case-t = record { computed = cases; entry = entry-T; takes-all = λ bs v b. (neg (neg (var 0)), v, refl, b, fits-not (fails-not fits-var)); takes-none = never }
+case-t = record {
+  computed = cases;
+  tree-in-37 = in-37;
+  tree-in-36 = in-36;
+  entry = entry-T;
+  not-not = into-empty (260 ∷ 260 ∷ 261 ∷ []) 0 (cases .not-not-admitted);
+  takes-all = λ bs v b. (neg (neg (var 0)), v, refl, b, fits-not (fails-not fits-var));
+  not-variable = into-empty (260 ∷ 261 ∷ []) 0 (cases .not-variable-admitted);
+  takes-none = never;
+  or-twice = into-empty (257 ∷ 261 ∷ 261 ∷ []) 10 (cases .or-twice);
+  and-twice = into-empty (256 ∷ 261 ∷ 261 ∷ []) 8 (cases .and-twice);
+  or-unequal = into-empty (257 ∷ 261 ∷ 258 ∷ []) 8 (cases .or-unequal);
+  not-con = into-empty (260 ∷ 0 ∷ 261 ∷ 258 ∷ []) 0 (cases .not-con);
+  not-con-not = into-empty (260 ∷ 0 ∷ 260 ∷ 261 ∷ 258 ∷ []) 8 (cases .not-con-not);
+  wildcards-64 = into-empty ors-8-8 0 (cases .admitted-64);
+  wildcards-65 = into-empty ors-5-13 9 (cases .refused-65);
+}

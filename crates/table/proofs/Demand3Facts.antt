@@ -24,7 +24,7 @@ use Rattle.table.specs.Refusals.{SharesHeld}
 use Rattle.table.specs.Rule.{Rule, table-words, stored, SameRules}
 use Rattle.table.specs.Sound.{sound, SoundTable}
 use Rattle.table.proofs.Outcomes.{calls-outcome, unlawful-calls}
-use Rattle.table.proofs.Reckoning.{numbers-not-3, valid-nil, valid-left, length-table, rises-same, step-enter, chain, twelve-of, of-twelve}
+use Rattle.table.proofs.Reckoning.{emptied-is, numbers-not-3, valid-nil, valid-left, length-table, rises-same, step-enter, chain, twelve-of, of-twelve}
 use Rattle.table.proofs.SameTrees.{sound-same-tree}
 use Rattle.table.proofs.SoundFacts.{sound-valid, sound-table, table-sound, table-stored, sound-start, sound-runs, sound-decides}
 use Rattle.table.proofs.TableFacts.{Valid, sound-stored}
@@ -84,14 +84,9 @@ module _ (ss : List ℕ) (sig : Signature) (lawful : read-signature ss ≡ some 
   }
 
   emptied-sound : (lent emptied : List ℕ) → Empty limits lent 0 emptied → SoundTable limits sig emptied [] × (drop (table-length limits) emptied ≡ drop (table-length limits) lent)
-  emptied-sound lent emptied h = (sound-table sig (ss, lawful) emptied [] (ap (sound limits sig) is ∙ sound-stored sig [] lent (valid-nil sig)), ap (drop (table-length limits)) is ∙ drop-exact (table-length limits) (table-words limits []) (drop (table-length limits) lent) (length-table sig [] (valid-nil sig)))
-    where
-      go : (b : Bool) → long-table limits lent ≡ b → emptied ≡ stored limits [] lent
-      go true q = h .table-is ∙ ap (λ b. cond b (stored limits [] lent) lent) q
-      go false q = absurd (let z : _≡_ {A = ℕ} 0 2 = h .number-is ∙ ap (λ b. cond b 0 2) q in omega arith)
-
-      is : emptied ≡ stored limits [] lent
-      is = go (long-table limits lent) refl
+  emptied-sound lent emptied h =
+      let is = emptied-is lent emptied h in
+      (sound-table sig (ss, lawful) emptied [] (ap (sound limits sig) is ∙ sound-stored sig [] lent (valid-nil sig)), ap (drop (table-length limits)) is ∙ drop-exact (table-length limits) (table-words limits []) (drop (table-length limits) lent) (length-table sig [] (valid-nil sig)))
 
   -- 12, at any sound table
   overlap : (table : List ℕ) (rs : List Rule) → SoundTable limits sig table rs → (n plan : ℕ) (ws witness after witness′ : List ℕ) (e : Entered) → Enter limits ss n plan ws table witness e after witness′ → ((e .number ≡ 12) ↔ (Earlier limits sig n ws witness rs × SharesHeld sig ws rs))

@@ -23,7 +23,7 @@ use Rattle.row.specs.Overlap.{ambiguous-plus, shares}
 use Rattle.row.proofs.Exists.{shares-exists, exists-shares}
 use Rattle.row.proofs.Symmetric.{shares-sym}
 use Rattle.tree.specs.Limits.{last-number}
-use Rattle.table.specs.Calls.{long-witness, long-table, start, begin, enter-start, refused, Entered, Enter, enter-number, enter-table, Withdraw, withdraw-number, withdraw-table}
+use Rattle.table.specs.Calls.{Empty, long-witness, long-table, start, begin, enter-start, refused, Entered, Enter, enter-number, enter-table, Withdraw, withdraw-number, withdraw-table}
 use Rattle.row.proofs.PassedFacts.{passed-of, of-passed}
 use Rattle.table.specs.Demand3.{Earlier}
 use Rattle.table.specs.Limits.{limits, table-length, rule-length, witness-length}
@@ -95,6 +95,14 @@ module _ (sig : Signature) where
 
   pub long-stored : (rs : List Rule) (t : List ℕ) → Valid sig rs → long-table limits (stored limits rs t) ≡ true
   long-stored rs t v = leb-yes (table-length limits) (length (stored limits rs t)) (omega (arith, length-append (table-words limits rs) (drop (table-length limits) t), length-table rs v))
+
+-- a table just emptied
+pub emptied-is : (lent emptied : List ℕ) → Empty limits lent 0 emptied → emptied ≡ stored limits [] lent
+emptied-is lent emptied h = go (long-table limits lent) refl
+  where
+    go : (b : Bool) → long-table limits lent ≡ b → emptied ≡ stored limits [] lent
+    go true q = h .table-is ∙ ap (λ b. cond b (stored limits [] lent) lent) q
+    go false q = absurd (let z : _≡_ {A = ℕ} 0 2 = h .number-is ∙ ap (λ b. cond b 0 2) q in omega arith)
 
 -- rising rules with the same members are the same list
 pub in-above : {m : ℕ} {rs : List Rule} (r : Rule) → Rises m rs → In r rs → m < r .number
