@@ -35,6 +35,6 @@ laws = record {
   places = λ p v i σ l f. places-of σ (once-fits p l f);
   places-only = places-only;
   one-list = λ sig k p v i σ τ l n h f g. same-places σ τ unbound (once-fits p l f) (once-fits p l g) (same-fits sig p l n h f g);
-  light = light-is-each;
-  heavy = heavy-is-some;
+  light = λ sig k p w. light-is-each sig p w;
+  heavy = λ sig k p w. heavy-is-some sig p w;
 }

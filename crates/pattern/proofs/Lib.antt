@@ -1,3 +1,4 @@
+pub mod AmbiguousParts
 pub mod Cases
 pub mod Decided
 pub mod Exclusive

@@ -12,13 +12,15 @@ use Rattle.signature.specs.Value.{Value, Values}
 use Rattle.signature.proofs.Booleans.{or-assoc, Imp, imp-or, one-in, and-right, and-left}
 use Rattle.signature.proofs.Members.{memb-append, imp-append-left, imp-append-right, not-bound-in, empty-left, empty-right, no-either}
 use Rattle.signature.proofs.Tests.{true≢false, eqb-no}
-use Rattle.pattern.specs.Ambiguous.{Ambiguous, here-or, AmbiguousMinus, here-and, in-not, in-and-left, in-and-right, in-or-left, in-or-right, in-head, in-not′, in-or-left′, in-or-right′, in-and-left′, in-and-right′, Ambiguouses, in-first, in-rest}
+use Rattle.pattern.specs.Ambiguous.{an-or, an-and}
 use Rattle.pattern.specs.Limits.{variable-count}
 use Rattle.pattern.specs.Linear.{E, O, E-all, O-all, all-minus, linear-minus, linear-plus, all-plus}
 use Rattle.pattern.specs.Match.{Binds, Fits, fits-var, fits-wild, fits-not, fits-and, fits-left, fits-right, fits-con, Fails, fails-absurd, fails-not, fails-left, fails-right, fails-or, fails-head, fails-arg, AllFit, all-nil, all-cons, SomeFails, some-here, some-there}
 use Rattle.pattern.specs.Pattern.{Pattern, var, wild, neg, and, or, head, absurd-pat, Patterns, pnil, pcons}
 use Rattle.pattern.specs.Places.{binds, Same}
 use Rattle.pattern.specs.WellFormed.{WellFormed, well-var, well-not, well-and, well-or, well-head, AllWellFormed, well-cons}
+use Rattle.pattern.specs.Side.{plus, minus}
+use Rattle.pattern.proofs.AmbiguousParts.{AmbiguousAt, AmbiguousIn, here, under-not, left-of-and, right-of-and, left-of-or, right-of-or, under-head, as-first, as-later}
 
 pub binds-append : (x j : ℕ) (σ τ : Binds) → binds x j (σ ++ τ) ≡ (binds x j σ || binds x j τ)
 binds-append x j [] τ = refl
@@ -60,19 +62,19 @@ same-append σ τ σ′ τ′ f g x j = binds-append x j σ τ ∙ ap₂ _||_ (f
 
 module _ (sig : Signature) where
   -- two sides of which both can hold bind nothing
-  clash-or : (p q : Pattern) {k i : ℕ} {v : Value} {σ τ : Binds} → (Ambiguous sig k (or p q) → ⊥) → OfKind sig k v → Fits p v i σ → Fits q v i τ → Same σ τ
+  clash-or : (p q : Pattern) {k i : ℕ} {v : Value} {σ τ : Binds} → (AmbiguousAt sig plus k (or p q) → ⊥) → OfKind sig k v → Fits p v i σ → Fits q v i τ → Same σ τ
   clash-or p q {k} {i} {v} {σ} {τ} n h f g x j = go (is-empty (E p ++ E q)) refl
     where
       go : (b : Bool) → is-empty (E p ++ E q) ≡ b → binds x j σ ≡ binds x j τ
       go true e = not-bound-in x (E p) (binds x j σ) (empty-left (E p) (E q) e) (fit-in-E p f x j) ∙ sym (not-bound-in x (E q) (binds x j τ) (empty-right (E p) (E q) e) (fit-in-E q g x j))
-      go false e = absurd (n (here-or e h f g))
+      go false e = absurd (n (here (an-or e h f g)))
 
-  clash-and : (p q : Pattern) {k i : ℕ} {v : Value} {σ τ : Binds} → (AmbiguousMinus sig k (and p q) → ⊥) → OfKind sig k v → Fails p v i σ → Fails q v i τ → Same σ τ
+  clash-and : (p q : Pattern) {k i : ℕ} {v : Value} {σ τ : Binds} → (AmbiguousAt sig minus k (and p q) → ⊥) → OfKind sig k v → Fails p v i σ → Fails q v i τ → Same σ τ
   clash-and p q {k} {i} {v} {σ} {τ} n h f g x j = go (is-empty (O p ++ O q)) refl
     where
       go : (b : Bool) → is-empty (O p ++ O q) ≡ b → binds x j σ ≡ binds x j τ
       go true e = not-bound-in x (O p) (binds x j σ) (empty-left (O p) (O q) e) (fail-in-O p f x j) ∙ sym (not-bound-in x (O q) (binds x j τ) (empty-right (O p) (O q) e) (fail-in-O q g x j))
-      go false e = absurd (n (here-and e h f g))
+      go false e = absurd (n (here (an-and e h f g)))
 
 -- arguments of a minus constructor bind nothing
 pub minus-empty : (ps : Patterns) → all-minus ps ≡ true → is-empty (O-all ps) ≡ true
@@ -85,27 +87,27 @@ minus-empty (pcons p ps) e = go (O p) (and-right (linear-minus p && all-minus ps
 
 module _ (sig : Signature) where
   mutual
-    pub same-fits : {k : ℕ} (p : Pattern) {v : Value} {i : ℕ} {σ τ : Binds} → linear-plus p ≡ true → (Ambiguous sig k p → ⊥) → OfKind sig k v → Fits p v i σ → Fits p v i τ → Same σ τ
+    pub same-fits : {k : ℕ} (p : Pattern) {v : Value} {i : ℕ} {σ τ : Binds} → linear-plus p ≡ true → (AmbiguousAt sig plus k p → ⊥) → OfKind sig k v → Fits p v i σ → Fits p v i τ → Same σ τ
     same-fits (var y) l n h fits-var fits-var = λ x j. refl
     same-fits wild l n h fits-wild fits-wild = λ x j. refl
-    same-fits (neg p) l n h (fits-not f) (fits-not g) = same-fails p l (λ a. n (in-not a)) h f g
+    same-fits (neg p) l n h (fits-not f) (fits-not g) = same-fails p l (λ a. n (under-not a)) h f g
     same-fits (and p q) l n h (fits-and {σ = σ} {τ = τ} f f′) (fits-and {σ = σ′} {τ = τ′} g g′) =
         let a : (linear-plus p && linear-plus q) ≡ true = and-left (linear-plus p && linear-plus q) _ l in
-        same-append σ τ σ′ τ′ (same-fits p (and-left (linear-plus p) (linear-plus q) a) (λ c. n (in-and-left c)) h f g) (same-fits q (and-right (linear-plus p) (linear-plus q) a) (λ c. n (in-and-right c)) h f′ g′)
-    same-fits (or p q) l n h (fits-left f) (fits-left g) = same-fits p (and-left (linear-plus p) (linear-plus q) (and-left (linear-plus p && linear-plus q) _ l)) (λ c. n (in-or-left c)) h f g
-    same-fits (or p q) l n h (fits-right f) (fits-right g) = same-fits q (and-right (linear-plus p) (linear-plus q) (and-left (linear-plus p && linear-plus q) _ l)) (λ c. n (in-or-right c)) h f g
+        same-append σ τ σ′ τ′ (same-fits p (and-left (linear-plus p) (linear-plus q) a) (λ c. n (left-of-and c)) h f g) (same-fits q (and-right (linear-plus p) (linear-plus q) a) (λ c. n (right-of-and c)) h f′ g′)
+    same-fits (or p q) l n h (fits-left f) (fits-left g) = same-fits p (and-left (linear-plus p) (linear-plus q) (and-left (linear-plus p && linear-plus q) _ l)) (λ c. n (left-of-or c)) h f g
+    same-fits (or p q) l n h (fits-right f) (fits-right g) = same-fits q (and-right (linear-plus p) (linear-plus q) (and-left (linear-plus p && linear-plus q) _ l)) (λ c. n (right-of-or c)) h f g
     same-fits (or p q) l n h (fits-left f) (fits-right g) = clash-or sig p q n h f g
     same-fits (or p q) l n h (fits-right f) (fits-left g) = λ x j. sym (clash-or sig p q n h g f x j)
-    same-fits {k} (head c ps) l n (of-kind e h) (fits-con a f) (fits-con b g) = same-all ps l (λ z. n (in-head (rw a e) z)) h f g
+    same-fits {k} (head c ps) l n (of-kind e h) (fits-con a f) (fits-con b g) = same-all ps l (λ z. n (under-head (rw a e) z)) h f g
 
-    pub same-fails : {k : ℕ} (p : Pattern) {v : Value} {i : ℕ} {σ τ : Binds} → linear-minus p ≡ true → (AmbiguousMinus sig k p → ⊥) → OfKind sig k v → Fails p v i σ → Fails p v i τ → Same σ τ
+    pub same-fails : {k : ℕ} (p : Pattern) {v : Value} {i : ℕ} {σ τ : Binds} → linear-minus p ≡ true → (AmbiguousAt sig minus k p → ⊥) → OfKind sig k v → Fails p v i σ → Fails p v i τ → Same σ τ
     same-fails absurd-pat l n h fails-absurd fails-absurd = λ x j. refl
-    same-fails (neg p) l n h (fails-not f) (fails-not g) = same-fits p l (λ a. n (in-not′ a)) h f g
+    same-fails (neg p) l n h (fails-not f) (fails-not g) = same-fits p l (λ a. n (under-not a)) h f g
     same-fails (or p q) l n h (fails-or {σ = σ} {τ = τ} f f′) (fails-or {σ = σ′} {τ = τ′} g g′) =
         let a : (linear-minus p && linear-minus q) ≡ true = and-left (linear-minus p && linear-minus q) _ l in
-        same-append σ τ σ′ τ′ (same-fails p (and-left (linear-minus p) (linear-minus q) a) (λ c. n (in-or-left′ c)) h f g) (same-fails q (and-right (linear-minus p) (linear-minus q) a) (λ c. n (in-or-right′ c)) h f′ g′)
-    same-fails (and p q) l n h (fails-left f) (fails-left g) = same-fails p (and-left (linear-minus p) (linear-minus q) (and-left (linear-minus p && linear-minus q) _ l)) (λ c. n (in-and-left′ c)) h f g
-    same-fails (and p q) l n h (fails-right f) (fails-right g) = same-fails q (and-right (linear-minus p) (linear-minus q) (and-left (linear-minus p && linear-minus q) _ l)) (λ c. n (in-and-right′ c)) h f g
+        same-append σ τ σ′ τ′ (same-fails p (and-left (linear-minus p) (linear-minus q) a) (λ c. n (left-of-or c)) h f g) (same-fails q (and-right (linear-minus p) (linear-minus q) a) (λ c. n (right-of-or c)) h f′ g′)
+    same-fails (and p q) l n h (fails-left f) (fails-left g) = same-fails p (and-left (linear-minus p) (linear-minus q) (and-left (linear-minus p && linear-minus q) _ l)) (λ c. n (left-of-and c)) h f g
+    same-fails (and p q) l n h (fails-right f) (fails-right g) = same-fails q (and-right (linear-minus p) (linear-minus q) (and-left (linear-minus p && linear-minus q) _ l)) (λ c. n (right-of-and c)) h f g
     same-fails (and p q) l n h (fails-left f) (fails-right g) = clash-and sig p q n h f g
     same-fails (and p q) l n h (fails-right f) (fails-left g) = λ x j. sym (clash-and sig p q n h g f x j)
     same-fails (head c ps) l n h (fails-head a) (fails-head b) = λ x j. refl
@@ -113,11 +115,11 @@ module _ (sig : Signature) where
     same-fails (head c ps) l n h (fails-arg a f) (fails-head b) = absurd (b a)
     same-fails (head c ps) l n h (fails-arg {σ = σ} a f) (fails-arg {σ = τ} b g) = λ x j. not-bound-in x (O-all ps) (binds x j σ) (minus-empty ps l) (some-in-O ps f x j) ∙ sym (not-bound-in x (O-all ps) (binds x j τ) (minus-empty ps l) (some-in-O ps g x j))
 
-    same-all : {ks : List ℕ} (ps : Patterns) {vs : Values} {i : ℕ} {σ τ : Binds} → all-plus ps ≡ true → (Ambiguouses sig ks ps → ⊥) → OfKinds sig ks vs → AllFit ps vs i σ → AllFit ps vs i τ → Same σ τ
+    same-all : {ks : List ℕ} (ps : Patterns) {vs : Values} {i : ℕ} {σ τ : Binds} → all-plus ps ≡ true → (AmbiguousIn sig plus ks ps → ⊥) → OfKinds sig ks vs → AllFit ps vs i σ → AllFit ps vs i τ → Same σ τ
     same-all pnil l n h all-nil all-nil = λ x j. refl
     same-all (pcons p ps) l n (of-kinds-cons h h′) (all-cons {σ = σ} {τ = τ} f f′) (all-cons {σ = σ′} {τ = τ′} g g′) =
         let a : (linear-plus p && all-plus ps) ≡ true = and-left (linear-plus p && all-plus ps) _ l in
-        same-append σ τ σ′ τ′ (same-fits p (and-left (linear-plus p) (all-plus ps) a) (λ c. n (in-first c)) h f g) (same-all ps (and-right (linear-plus p) (all-plus ps) a) (λ c. n (in-rest c)) h′ f′ g′)
+        same-append σ τ σ′ τ′ (same-fits p (and-left (linear-plus p) (all-plus ps) a) (λ c. n (as-first c)) h f g) (same-all ps (and-right (linear-plus p) (all-plus ps) a) (λ c. n (as-later c)) h′ f′ g′)
 
 module _ (sig : Signature) where
   mutual

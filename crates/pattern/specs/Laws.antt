@@ -4,7 +4,7 @@ use mathlib.Core.Logic.{_⊎_, _↔_}
 use mathlib.Core.List.{List, _++_}
 use mathlib.Core.Option.{some}
 use mathlib.Core.Bool.{true, false}
-use Prim.Native.Nat.{ℕ, _≤_, _<_}
+use Prim.Native.Nat.{ℕ, _≤_}
 use Rattle.signature.specs.Lawful.{OfKind}
 use Rattle.signature.specs.Lists.{memb}
 use Rattle.signature.specs.Signature.{Signature}
@@ -17,7 +17,7 @@ use Rattle.pattern.specs.Match.{Binds, Fits, Fails}
 use Rattle.pattern.specs.Pattern.{Pattern, pattern-code, pattern-depth}
 use Rattle.pattern.specs.Places.{Same, PlacesOf, bind-all, unbound, times, tick}
 use Rattle.pattern.specs.Read.{read-one, read-pattern}
-use Rattle.pattern.specs.Side.{Side, plus, Stands, weight-at}
+use Rattle.pattern.specs.Side.{Side, plus, Stands, TooHeavy, weight-at}
 use Rattle.pattern.specs.Weight.{light-plus}
 use Rattle.pattern.specs.WellFormed.{WellFormed, PatternWords}
 
@@ -43,5 +43,5 @@ pub record Laws : Type 0 where
   pub places-only : (σ : Binds) (ps qs : List ℕ) → PlacesOf σ ps → PlacesOf σ qs → ps ≡ qs
   pub one-list : (sig : Signature) (k : ℕ) (p : Pattern) (v : Value) (i : ℕ) (σ τ : Binds) → linear-plus p ≡ true → (Ambiguous sig k p → ⊥) → OfKind sig k v → Fits p v i σ → Fits p v i τ → bind-all σ unbound ≡ bind-all τ unbound
   -- 9: "Each part, at the side on which it stands, weighs at most 64", and some part does not
-  pub light : (p : Pattern) → ((light-plus p ≡ true) ↔ ((r : Side) (q : Pattern) → Stands plus p r q → weight-at r q ≤ part-weight-limit))
-  pub heavy : (p : Pattern) → ((light-plus p ≡ false) ↔ ((r : Side) × (q : Pattern) × Stands plus p r q × (part-weight-limit < weight-at r q)))
+  pub light : (sig : Signature) (k : ℕ) (p : Pattern) → WellFormed sig k p → ((light-plus p ≡ true) ↔ ((r : Side) (j : ℕ) (q : Pattern) → Stands sig plus k p r j q → weight-at r q ≤ part-weight-limit))
+  pub heavy : (sig : Signature) (k : ℕ) (p : Pattern) → WellFormed sig k p → ((light-plus p ≡ false) ↔ TooHeavy sig k p)

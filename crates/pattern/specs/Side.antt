@@ -1,6 +1,11 @@
--- The side on which a part stands.
+-- 01, Patterns: the parts of a pattern, each with its kind and the side on which it stands.
+use mathlib.Core.Path.{_≡_}
+use mathlib.Core.List.{List, _∷_}
+use mathlib.Core.Option.{some}
 use mathlib.Core.Bool.{Bool}
-use Prim.Native.Nat.{ℕ}
+use Prim.Native.Nat.{ℕ, _<_}
+use Rattle.signature.specs.Signature.{arguments-at, Signature}
+use Rattle.pattern.specs.Limits.{part-weight-limit}
 use Rattle.pattern.specs.Pattern.{Pattern, Patterns, head, and, or, neg, pcons}
 use Rattle.pattern.specs.Weight.{weight-plus, weight-minus, light-plus, light-minus, light-all-plus, light-all-minus}
 
@@ -24,17 +29,22 @@ abbrev pub light-all : Side → Patterns → Bool
 light-all plus ps = light-all-plus ps
 light-all minus ps = light-all-minus ps
 
--- 01, Patterns: in the part p at side s, the part q stands at side r
-mutual
-  pub data Stands : Side → Pattern → Side → Pattern → Type 0 where
-    itself : {s : Side} {p : Pattern} → Stands s p s p
-    in-not : {s r : Side} {p q : Pattern} → Stands (other s) p r q → Stands s (neg p) r q
-    in-and-left : {s r : Side} {p p′ q : Pattern} → Stands s p r q → Stands s (and p p′) r q
-    in-and-right : {s r : Side} {p p′ q : Pattern} → Stands s p′ r q → Stands s (and p p′) r q
-    in-or-left : {s r : Side} {p p′ q : Pattern} → Stands s p r q → Stands s (or p p′) r q
-    in-or-right : {s r : Side} {p p′ q : Pattern} → Stands s p′ r q → Stands s (or p p′) r q
-    in-head : {s r : Side} {c : ℕ} {ps : Patterns} {q : Pattern} → StandsIn s ps r q → Stands s (head c ps) r q
+module _ (sig : Signature) where
+  -- the parts of a pattern: in the part p of kind k at side s stands the part q, of kind j at side r
+  mutual
+    pub data Stands : Side → ℕ → Pattern → Side → ℕ → Pattern → Type 0 where
+      itself : {s : Side} {k : ℕ} {p : Pattern} → Stands s k p s k p
+      in-not : {s r : Side} {k j : ℕ} {p q : Pattern} → Stands (other s) k p r j q → Stands s k (neg p) r j q
+      in-and-left : {s r : Side} {k j : ℕ} {p p′ q : Pattern} → Stands s k p r j q → Stands s k (and p p′) r j q
+      in-and-right : {s r : Side} {k j : ℕ} {p p′ q : Pattern} → Stands s k p′ r j q → Stands s k (and p p′) r j q
+      in-or-left : {s r : Side} {k j : ℕ} {p p′ q : Pattern} → Stands s k p r j q → Stands s k (or p p′) r j q
+      in-or-right : {s r : Side} {k j : ℕ} {p p′ q : Pattern} → Stands s k p′ r j q → Stands s k (or p p′) r j q
+      in-head : {s r : Side} {k j c : ℕ} {ks : List ℕ} {ps : Patterns} {q : Pattern} → arguments-at sig k c ≡ some ks → StandsIn s ks ps r j q → Stands s k (head c ps) r j q
 
-  pub data StandsIn : Side → Patterns → Side → Pattern → Type 0 where
-    in-first : {s r : Side} {p q : Pattern} {ps : Patterns} → Stands s p r q → StandsIn s (pcons p ps) r q
-    in-rest : {s r : Side} {p q : Pattern} {ps : Patterns} → StandsIn s ps r q → StandsIn s (pcons p ps) r q
+    pub data StandsIn : Side → List ℕ → Patterns → Side → ℕ → Pattern → Type 0 where
+      in-first : {s r : Side} {k j : ℕ} {ks : List ℕ} {p q : Pattern} {ps : Patterns} → Stands s k p r j q → StandsIn s (k ∷ ks) (pcons p ps) r j q
+      in-rest : {s r : Side} {k j : ℕ} {ks : List ℕ} {p q : Pattern} {ps : Patterns} → StandsIn s ks ps r j q → StandsIn s (k ∷ ks) (pcons p ps) r j q
+
+  -- 9: "Some part weighs over 64", at the side on which it stands
+  abbrev pub TooHeavy : ℕ → Pattern → Type 0
+  TooHeavy k p = (r : Side) × (j : ℕ) × (q : Pattern) × Stands plus k p r j q × (part-weight-limit < weight-at r q)

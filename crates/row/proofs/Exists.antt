@@ -18,7 +18,9 @@ use Rattle.signature.proofs.LawfulFacts.{args-small, few, SigFacts, small-0, si
 use Rattle.signature.proofs.ListFacts.{all-somes}
 use Rattle.signature.proofs.Tests.{true≢false, some-inj}
 use Rattle.signature.proofs.Values.{length-code, lawful-booking, booking-lawful}
-use Rattle.pattern.specs.Ambiguous.{Ambiguous, in-not, in-and-left, in-and-right, here-or, in-or-left, in-or-right, in-head, AmbiguousMinus, in-not′, in-or-left′, in-or-right′, here-and, in-and-left′, in-and-right′, in-head′, Ambiguouses, in-first, in-rest, AmbiguousesMinus, in-first′, in-rest′}
+use Rattle.pattern.specs.Ambiguous.{Ambiguous, AmbiguousPart, an-or, an-and}
+use Rattle.pattern.specs.Side.{Side, plus, minus, Stands, StandsIn, itself, in-not, in-and-left, in-and-right, in-or-left, in-or-right, in-head, in-first, in-rest}
+use Rattle.pattern.proofs.AmbiguousParts.{AmbiguousAt, AmbiguousIn, here, under-not, left-of-and, right-of-and, left-of-or, right-of-or, under-head, as-first, as-later}
 use Rattle.pattern.specs.Decide.{is-fit, decide}
 use Rattle.pattern.specs.Limits.{pattern-limit}
 use Rattle.pattern.specs.Linear.{E, O}
@@ -79,105 +81,114 @@ module _ (sig : Signature) where
 
     -- (b) ambiguous: existence and decision
     mutual
-      pub ambiguous-exists : (p : Pattern) {k : ℕ} → Small sig k → WellFormed sig k p → ambiguous-plus sig k p ≡ true → Ambiguous sig k p
+      pub ambiguous-exists : (p : Pattern) {k : ℕ} → Small sig k → WellFormed sig k p → ambiguous-plus sig k p ≡ true → AmbiguousAt sig plus k p
       ambiguous-exists (var x) m s e = true≢false (sym e)
       ambiguous-exists wild m s e = true≢false (sym e)
       ambiguous-exists absurd-pat m s e = true≢false (sym e)
-      ambiguous-exists (neg p) m (well-not s) e = in-not (ambiguous-exists′ p m s e)
+      ambiguous-exists (neg p) m (well-not s) e = under-not (ambiguous-exists′ p m s e)
       ambiguous-exists (and p q) {k} m (well-and s t) e = go (either (ambiguous-plus sig k p) (ambiguous-plus sig k q) e) (λ y. ambiguous-exists p m s y) (λ y. ambiguous-exists q m t y)
         where
-          go : (ambiguous-plus sig k p ≡ true) ⊎ (ambiguous-plus sig k q ≡ true) → (ambiguous-plus sig k p ≡ true → Ambiguous sig k p) → (ambiguous-plus sig k q ≡ true → Ambiguous sig k q) → Ambiguous sig k (and p q)
-          go (inl a) f g = in-and-left (f a)
-          go (inr a) f g = in-and-right (g a)
+          go : (ambiguous-plus sig k p ≡ true) ⊎ (ambiguous-plus sig k q ≡ true) → (ambiguous-plus sig k p ≡ true → AmbiguousAt sig plus k p) → (ambiguous-plus sig k q ≡ true → AmbiguousAt sig plus k q) → AmbiguousAt sig plus k (and p q)
+          go (inl a) f g = left-of-and (f a)
+          go (inr a) f g = right-of-and (g a)
       ambiguous-exists (or p q) {k} m (well-or s t) e = go (either ((not (is-empty (E (or p q))) && overlap sig k p q) || ambiguous-plus sig k p) (ambiguous-plus sig k q) e) (λ y. ambiguous-exists p m s y) (λ y. ambiguous-exists q m t y)
         where
-          here : (not (is-empty (E (or p q))) && overlap sig k p q) ≡ true → Ambiguous sig k (or p q)
-          here a =
+          found : (not (is-empty (E (or p q))) && overlap sig k p q) ≡ true → AmbiguousAt sig plus k (or p q)
+          found a =
               let (v, h, f, g, l, d) = overlap-shared sig (args-small sig facts) (few sig facts) p q m s t (and-right (not (is-empty (E (or p q)))) (overlap sig k p q) a) in
               let (σ, f′) = decide-fits sig p 0 s h f in
               let (τ, g′) = decide-fits sig q 0 t h g in
-              here-or (not-true (is-empty (E (or p q))) (and-left (not (is-empty (E (or p q)))) (overlap sig k p q) a)) h f′ g′
+              here (an-or (not-true (is-empty (E (or p q))) (and-left (not (is-empty (E (or p q)))) (overlap sig k p q) a)) h f′ g′)
 
-          go₂ : ((not (is-empty (E (or p q))) && overlap sig k p q) ≡ true) ⊎ (ambiguous-plus sig k p ≡ true) → (ambiguous-plus sig k p ≡ true → Ambiguous sig k p) → Ambiguous sig k (or p q)
-          go₂ (inl a) f = here a
-          go₂ (inr a) f = in-or-left (f a)
+          go₂ : ((not (is-empty (E (or p q))) && overlap sig k p q) ≡ true) ⊎ (ambiguous-plus sig k p ≡ true) → (ambiguous-plus sig k p ≡ true → AmbiguousAt sig plus k p) → AmbiguousAt sig plus k (or p q)
+          go₂ (inl a) f = found a
+          go₂ (inr a) f = left-of-or (f a)
 
-          go : (((not (is-empty (E (or p q))) && overlap sig k p q) || ambiguous-plus sig k p) ≡ true) ⊎ (ambiguous-plus sig k q ≡ true) → (ambiguous-plus sig k p ≡ true → Ambiguous sig k p) → (ambiguous-plus sig k q ≡ true → Ambiguous sig k q) → Ambiguous sig k (or p q)
+          go : (((not (is-empty (E (or p q))) && overlap sig k p q) || ambiguous-plus sig k p) ≡ true) ⊎ (ambiguous-plus sig k q ≡ true) → (ambiguous-plus sig k p ≡ true → AmbiguousAt sig plus k p) → (ambiguous-plus sig k q ≡ true → AmbiguousAt sig plus k q) → AmbiguousAt sig plus k (or p q)
           go (inl a) f g = go₂ (either (not (is-empty (E (or p q))) && overlap sig k p q) (ambiguous-plus sig k p) a) f
-          go (inr a) f g = in-or-right (g a)
-      ambiguous-exists (head c ps) {k} m (well-head {ks = ks} l a s) e = in-head a (ambiguous-exists-all ps (args-small sig facts k c ks a) s (ap (λ js. any-plus sig js ps) (sym (args-same sig k c ks a)) ∙ e))
+          go (inr a) f g = right-of-or (g a)
+      ambiguous-exists (head c ps) {k} m (well-head {ks = ks} l a s) e = under-head a (ambiguous-exists-all ps (args-small sig facts k c ks a) s (ap (λ js. any-plus sig js ps) (sym (args-same sig k c ks a)) ∙ e))
 
-      pub ambiguous-exists′ : (p : Pattern) {k : ℕ} → Small sig k → WellFormed sig k p → ambiguous-minus sig k p ≡ true → AmbiguousMinus sig k p
+      pub ambiguous-exists′ : (p : Pattern) {k : ℕ} → Small sig k → WellFormed sig k p → ambiguous-minus sig k p ≡ true → AmbiguousAt sig minus k p
       ambiguous-exists′ (var x) m s e = true≢false (sym e)
       ambiguous-exists′ wild m s e = true≢false (sym e)
       ambiguous-exists′ absurd-pat m s e = true≢false (sym e)
-      ambiguous-exists′ (neg p) m (well-not s) e = in-not′ (ambiguous-exists p m s e)
+      ambiguous-exists′ (neg p) m (well-not s) e = under-not (ambiguous-exists p m s e)
       ambiguous-exists′ (or p q) {k} m (well-or s t) e = go (either (ambiguous-minus sig k p) (ambiguous-minus sig k q) e) (λ y. ambiguous-exists′ p m s y) (λ y. ambiguous-exists′ q m t y)
         where
-          go : (ambiguous-minus sig k p ≡ true) ⊎ (ambiguous-minus sig k q ≡ true) → (ambiguous-minus sig k p ≡ true → AmbiguousMinus sig k p) → (ambiguous-minus sig k q ≡ true → AmbiguousMinus sig k q) → AmbiguousMinus sig k (or p q)
-          go (inl a) f g = in-or-left′ (f a)
-          go (inr a) f g = in-or-right′ (g a)
+          go : (ambiguous-minus sig k p ≡ true) ⊎ (ambiguous-minus sig k q ≡ true) → (ambiguous-minus sig k p ≡ true → AmbiguousAt sig minus k p) → (ambiguous-minus sig k q ≡ true → AmbiguousAt sig minus k q) → AmbiguousAt sig minus k (or p q)
+          go (inl a) f g = left-of-or (f a)
+          go (inr a) f g = right-of-or (g a)
       ambiguous-exists′ (and p q) {k} m (well-and s t) e = go (either ((not (is-empty (O (and p q))) && overlap-minus sig k p q) || ambiguous-minus sig k p) (ambiguous-minus sig k q) e) (λ y. ambiguous-exists′ p m s y) (λ y. ambiguous-exists′ q m t y)
         where
-          here : (not (is-empty (O (and p q))) && overlap-minus sig k p q) ≡ true → AmbiguousMinus sig k (and p q)
-          here a =
+          found : (not (is-empty (O (and p q))) && overlap-minus sig k p q) ≡ true → AmbiguousAt sig minus k (and p q)
+          found a =
               let (v, h, f, g) = overlap-fails p q m s t (and-right (not (is-empty (O (and p q)))) (overlap-minus sig k p q) a) in
               let (σ, f′) = decide-fails sig p 0 s h f in
               let (τ, g′) = decide-fails sig q 0 t h g in
-              here-and (not-true (is-empty (O (and p q))) (and-left (not (is-empty (O (and p q)))) (overlap-minus sig k p q) a)) h f′ g′
+              here (an-and (not-true (is-empty (O (and p q))) (and-left (not (is-empty (O (and p q)))) (overlap-minus sig k p q) a)) h f′ g′)
 
-          go₂ : ((not (is-empty (O (and p q))) && overlap-minus sig k p q) ≡ true) ⊎ (ambiguous-minus sig k p ≡ true) → (ambiguous-minus sig k p ≡ true → AmbiguousMinus sig k p) → AmbiguousMinus sig k (and p q)
-          go₂ (inl a) f = here a
-          go₂ (inr a) f = in-and-left′ (f a)
+          go₂ : ((not (is-empty (O (and p q))) && overlap-minus sig k p q) ≡ true) ⊎ (ambiguous-minus sig k p ≡ true) → (ambiguous-minus sig k p ≡ true → AmbiguousAt sig minus k p) → AmbiguousAt sig minus k (and p q)
+          go₂ (inl a) f = found a
+          go₂ (inr a) f = left-of-and (f a)
 
-          go : (((not (is-empty (O (and p q))) && overlap-minus sig k p q) || ambiguous-minus sig k p) ≡ true) ⊎ (ambiguous-minus sig k q ≡ true) → (ambiguous-minus sig k p ≡ true → AmbiguousMinus sig k p) → (ambiguous-minus sig k q ≡ true → AmbiguousMinus sig k q) → AmbiguousMinus sig k (and p q)
+          go : (((not (is-empty (O (and p q))) && overlap-minus sig k p q) || ambiguous-minus sig k p) ≡ true) ⊎ (ambiguous-minus sig k q ≡ true) → (ambiguous-minus sig k p ≡ true → AmbiguousAt sig minus k p) → (ambiguous-minus sig k q ≡ true → AmbiguousAt sig minus k q) → AmbiguousAt sig minus k (and p q)
           go (inl a) f g = go₂ (either (not (is-empty (O (and p q))) && overlap-minus sig k p q) (ambiguous-minus sig k p) a) f
-          go (inr a) f g = in-and-right′ (g a)
-      ambiguous-exists′ (head c ps) {k} m (well-head {ks = ks} l a s) e = in-head′ a (ambiguous-exists-all′ ps (args-small sig facts k c ks a) s (ap (λ js. any-minus sig js ps) (sym (args-same sig k c ks a)) ∙ e))
+          go (inr a) f g = right-of-and (g a)
+      ambiguous-exists′ (head c ps) {k} m (well-head {ks = ks} l a s) e = under-head a (ambiguous-exists-all′ ps (args-small sig facts k c ks a) s (ap (λ js. any-minus sig js ps) (sym (args-same sig k c ks a)) ∙ e))
 
-      ambiguous-exists-all : (ps : Patterns) {ks : List ℕ} → All (Small sig) ks → AllWellFormed sig ks ps → any-plus sig ks ps ≡ true → Ambiguouses sig ks ps
+      ambiguous-exists-all : (ps : Patterns) {ks : List ℕ} → All (Small sig) ks → AllWellFormed sig ks ps → any-plus sig ks ps ≡ true → AmbiguousIn sig plus ks ps
       ambiguous-exists-all pnil m s e = true≢false (sym e)
       ambiguous-exists-all (pcons p ps) (also k {xs = ks} m ms) (well-cons s t) e = go (either (ambiguous-plus sig k p) (any-plus sig ks ps) e) (λ y. ambiguous-exists p m s y) (λ y. ambiguous-exists-all ps ms t y)
         where
-          go : (ambiguous-plus sig k p ≡ true) ⊎ (any-plus sig ks ps ≡ true) → (ambiguous-plus sig k p ≡ true → Ambiguous sig k p) → (any-plus sig ks ps ≡ true → Ambiguouses sig ks ps) → Ambiguouses sig (k ∷ ks) (pcons p ps)
-          go (inl a) f g = in-first (f a)
-          go (inr a) f g = in-rest (g a)
+          go : (ambiguous-plus sig k p ≡ true) ⊎ (any-plus sig ks ps ≡ true) → (ambiguous-plus sig k p ≡ true → AmbiguousAt sig plus k p) → (any-plus sig ks ps ≡ true → AmbiguousIn sig plus ks ps) → AmbiguousIn sig plus (k ∷ ks) (pcons p ps)
+          go (inl a) f g = as-first (f a)
+          go (inr a) f g = as-later (g a)
 
-      ambiguous-exists-all′ : (ps : Patterns) {ks : List ℕ} → All (Small sig) ks → AllWellFormed sig ks ps → any-minus sig ks ps ≡ true → AmbiguousesMinus sig ks ps
+      ambiguous-exists-all′ : (ps : Patterns) {ks : List ℕ} → All (Small sig) ks → AllWellFormed sig ks ps → any-minus sig ks ps ≡ true → AmbiguousIn sig minus ks ps
       ambiguous-exists-all′ pnil m s e = true≢false (sym e)
       ambiguous-exists-all′ (pcons p ps) (also k {xs = ks} m ms) (well-cons s t) e = go (either (ambiguous-minus sig k p) (any-minus sig ks ps) e) (λ y. ambiguous-exists′ p m s y) (λ y. ambiguous-exists-all′ ps ms t y)
         where
-          go : (ambiguous-minus sig k p ≡ true) ⊎ (any-minus sig ks ps ≡ true) → (ambiguous-minus sig k p ≡ true → AmbiguousMinus sig k p) → (any-minus sig ks ps ≡ true → AmbiguousesMinus sig ks ps) → AmbiguousesMinus sig (k ∷ ks) (pcons p ps)
-          go (inl a) f g = in-first′ (f a)
-          go (inr a) f g = in-rest′ (g a)
+          go : (ambiguous-minus sig k p ≡ true) ⊎ (any-minus sig ks ps ≡ true) → (ambiguous-minus sig k p ≡ true → AmbiguousAt sig minus k p) → (any-minus sig ks ps ≡ true → AmbiguousIn sig minus ks ps) → AmbiguousIn sig minus (k ∷ ks) (pcons p ps)
+          go (inl a) f g = as-first (f a)
+          go (inr a) f g = as-later (g a)
 
 module _ (sig : Signature) where
   mutual
-    pub ambiguous-decided : (p : Pattern) {k : ℕ} → WellFormed sig k p → Ambiguous sig k p → ambiguous-plus sig k p ≡ true
-    ambiguous-decided (neg p) (well-not s) (in-not a) = ambiguous-decided′ p s a
-    ambiguous-decided (and p q) {k} (well-and s t) (in-and-left a) = or-true-left (ambiguous-plus sig k p) (ambiguous-plus sig k q) (ambiguous-decided p s a)
-    ambiguous-decided (and p q) {k} (well-and s t) (in-and-right a) = or-true-right (ambiguous-plus sig k p) (ambiguous-plus sig k q) (ambiguous-decided q t a)
-    ambiguous-decided (or p q) {k} (well-or s t) (here-or e h f g) = rw (e, fit-overlap sig p q s t h f g)
-    ambiguous-decided (or p q) {k} (well-or s t) (in-or-left a) = or-true-left ((not (is-empty (E (or p q))) && overlap sig k p q) || ambiguous-plus sig k p) (ambiguous-plus sig k q) (or-true-right (not (is-empty (E (or p q))) && overlap sig k p q) (ambiguous-plus sig k p) (ambiguous-decided p s a))
-    ambiguous-decided (or p q) {k} (well-or s t) (in-or-right a) = or-true-right ((not (is-empty (E (or p q))) && overlap sig k p q) || ambiguous-plus sig k p) (ambiguous-plus sig k q) (ambiguous-decided q t a)
-    ambiguous-decided (head c ps) {k} (well-head {ks = ks} l a s) (in-head b z) = ap (λ js. any-plus sig js ps) (args-same sig k c ks a) ∙ (ambiguous-decided-all ps s (subst (λ js. Ambiguouses sig js ps) (sym (args-same sig k c _ b) ∙ args-same sig k c ks a) z))
+    ambiguous-parts : (p : Pattern) {k j : ℕ} {r : Side} {q : Pattern} → WellFormed sig k p → Stands sig plus k p r j q → AmbiguousPart sig r j q → ambiguous-plus sig k p ≡ true
+    ambiguous-parts (or p q) {k} (well-or s t) itself (an-or e h f g) = rw (e, fit-overlap sig p q s t h f g)
+    ambiguous-parts (var x) s itself a = elim a [ ]
+    ambiguous-parts wild s itself a = elim a [ ]
+    ambiguous-parts absurd-pat s itself a = elim a [ ]
+    ambiguous-parts (neg p) (well-not s) (in-not h) a = ambiguous-parts′ p s h a
+    ambiguous-parts (and p q) {k} (well-and s t) (in-and-left h) a = or-true-left (ambiguous-plus sig k p) (ambiguous-plus sig k q) (ambiguous-parts p s h a)
+    ambiguous-parts (and p q) {k} (well-and s t) (in-and-right h) a = or-true-right (ambiguous-plus sig k p) (ambiguous-plus sig k q) (ambiguous-parts q t h a)
+    ambiguous-parts (or p q) {k} (well-or s t) (in-or-left h) a = or-true-left ((not (is-empty (E (or p q))) && overlap sig k p q) || ambiguous-plus sig k p) (ambiguous-plus sig k q) (or-true-right (not (is-empty (E (or p q))) && overlap sig k p q) (ambiguous-plus sig k p) (ambiguous-parts p s h a))
+    ambiguous-parts (or p q) {k} (well-or s t) (in-or-right h) a = or-true-right ((not (is-empty (E (or p q))) && overlap sig k p q) || ambiguous-plus sig k p) (ambiguous-plus sig k q) (ambiguous-parts q t h a)
+    ambiguous-parts (head c ps) {k} {j} {r} {q} (well-head {ks = ks} l b s) (in-head d h) a = ap (λ js. any-plus sig js ps) (args-same sig k c ks b) ∙ ambiguous-arguments ps s (subst (λ js. StandsIn sig plus js ps r j q) (sym (args-same sig k c _ d) ∙ args-same sig k c ks b) h) a
 
-    pub ambiguous-decided′ : (p : Pattern) {k : ℕ} → WellFormed sig k p → AmbiguousMinus sig k p → ambiguous-minus sig k p ≡ true
-    ambiguous-decided′ (neg p) (well-not s) (in-not′ a) = ambiguous-decided p s a
-    ambiguous-decided′ (or p q) {k} (well-or s t) (in-or-left′ a) = or-true-left (ambiguous-minus sig k p) (ambiguous-minus sig k q) (ambiguous-decided′ p s a)
-    ambiguous-decided′ (or p q) {k} (well-or s t) (in-or-right′ a) = or-true-right (ambiguous-minus sig k p) (ambiguous-minus sig k q) (ambiguous-decided′ q t a)
-    ambiguous-decided′ (and p q) {k} (well-and s t) (here-and e h f g) = rw (e, fail-overlap sig p q s t h f g)
-    ambiguous-decided′ (and p q) {k} (well-and s t) (in-and-left′ a) = or-true-left ((not (is-empty (O (and p q))) && overlap-minus sig k p q) || ambiguous-minus sig k p) (ambiguous-minus sig k q) (or-true-right (not (is-empty (O (and p q))) && overlap-minus sig k p q) (ambiguous-minus sig k p) (ambiguous-decided′ p s a))
-    ambiguous-decided′ (and p q) {k} (well-and s t) (in-and-right′ a) = or-true-right ((not (is-empty (O (and p q))) && overlap-minus sig k p q) || ambiguous-minus sig k p) (ambiguous-minus sig k q) (ambiguous-decided′ q t a)
-    ambiguous-decided′ (head c ps) {k} (well-head {ks = ks} l a s) (in-head′ b z) = ap (λ js. any-minus sig js ps) (args-same sig k c ks a) ∙ (ambiguous-decided-all′ ps s (subst (λ js. AmbiguousesMinus sig js ps) (sym (args-same sig k c _ b) ∙ args-same sig k c ks a) z))
+    ambiguous-parts′ : (p : Pattern) {k j : ℕ} {r : Side} {q : Pattern} → WellFormed sig k p → Stands sig minus k p r j q → AmbiguousPart sig r j q → ambiguous-minus sig k p ≡ true
+    ambiguous-parts′ (and p q) {k} (well-and s t) itself (an-and e h f g) = rw (e, fail-overlap sig p q s t h f g)
+    ambiguous-parts′ (var x) s itself a = elim a [ ]
+    ambiguous-parts′ wild s itself a = elim a [ ]
+    ambiguous-parts′ absurd-pat s itself a = elim a [ ]
+    ambiguous-parts′ (neg p) (well-not s) (in-not h) a = ambiguous-parts p s h a
+    ambiguous-parts′ (or p q) {k} (well-or s t) (in-or-left h) a = or-true-left (ambiguous-minus sig k p) (ambiguous-minus sig k q) (ambiguous-parts′ p s h a)
+    ambiguous-parts′ (or p q) {k} (well-or s t) (in-or-right h) a = or-true-right (ambiguous-minus sig k p) (ambiguous-minus sig k q) (ambiguous-parts′ q t h a)
+    ambiguous-parts′ (and p q) {k} (well-and s t) (in-and-left h) a = or-true-left ((not (is-empty (O (and p q))) && overlap-minus sig k p q) || ambiguous-minus sig k p) (ambiguous-minus sig k q) (or-true-right (not (is-empty (O (and p q))) && overlap-minus sig k p q) (ambiguous-minus sig k p) (ambiguous-parts′ p s h a))
+    ambiguous-parts′ (and p q) {k} (well-and s t) (in-and-right h) a = or-true-right ((not (is-empty (O (and p q))) && overlap-minus sig k p q) || ambiguous-minus sig k p) (ambiguous-minus sig k q) (ambiguous-parts′ q t h a)
+    ambiguous-parts′ (head c ps) {k} {j} {r} {q} (well-head {ks = ks} l b s) (in-head d h) a = ap (λ js. any-minus sig js ps) (args-same sig k c ks b) ∙ ambiguous-arguments′ ps s (subst (λ js. StandsIn sig minus js ps r j q) (sym (args-same sig k c _ d) ∙ args-same sig k c ks b) h) a
 
-    ambiguous-decided-all : (ps : Patterns) {ks : List ℕ} → AllWellFormed sig ks ps → Ambiguouses sig ks ps → any-plus sig ks ps ≡ true
-    ambiguous-decided-all (pcons p ps) (well-cons {k = k} {ks = ks} s t) (in-first a) = or-true-left (ambiguous-plus sig k p) (any-plus sig ks ps) (ambiguous-decided p s a)
-    ambiguous-decided-all (pcons p ps) (well-cons {k = k} {ks = ks} s t) (in-rest a) = or-true-right (ambiguous-plus sig k p) (any-plus sig ks ps) (ambiguous-decided-all ps t a)
+    ambiguous-arguments : (ps : Patterns) {ks : List ℕ} {j : ℕ} {r : Side} {q : Pattern} → AllWellFormed sig ks ps → StandsIn sig plus ks ps r j q → AmbiguousPart sig r j q → any-plus sig ks ps ≡ true
+    ambiguous-arguments (pcons p ps) (well-cons {k = k} {ks = ks} s t) (in-first h) a = or-true-left (ambiguous-plus sig k p) (any-plus sig ks ps) (ambiguous-parts p s h a)
+    ambiguous-arguments (pcons p ps) (well-cons {k = k} {ks = ks} s t) (in-rest h) a = or-true-right (ambiguous-plus sig k p) (any-plus sig ks ps) (ambiguous-arguments ps t h a)
 
-    ambiguous-decided-all′ : (ps : Patterns) {ks : List ℕ} → AllWellFormed sig ks ps → AmbiguousesMinus sig ks ps → any-minus sig ks ps ≡ true
-    ambiguous-decided-all′ (pcons p ps) (well-cons {k = k} {ks = ks} s t) (in-first′ a) = or-true-left (ambiguous-minus sig k p) (any-minus sig ks ps) (ambiguous-decided′ p s a)
-    ambiguous-decided-all′ (pcons p ps) (well-cons {k = k} {ks = ks} s t) (in-rest′ a) = or-true-right (ambiguous-minus sig k p) (any-minus sig ks ps) (ambiguous-decided-all′ ps t a)
+    ambiguous-arguments′ : (ps : Patterns) {ks : List ℕ} {j : ℕ} {r : Side} {q : Pattern} → AllWellFormed sig ks ps → StandsIn sig minus ks ps r j q → AmbiguousPart sig r j q → any-minus sig ks ps ≡ true
+    ambiguous-arguments′ (pcons p ps) (well-cons {k = k} {ks = ks} s t) (in-first h) a = or-true-left (ambiguous-minus sig k p) (any-minus sig ks ps) (ambiguous-parts′ p s h a)
+    ambiguous-arguments′ (pcons p ps) (well-cons {k = k} {ks = ks} s t) (in-rest h) a = or-true-right (ambiguous-minus sig k p) (any-minus sig ks ps) (ambiguous-arguments′ ps t h a)
+
+  pub ambiguous-decided : (p : Pattern) {k : ℕ} → WellFormed sig k p → Ambiguous sig k p → ambiguous-plus sig k p ≡ true
+  ambiguous-decided p w (r, j, q, h, a) = ambiguous-parts p w h a
 
 -- on the words of two patterns: 12 is decided exactly where a lawful booking is shared
 pub shares-exists : (sig : Signature) → Signed sig → (us ws : List ℕ) → shares sig us ws ≡ true → SharesBooking sig us ws

@@ -22,7 +22,7 @@ overlap sig k p q = not (is-empty (somes (each combine (rows-plus sig k p) (rows
 abbrev pub overlap-minus : Signature → ℕ → Pattern → Pattern → Bool
 overlap-minus sig k p q = not (is-empty (somes (each combine (rows-minus sig k p) (rows-minus sig k q))))
 
--- decides Ambiguous and AmbiguousMinus
+-- decides Ambiguous, and the same of a part on the minus side
 abbrev mutual
   pub ambiguous-plus : Signature → ℕ → Pattern → Bool
   ambiguous-plus sig k (var x) = false

@@ -35,7 +35,7 @@ use Rattle.tree.specs.Limits.{last-number, tree-limit, default-plan}
 use Rattle.tree.specs.Run.{run, run-words}
 use Rattle.tree.specs.RunCall.{RunCall, run-signature, run-booking, run-at}
 use Rattle.table.specs.Calls.{Start, refused, begin, start, on-signature, on-sound, long-table, long-witness, enter-start, enter-number, enter-table, withdraw-number, withdraw-table, too-large, CompileFrom, decide-from, decide-booking, Entered, Empty, Enter, Withdraw, Compile, DecideCall}
-use Rattle.table.specs.Demand1.{FirstOf, Unlawful, Under, ShortTable, ShortWitness, Unsound, InForce, NumberOutside, Held, NotHeld, Malformed, NotLinear, TooHeavy, AmbiguousWords, Full, UnlawfulBooking, TooLarge, Broken, zeros, part-refusals, empty-refusals, enter-refusals, withdraw-refusals, compile-refusals, decide-refusals, run-refusals, Demand1}
+use Rattle.table.specs.Demand1.{FirstOf, Unlawful, Under, ShortTable, ShortWitness, Unsound, InForce, NumberOutside, Held, NotHeld, Malformed, NotLinear, HeavyWords, AmbiguousWords, Full, UnlawfulBooking, TooLarge, Broken, zeros, part-refusals, empty-refusals, enter-refusals, withdraw-refusals, compile-refusals, decide-refusals, run-refusals, Demand1}
 use Rattle.table.specs.Limits.{limits, table-length, witness-length}
 use Rattle.table.specs.Matrix.{tree-words}
 use Rattle.table.specs.Refusals.{entry-refusal, withdrawal-refusal, SharesHeld}
@@ -163,13 +163,13 @@ module _ (ss : List ℕ) (sig : Signature) (lawful : read-signature ss ≡ some 
   same-pattern : (p q : Pattern) → read-pattern sig ws ≡ some p → PatternWords sig ws q → q ≡ p
   same-pattern p q e w = some-inj q p (sym (words-pattern sig ws q w) ∙ e)
 
-  pattern-first : {R : Type 0} (n m : ℕ) → n ≡ (let q = refusal-of-pattern sig ws in cond (not (eqb q 0)) q m) → (n ≡ m → R) → Next (InForce ss table (λ s r. Malformed s ws)) 7 n (Next (InForce ss table (λ s r. NotLinear s ws)) 8 n (Next (InForce ss table (λ s r. TooHeavy s ws)) 9 n (Next (InForce ss table (λ s r. AmbiguousWords s ws)) 10 n R)))
+  pattern-first : {R : Type 0} (n m : ℕ) → n ≡ (let q = refusal-of-pattern sig ws in cond (not (eqb q 0)) q m) → (n ≡ m → R) → Next (InForce ss table (λ s r. Malformed s ws)) 7 n (Next (InForce ss table (λ s r. NotLinear s ws)) 8 n (Next (InForce ss table (λ s r. HeavyWords s ws)) 9 n (Next (InForce ss table (λ s r. AmbiguousWords s ws)) 10 n R)))
   pattern-first {R} n m n-is later = go (read-pattern sig ws) refl
     where
       own : (o : Option Pattern) → read-pattern sig ws ≡ o → n ≡ (let q = refusal-by sig o in cond (not (eqb q 0)) q m)
       own o e = n-is ∙ ap (λ o. let q = refusal-by sig o in cond (not (eqb q 0)) q m) e
 
-      go : (o : Option Pattern) → read-pattern sig ws ≡ o → Next (InForce ss table (λ s r. Malformed s ws)) 7 n (Next (InForce ss table (λ s r. NotLinear s ws)) 8 n (Next (InForce ss table (λ s r. TooHeavy s ws)) 9 n (Next (InForce ss table (λ s r. AmbiguousWords s ws)) 10 n R)))
+      go : (o : Option Pattern) → read-pattern sig ws ≡ o → Next (InForce ss table (λ s r. Malformed s ws)) 7 n (Next (InForce ss table (λ s r. NotLinear s ws)) 8 n (Next (InForce ss table (λ s r. HeavyWords s ws)) 9 n (Next (InForce ss table (λ s r. AmbiguousWords s ws)) 10 n R)))
       go none e = inl (in-force ss sig lawful table rs holds (λ s r. Malformed s ws) (λ p w. none≢some (sym e ∙ words-pattern sig ws p w)), own none e)
       go (some p) e = inr (in-force-not ss sig lawful table rs holds (λ s r. Malformed s ws) (λ h. h p (pattern-words sig ws p e)), on-8 (linear-plus p) refl)
         where
@@ -179,11 +179,11 @@ module _ (ss : List ℕ) (sig : Signature) (lawful : read-signature ss ≡ some 
               inl (in-force ss sig lawful table rs holds (λ s r. AmbiguousWords s ws) (p, pattern-words sig ws p e, ambiguous-exists sig f p (small-0 sig f) (pattern-words sig ws p e .well-formed) q), own (some p) e ∙ rw (a, c, q))
           on-10 a c false q = inr (in-force-not ss sig lawful table rs holds (λ s r. AmbiguousWords s ws) (λ (p′, w, h). true≢false (sym (ambiguous-decided sig p′ (w .well-formed) h) ∙ ap (ambiguous-plus sig 0) (same-pattern p p′ e w) ∙ q)), later (own (some p) e ∙ rw (a, c, q)))
 
-          on-9 : linear-plus p ≡ true → (b : Bool) → light-plus p ≡ b → Next (InForce ss table (λ s r. TooHeavy s ws)) 9 n (Next (InForce ss table (λ s r. AmbiguousWords s ws)) 10 n R)
-          on-9 a false q = inl (in-force ss sig lawful table rs holds (λ s r. TooHeavy s ws) (p, pattern-words sig ws p e, heavy-is-some p .0 q), own (some p) e ∙ rw (a, q))
-          on-9 a true q = inr (in-force-not ss sig lawful table rs holds (λ s r. TooHeavy s ws) (λ (p′, w, h). true≢false (sym q ∙ ap light-plus (sym (same-pattern p p′ e w)) ∙ heavy-is-some p′ .1 h)), on-10 a q (ambiguous-plus sig 0 p) refl)
+          on-9 : linear-plus p ≡ true → (b : Bool) → light-plus p ≡ b → Next (InForce ss table (λ s r. HeavyWords s ws)) 9 n (Next (InForce ss table (λ s r. AmbiguousWords s ws)) 10 n R)
+          on-9 a false q = inl (in-force ss sig lawful table rs holds (λ s r. HeavyWords s ws) (p, pattern-words sig ws p e, heavy-is-some sig p (pattern-words sig ws p e .well-formed) .0 q), own (some p) e ∙ rw (a, q))
+          on-9 a true q = inr (in-force-not ss sig lawful table rs holds (λ s r. HeavyWords s ws) (λ (p′, w, h). true≢false (sym q ∙ ap light-plus (sym (same-pattern p p′ e w)) ∙ heavy-is-some sig p′ (w .well-formed) .1 h)), on-10 a q (ambiguous-plus sig 0 p) refl)
 
-          on-8 : (b : Bool) → linear-plus p ≡ b → Next (InForce ss table (λ s r. NotLinear s ws)) 8 n (Next (InForce ss table (λ s r. TooHeavy s ws)) 9 n (Next (InForce ss table (λ s r. AmbiguousWords s ws)) 10 n R))
+          on-8 : (b : Bool) → linear-plus p ≡ b → Next (InForce ss table (λ s r. NotLinear s ws)) 8 n (Next (InForce ss table (λ s r. HeavyWords s ws)) 9 n (Next (InForce ss table (λ s r. AmbiguousWords s ws)) 10 n R))
           on-8 false q = inl (in-force ss sig lawful table rs holds (λ s r. NotLinear s ws) (p, pattern-words sig ws p e, q), own (some p) e ∙ rw q)
           on-8 true q = inr (in-force-not ss sig lawful table rs holds (λ s r. NotLinear s ws) (λ (p′, w, h). true≢false (sym q ∙ ap linear-plus (sym (same-pattern p p′ e w)) ∙ h)), on-9 q (light-plus p) refl)
 
@@ -221,7 +221,7 @@ enter-first : (ss : List ℕ) (n plan : ℕ) (ws before witness : List ℕ) (e :
 enter-first ss n plan ws before witness e after witness′ h =
     (opened ss (long-table limits before && long-witness witness) before (short-either before witness) (long-both before witness) (e .number) (λ s. enter-number limits s n ws) (λ m. refl) (h .number-is) later, kept (enter-start limits ss before witness) (h .number-is) (h .table-is), h .not-12)
   where
-    later : (sig : Signature) (rs : List Rule) → read-signature ss ≡ some sig → sound limits sig before ≡ some rs → e .number ≡ entry-refusal limits sig n ws rs → FirstOf ((4, NumberOutside n) ∷ ((5, InForce ss before (λ s r. Held n r)) ∷ ((7, InForce ss before (λ s r. Malformed s ws)) ∷ ((8, InForce ss before (λ s r. NotLinear s ws)) ∷ ((9, InForce ss before (λ s r. TooHeavy s ws)) ∷ ((10, InForce ss before (λ s r. AmbiguousWords s ws)) ∷ ((11, InForce ss before (λ s r. Full s ws r)) ∷ ((12, InForce ss before (λ s r. SharesHeld s ws r)) ∷ [])))))))) (e .number)
+    later : (sig : Signature) (rs : List Rule) → read-signature ss ≡ some sig → sound limits sig before ≡ some rs → e .number ≡ entry-refusal limits sig n ws rs → FirstOf ((4, NumberOutside n) ∷ ((5, InForce ss before (λ s r. Held n r)) ∷ ((7, InForce ss before (λ s r. Malformed s ws)) ∷ ((8, InForce ss before (λ s r. NotLinear s ws)) ∷ ((9, InForce ss before (λ s r. HeavyWords s ws)) ∷ ((10, InForce ss before (λ s r. AmbiguousWords s ws)) ∷ ((11, InForce ss before (λ s r. Full s ws r)) ∷ ((12, InForce ss before (λ s r. SharesHeld s ws r)) ∷ [])))))))) (e .number)
     later sig rs lawful holds n-is =
         test (not (leb 1 n && leb n last-number)) (outside n) (inside n) n-is
         (λ q₁ e₁. test (held n rs) (λ q. in-force ss sig lawful before rs holds (λ s r. Held n r) (held-some n rs q)) (λ q. in-force-not ss sig lawful before rs holds (λ s r. Held n r) (λ y. true≢false (sym (some-held n rs y) ∙ q))) e₁

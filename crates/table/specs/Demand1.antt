@@ -13,10 +13,10 @@ use Rattle.signature.specs.Part.{part-call}
 use Rattle.signature.specs.Signature.{Signature}
 use Rattle.signature.specs.Value.{Value}
 use Rattle.pattern.specs.Ambiguous.{Ambiguous}
-use Rattle.pattern.specs.Limits.{part-weight-limit, variable-count}
+use Rattle.pattern.specs.Limits.{variable-count}
 use Rattle.pattern.specs.Linear.{linear-plus}
 use Rattle.pattern.specs.Pattern.{Pattern}
-use Rattle.pattern.specs.Side.{Side, plus, Stands, weight-at}
+use Rattle.pattern.specs.Side.{TooHeavy}
 use Rattle.pattern.specs.Weight.{weight}
 use Rattle.pattern.specs.WellFormed.{PatternWords}
 use Rattle.tree.specs.Answer.{Answer}
@@ -79,8 +79,8 @@ abbrev pub NotLinear : Signature → List ℕ → Type 0
 NotLinear sig ws = (p : Pattern) × PatternWords sig ws p × (linear-plus p ≡ false)
 
 -- "9. Some part weighs over 64."
-abbrev pub TooHeavy : Signature → List ℕ → Type 0
-TooHeavy sig ws = (p : Pattern) × PatternWords sig ws p × ((r : Side) × (q : Pattern) × Stands plus p r q × (part-weight-limit < weight-at r q))
+abbrev pub HeavyWords : Signature → List ℕ → Type 0
+HeavyWords sig ws = (p : Pattern) × PatternWords sig ws p × TooHeavy sig 0 p
 
 -- "10. It is ambiguous."
 abbrev pub AmbiguousWords : Signature → List ℕ → Type 0
@@ -118,7 +118,7 @@ enter-refusals ss n ws table witness =
     ∷ (5, InForce ss table (λ sig rs. Held n rs))
     ∷ (7, InForce ss table (λ sig rs. Malformed sig ws))
     ∷ (8, InForce ss table (λ sig rs. NotLinear sig ws))
-    ∷ (9, InForce ss table (λ sig rs. TooHeavy sig ws))
+    ∷ (9, InForce ss table (λ sig rs. HeavyWords sig ws))
     ∷ (10, InForce ss table (λ sig rs. AmbiguousWords sig ws))
     ∷ (11, InForce ss table (λ sig rs. Full sig ws rs))
     ∷ (12, InForce ss table (λ sig rs. SharesHeld sig ws rs))
