@@ -94,11 +94,9 @@ module _ {t table lists : List ℕ} (g : InTable t table lists) where
 
   pub given-rules : (room : ℕ) → row-stride * row-limit ≤ room → GivenRules t table lists room
   given-rules room x = record {
-    known = g .force .known;
-    rs = g .force .rs;
-    holds = holds;
-    rest = g .force .ready .rest;
-    code-is = g .force .ready .code-is;
+    used = g .used;
+    total = g .total;
+    force = g .force;
     near = omega (arith, g .force .ready .used-is, g .force .ready .total-is, g .force .ready .small, light, holds .few);
     fit = rows-are-fit (g .force .known) (g .force .rs) good;
     room-is = omega (arith, few, x);

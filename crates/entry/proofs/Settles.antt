@@ -82,11 +82,14 @@ module _ {t table : List ℕ} {n : ℕ} {ws : List ℕ} {at used : ℕ} {rows : 
     pub sharer-given : GivenSharer t table o (used + 1) l
     unfolding L front
     sharer-given = record {
-      known = g .force .known;
-      rs = g .force .rs;
-      is-sound = g .force .is-sound;
-      rest = length L ∷ (L ++ placed .rest);
-      code-is = code-so;
+      used = used;
+      total = g .total;
+      force = record {
+        known = g .force .known;
+        rs = g .force .rs;
+        is-sound = g .force .is-sound;
+        ready = record { rest = length L ∷ (L ++ placed .rest); code-is = code-so; used-is = used-is; total-is = g .force .ready .total-is; small = g .force .ready .small };
+      };
       ws = ws;
       p = passed .pat;
       read = passed .read;

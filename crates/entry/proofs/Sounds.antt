@@ -38,11 +38,8 @@ module _ {t table : List ℕ} {used total : ℕ} {rows : List ℕ} {m : ℕ} (g 
   settle-given at e m′ m-is rows-is l w =
       let z = subst (λ z. CheckedAs (g .force .known .sig) (g .force .rs) n ws used total z rows′) e (gave g) in
       record {
-        known = g .force .known;
-        rs = g .force .rs;
-        is-sound = g .force .is-sound;
         total = total;
-        ready = z .1;
+        force = record { known = g .force .known; rs = g .force .rs; is-sound = g .force .is-sound; ready = z .1 };
         cleared = z .0;
         room = omega (arith, rows-is, g .room);
         work-room = omega (arith, m-is, g .work-room);
