@@ -14,7 +14,7 @@ use Rattle.tree.specs.Limits.{default-plan}
 use Rattle.tree.specs.RunCall.{refusal}
 use Rattle.table.specs.Calls.{DecideCall, start, refused, begin, long-table, decide-from, decide-booking}
 use Rattle.table.specs.Decide.{direct}
-use Rattle.run.specs.Outcome.{answer-of, outcome}
+use Rattle.run.specs.Outcome.{ran-answer, outcome}
 use Rattle.run.specs.declared.Ran.{Ran}
 use Rattle.opening.specs.Open.{OpenedAs, InForce}
 use Rattle.opening.specs.declared.open.Opened.{Opened}
@@ -22,7 +22,7 @@ use Rattle.opening.specs.declared.open.Opened.the-variants.{Begun, Refused}
 use Rattle.deciding.specs.Decide.{Judging}
 
 module _ (ss table bs t rows : List ℕ) (o : Opened) (open-so : OpenedAs ss (long-table table) table o t rows) where
-  pub turned-down : (n : ℕ) → o ≡ Refused n → (r : Ran) → outcome r ≡ refusal n → DecideCall ss table bs (r .number) (answer-of r)
+  pub turned-down : (n : ℕ) → o ≡ Refused n → (r : Ran) → outcome r ≡ refusal n → DecideCall ss table bs (r .number) (ran-answer r)
   turned-down n e r q =
       let z : start ss (long-table table) table ≡ refused n = subst (λ x. OpenedAs ss (long-table table) table x t rows) e open-so in
       record { result-is = q ∙ sym (ap (λ x. decide-from x bs) z) }
@@ -34,13 +34,13 @@ module _ (ss table bs t rows : List ℕ) (o : Opened) (open-so : OpenedAs ss (lo
     from-start : (x : Option Value) → read-booking (force .known .sig) bs ≡ x → decide-from (start ss (long-table table) table) bs ≡ decide-booking (force .known .sig) (force .rs) x
     from-start x q = ap (λ z. decide-from z bs) (force .started) ∙ ap (decide-booking (force .known .sig) (force .rs)) q
 
-    pub refused-13 : (r : Ran) → false ≡ is-some (read-booking (force .known .sig) bs) → outcome r ≡ refusal 13 → DecideCall ss table bs (r .number) (answer-of r)
+    pub refused-13 : (r : Ran) → false ≡ is-some (read-booking (force .known .sig) bs) → outcome r ≡ refusal 13 → DecideCall ss table bs (r .number) (ran-answer r)
     refused-13 r l q = record { result-is = q ∙ sym (from-start none (missing (read-booking (force .known .sig) bs) l)) }
 
     module _ (l : true ≡ is-some (read-booking (force .known .sig) bs)) where
       pub judging : Judging t table bs
       judging = let (v, q) = there (read-booking (force .known .sig) bs) l in record { known = force .known; rs = force .rs; is-sound = force .is-sound; value = v; booked = q }
 
-      pub answered : (r : Ran) → ((g : Judging t table bs) → outcome r ≡ (0, direct default-plan (g .known .sig) (g .rs) (g .value))) → DecideCall ss table bs (r .number) (answer-of r)
+      pub answered : (r : Ran) → ((g : Judging t table bs) → outcome r ≡ (0, direct default-plan (g .known .sig) (g .rs) (g .value))) → DecideCall ss table bs (r .number) (ran-answer r)
       unfolding judging
       answered r f = record { result-is = f judging ∙ sym (from-start (some (judging .value)) (judging .booked)) }

@@ -2,14 +2,15 @@
 use Prim.Native.Nat.{ℕ, suc, _+_, _*_}
 use Rattle.signature.specs.Limits.{booking-limit, argument-limit}
 use Rattle.pattern.specs.Limits.{pattern-limit}
+use Rattle.tree.specs.Limits.{row-limit}
 
 -- "at most 64 rules"
 abbrev pub rule-limit : ℕ
 rule-limit = 64
 
--- "weighing at most 256 in all"
+-- "weighing at most 256 in all": a row for each
 abbrev pub weight-limit : ℕ
-weight-limit = 256
+weight-limit = row-limit
 
 -- "per rule number, plan, pattern length and pattern": at most 67 words
 abbrev pub rule-length : ℕ
