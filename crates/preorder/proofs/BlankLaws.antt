@@ -11,6 +11,7 @@ use lib.Seq.{take-at, drop-at, take-all, drop-drop}
 use Rattle.signature.specs.Limits.{kind-limit}
 use Rattle.signature.proofs.SetLaws.{bit-zero}
 use Rattle.signature.proofs.Tests.{eqb-no, true≢false}
+use Rattle.tree.proofs.RunFacts.{some-word}
 use Rattle.tree.specs.Tree.{Tree, skip}
 use Rattle.tree.specs.Words.{words, layout}
 use Rattle.path.specs.Alive.{member, FirstAlive}
@@ -21,7 +22,7 @@ use Rattle.path.specs.Wrote.{Wrote}
 use Rattle.preorder.specs.Node.{Given, tree-of}
 use Rattle.path.proofs.AliveLaws.{member-is}
 use Rattle.preorder.proofs.CallLaws.{cols}
-use Rattle.preorder.proofs.NodeLaws.{skip-given, tree-skip, words-some}
+use Rattle.preorder.proofs.NodeLaws.{skip-given, tree-skip}
 
 -- ---- words
 
@@ -163,7 +164,7 @@ module _ {t a rows : List ℕ} {n : ℕ} {s cur vis : List ℕ} {ncols vn base :
       let e : length o + (fuel - length o) ≡ fuel = omega arith in
       let q : tree-of g dft fuel ≡ skipped (length o) T = ap (tree-of g dft) (sym e) ∙ h .tree dft (fuel - length o) in
       let m : words (tree-of g dft fuel) ≡ length o + words T = ap words q ∙ skipped-words (length o) T in
-      record { much = omega (arith, m, words-some T); wrote = λ i. absurd (omega (arith, m, words-some T)) }
+      record { much = omega (arith, m, some-word T); wrote = λ i. absurd (omega (arith, m, some-word T)) }
 
   module _ (o1 : List ℕ) (l : b ≤ length o) (e : o1 ≡ replicate b 3 ++ drop b o) where
     there : Behind g b (ncols - b) (vn + b) (base + b) (length (take (length o1 - b) (drop b o1)))

@@ -7,6 +7,7 @@ use lib.ListN.{length, getD, drop, take, set, length-drop}
 use lib.Seq.{length-take-le}
 use Rattle.signature.specs.Decoded.{first-of, count-of, arity-of}
 use Rattle.signature.specs.Lists.{count-up}
+use Rattle.tree.proofs.RunFacts.{some-word}
 use Rattle.tree.specs.Tree.{Tree, test, children}
 use Rattle.tree.specs.Words.{words, words-all}
 use Rattle.path.specs.Alive.{member}
@@ -15,7 +16,6 @@ use Rattle.path.specs.Wrote.{Wrote}
 use Rattle.preorder.specs.Node.{Given, Branching, tree-of, child-of, branch-of}
 use Rattle.preorder.proofs.ChildLaws.{child-given, child-tree}
 use Rattle.preorder.proofs.ChildrenLaws.{Part, part-none, part-more, part-all, rest, rest-next, count-all}
-use Rattle.preorder.proofs.NodeLaws.{words-some}
 
 words-rest : (child : ℕ → Tree) (f m j : ℕ) → j < m → words (child (f + j)) ≤ words-all (rest child f m j)
 words-rest child f m j h = omega (arith, ap words-all (rest-next child f m j h))
@@ -76,7 +76,7 @@ module _ {t a rows : List ℕ} {n : ℕ} {s re cur vis : List ℕ} {ncols vn bas
   child-pos x curj visj o ys j at u wc ew e h m kv lv l lo l1 call =
       let lz : length (take (length o - at) (drop at o)) ≡ length o - at = length-take-le (length o - at) (drop at o) (simp length-drop (omega arith)) in
       let v = child-wrote x curj visj (take (length o - at) (drop at o)) ys j at u 0 len wc ew e h m kv lv l1 (omega arith) (omega arith) call in
-      omega (arith, v .much, words-some (child-of b 0 len (first-of t k + j)))
+      omega (arith, v .much, some-word (child-of b 0 len (first-of t k + j)))
 
 -- ---- the node's own words, with the kind's heads as the code has read them
 

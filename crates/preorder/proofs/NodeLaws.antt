@@ -16,6 +16,7 @@ use Rattle.signature.proofs.ListFacts.{rest-of}
 use Rattle.signature.proofs.Tests.{eqb-eq, none≢some, true≢false}
 use Rattle.pattern.specs.Limits.{pattern-limit}
 use Rattle.rowlist.proofs.Kinded.{within-kind}
+use Rattle.tree.proofs.RunFacts.{some-word}
 use Rattle.tree.specs.Tree.{Tree, Line, default, hit, test, skip, refined, taken, passed, after, compile, children}
 use Rattle.tree.specs.Words.{words, layout}
 use Rattle.path.specs.Alive.{member, FirstAlive}
@@ -29,15 +30,9 @@ use Rattle.preorder.proofs.Options.{somes-none, somes-first, FirstIs, s
 use Rattle.path.proofs.StateLaws.{state-pass, row-refined}
 use Rattle.path.proofs.StepLaws.{real-room, real-tag}
 
-pub words-some : (vn : Tree) → 1 ≤ words vn
-words-some (default d) = omega arith
-words-some (hit r p bs) = omega arith
-words-some (test c ts) = omega arith
-words-some (skip vn) = omega arith
-
 -- no room
 pub no-room : (T : Tree) (base : ℕ) (o o2 : List ℕ) → length o ≡ 0 → Wrote T base 1 o o2
-no-room T base o o2 e = record { much = omega (arith, words-some T); wrote = λ h. absurd (omega (arith, words-some T)) }
+no-room T base o o2 e = record { much = omega (arith, some-word T); wrote = λ h. absurd (omega (arith, some-word T)) }
 
 -- 0
 pub wrote-default : (d base : ℕ) (o : List ℕ) → 0 < length o → Wrote (default d) base 1 o (set o 0 0)

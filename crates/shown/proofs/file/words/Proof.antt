@@ -3,9 +3,10 @@ use mathlib.Core.Path.{_≡_, refl}
 use Prim.Native.Nat.{_≤_, _-_}
 use native.Mathlib.Omega.{arith}
 use lib.ListN.{length, length-set}
+use Rattle.shown.proofs.Counted.{counted}
 use borrow.Author.Needs.{needs}
-use Rattle.calls.proofs.scene.words.Statement.{statement}
-use Rattle.calls.proofs.scene.words.Tie as tie
+use Rattle.shown.proofs.file.words.Statement.{statement}
+use Rattle.shown.proofs.file.words.Tie as tie
 
 abbrev Inv-loop : tie.InvT-loop
 Inv-loop bytes out₀ n₀ out n = (n ≤ length out) × (length out ≡ length out₀)
@@ -23,7 +24,7 @@ words-spec =
     (λ c. omega (arith, c .before .before .before .before .good))
     (λ c. omega (arith, c .before .before .before .before .good))
     (λ c. omega arith)
-    (λ c. omega arith)
+    (λ c. counted _ _ (omega arith))
     (λ c. omega arith)
     (λ c. omega arith)
     (λ c κs. search needs)
@@ -39,4 +40,4 @@ words-spec =
     (λ c. omega arith)
     (λ c. (rw length-set (omega arith), rw length-set (c .before .before .before .before .before .before .loop .inv .1)))
     (λ c. omega arith)
-    (λ c. omega arith))
+    (λ c. counted _ _ (omega arith)))

@@ -3,8 +3,8 @@ use Prim.Native.Nat.{_≤_, _-_}
 use native.Mathlib.Omega.{arith}
 use borrow.Author.Needs.{needs}
 use Rattle.pattern.specs.Limits.{variable-count}
-use Rattle.calls.proofs.show.bindings.Statement.{statement}
-use Rattle.calls.proofs.show.bindings.Tie as tie
+use Rattle.shown.proofs.print.bindings.Statement.{statement}
+use Rattle.shown.proofs.print.bindings.Tie as tie
 
 abbrev Inv-loop : tie.InvT-loop
 Inv-loop places x₀ x = x ≤ variable-count

@@ -1,10 +1,10 @@
--- `show::words` is safe and ends.
+-- `print::words` is safe and ends.
 use Prim.Native.Nat.{_≤_, _-_}
 use native.Mathlib.Omega.{arith}
 use lib.ListN.{length}
 use borrow.Author.Needs.{needs}
-use Rattle.calls.proofs.show.words.Statement.{statement}
-use Rattle.calls.proofs.show.words.Tie as tie
+use Rattle.shown.proofs.print.words.Statement.{statement}
+use Rattle.shown.proofs.print.words.Tie as tie
 
 abbrev Inv-loop : tie.InvT-loop
 Inv-loop w i₀ i = i ≤ length w
@@ -21,6 +21,7 @@ words-spec =
     (λ c. omega arith)
     (λ c. omega arith)
     (λ c. omega arith)
+    (λ c κs. search needs)
     (λ c κs. search needs)
     (λ c. omega arith)
     (λ c. omega arith)
