@@ -4,7 +4,7 @@ use deciding::decide::decide;
 use emptying::empty::empty;
 use entering::enter::enter;
 use entry::sound::Entry;
-use run::leaf::VARIABLES;
+use pattern::limits::VARIABLES;
 use run::run;
 use signature::refusals::SHARED;
 ghost use Rattle.tree.specs.RunCall.{RunCall};

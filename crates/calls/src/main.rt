@@ -2,8 +2,6 @@
 mod scene;
 mod show;
 
-const BYTES: usize = 131072;
-
 const WORDS: usize = 65536;
 
 const SIGNATURE: usize = 2048;
@@ -15,15 +13,8 @@ const SPACE: usize = 40000;
 const WITNESS: usize = 4200;
 
 fn main() {
-    let mut bytes = [0u8; BYTES];
-    let fd = os::open_read(b"calls.bin");
-    if fd < 0 {
-        return;
-    }
-    let n = io::read_full(fd, &mut bytes);
-    libc::close(fd);
     let mut all = [0u16; WORDS];
-    let m = scene::words(&bytes[..n], &mut all);
+    let m = shown::file::read_words(b"calls.bin", &mut all);
     let mut signature = [0u16; SIGNATURE];
     let mut table = [0u16; TABLE];
     let mut space = [0u16; SPACE];

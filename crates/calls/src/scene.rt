@@ -4,6 +4,8 @@ use compiling::compile::compile;
 use deciding::decide::decide;
 use emptying::empty::empty;
 use entering::enter::enter;
+use shown::file::size;
+use shown::print;
 use withdrawing::withdraw;
 ghost use mathlib.Core.Path.{_≡_};
 ghost use Prim.Native.Nat.{_≤_};
@@ -11,32 +13,6 @@ ghost use lib.ListN.{length};
 
 // An entry that shows what 12 gives.
 const IN_FULL: u16 = 8;
-
-fn wide(x: u8) -> u16
-    ensures { λ r. ⌜ r ≤ 255 ⌝ }
-{
-    x as u16
-}
-
-pub fn words(bytes: &[u8], out: &mut [u16]) -> usize
-    ensures { λ r. ⌜ r ≤ length (now (out .exit)) ⌝ }
-{
-    let mut n = 0;
-    while n < out.len() {
-        if bytes.len() <= 2 * n + 1 {
-            return n;
-        }
-        out[n] = wide(bytes[2 * n]) + 256 * wide(bytes[2 * n + 1]);
-        n += 1;
-    }
-    n
-}
-
-fn size(x: u16) -> usize
-    ensures { λ r. ⌜ r ≤ 65535 ⌝ }
-{
-    x as usize
-}
 
 // The index behind the list whose count stands at an index; 0 where the words end before.
 fn behind(w: &[u16], at: usize) -> usize
@@ -88,8 +64,7 @@ fn begin(w: &[u16], signature: &mut [u16], table: &mut [u16]) -> Now
         };
     }
     shift::copy(&mut signature[..s], &w[3..e]);
-    show::number(empty(&mut table[..k]));
-    show::end();
+    show::line(empty(&mut table[..k]));
     Now {
         used: e,
         signature: s,
@@ -121,8 +96,7 @@ fn withdrawal(w: &[u16], ss: &[u16], table: &mut [u16]) -> usize
     if w.len() < 2 {
         return 0;
     }
-    show::number(withdraw(ss, w[1], table));
-    show::end();
+    show::line(withdraw(ss, w[1], table));
     2
 }
 
@@ -138,14 +112,7 @@ fn compilation(w: &[u16], ss: &[u16], table: &[u16], space: &mut [u16]) -> usize
         return 0;
     }
     let c = compile(ss, table, &mut space[..k]);
-    show::number(c.number);
-    show::text(b" ");
-    show::size(c.len);
-    let n = c.len;
-    if n <= space.len() {
-        show::words(&space[..n]);
-    }
-    show::end();
+    show::tree(c.number, c.len, space);
     2
 }
 
@@ -183,9 +150,9 @@ fn holding(w: &[u16], table: &[u16]) -> usize
     ensures { λ r. ⌜ (1 ≤ length (now (w .entry)) → r ≤ length (now (w .entry))) ⌝ }
 {
     let n = show::used(table);
-    show::text(b"table");
-    show::words(&table[..n]);
-    show::end();
+    print::text(b"table");
+    print::words(&table[..n]);
+    print::end();
     1
 }
 

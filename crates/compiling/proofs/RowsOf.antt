@@ -30,8 +30,8 @@ use Rattle.table.specs.Limits.{limits}
 use Rattle.table.specs.Matrix.{lines, lines-by}
 use Rattle.table.specs.Rule.{Rule, total-weight}
 use Rattle.table.specs.Sound.{no-shared}
-use Rattle.path.specs.Standing.{Good}
-use Rattle.writer.specs.Write.{RuleRow, line-of, Fit}
+use Rattle.path.specs.Standing.{RowStands}
+use Rattle.path.specs.Rows.{RuleRow, line-of, Fit}
 use Rattle.writer.proofs.RowsFit.{rows-fit}
 use Rattle.loading.specs.Lists.{rows-by, rows-for, lists-for, list-for}
 use Rattle.loading.specs.Load.{patterns, tests}
@@ -71,7 +71,7 @@ module _ {t : List ℕ} (g : Known t) where
       let w = pattern-words (g .sig) (r .pattern) (h .pat) (h .read) in
       let n : length (pattern-code (h .pat)) ≤ pattern-limit = omega (arith, ap length (w .is-code), w .at-most) in
       subst (λ (o : Option Pattern). All (Fit (g .sig) t) (map (row-of (r .number) (r .plan)) (rows-by (g .sig) o))) (sym (h .read))
-      (all-map (row-of (r .number) (r .plan)) (λ (x : Row) (k : Good (g .sig) t x 0 × (length (code (kinds-of (g .sig)) x 0) ≤ 3 * pattern-limit)). record { good = k .0; short = k .1 }) (rows-fit g (h .pat) (w .well-formed) (first-kind g) (h .linear) n))
+      (all-map (row-of (r .number) (r .plan)) (λ (x : Row) (k : RowStands (g .sig) t x 0 × (length (code (kinds-of (g .sig)) x 0) ≤ 3 * pattern-limit)). record { good = k .0; short = k .1 }) (rows-fit g (h .pat) (w .well-formed) (first-kind g) (h .linear) n))
 
   all-fit : (rs : List Rule) → all (λ r. eqb (refusal-of-pattern (g .sig) (r .pattern)) 0) rs ≡ true → All (Fit (g .sig) t) (rows-all (g .sig) rs)
   all-fit [] e = none-left

@@ -7,7 +7,7 @@ use native.Mathlib.Omega.{arith}
 use lib.Dec.{leb, ltb}
 use lib.ListN.{length, drop}
 use Rattle.signature.proofs.Tests.{le-of, lt-of-not, ltb-yes, ltb-no}
-use Rattle.tree.specs.Limits.{tree-limit, default-plan}
+use Rattle.tree.specs.Limits.{row-limit, tree-limit, default-plan}
 use Rattle.tree.specs.Tree.{Line, Tree, compile}
 use Rattle.tree.specs.Words.{words, layout}
 use Rattle.tree.proofs.RunFacts.{length-layout}
@@ -16,9 +16,9 @@ use Rattle.table.specs.Limits.{limits, visit-bound}
 use Rattle.table.specs.Matrix.{tree, tree-words}
 use Rattle.table.specs.Rule.{total-weight}
 use Rattle.store.specs.Laid.{Holds}
-use Rattle.path.specs.Alive.{row-limit}
 use Rattle.path.specs.State.{row-stride}
-use Rattle.writer.specs.Write.{GivenRows, fits, answer, space-after, tree-of-rows, line-of}
+use Rattle.writer.specs.Write.{GivenRows, fits, answer, space-after, tree-of-rows}
+use Rattle.path.specs.Rows.{line-of}
 use Rattle.writer.specs.declared.write.Written.{Written}
 use Rattle.writer.specs.declared.write.Written.the-variants.{Done, TooLarge}
 use Rattle.loading.specs.Load.{tests}

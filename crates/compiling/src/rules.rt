@@ -1,18 +1,17 @@
 // The tree of the rules of a sound table, whose rows are loaded.
 use crate::compile::Compiled;
 use indexing::rules::index_rules;
+use path::rows::CURSORS;
+use path::rows::INDEX_ROOM;
+use path::rows::VISITS;
 use signature::decoded::DECODED;
 use signature::refusals::TREE_TOO_LARGE;
-use writer::write::CURSORS;
-use writer::write::INDEX_ROOM;
-use writer::write::VISITS;
 use writer::write::Written;
 use writer::write::write;
 ghost use Prim.Native.Nat.{_*_, _≤_};
 ghost use lib.ListN.{length};
 ghost use Rattle.pattern.specs.Limits.{pattern-limit};
-ghost use Rattle.tree.specs.Limits.{tree-limit, default-plan};
-ghost use Rattle.path.specs.Alive.{row-limit};
+ghost use Rattle.tree.specs.Limits.{row-limit, tree-limit, default-plan};
 ghost use Rattle.path.specs.State.{row-stride};
 ghost use Rattle.table.specs.Matrix.{tree-words};
 ghost use Rattle.table.specs.Calls.{TreeIn};

@@ -15,7 +15,7 @@ use Rattle.tree.specs.RunCall.{refusal}
 use Rattle.table.specs.Limits.{limits}
 use Rattle.table.specs.Calls.{DecideCall, start, refused, begin, long-table, decide-from, decide-booking}
 use Rattle.table.specs.Decide.{direct}
-use Rattle.run.specs.Outcome.{answer-of, outcome}
+use Rattle.run.specs.Outcome.{ran-answer, outcome}
 use Rattle.run.specs.declared.Ran.{Ran}
 use Rattle.loading.specs.Load.{InForce}
 use Rattle.opening.specs.Open.{OpenedAs, Started}
@@ -24,7 +24,7 @@ use Rattle.opening.specs.declared.open.Opened.the-variants.{Begun, Refused}
 use Rattle.deciding.specs.Decide.{Judging}
 
 module _ (ss table bs t rows : List ℕ) (o : Opened) (open-so : OpenedAs ss (long-table limits table) table o t rows) where
-  pub turned-down : (n : ℕ) → o ≡ Refused n → (r : Ran) → outcome r ≡ refusal n → DecideCall limits ss table bs (r .number) (answer-of r)
+  pub turned-down : (n : ℕ) → o ≡ Refused n → (r : Ran) → outcome r ≡ refusal n → DecideCall limits ss table bs (r .number) (ran-answer r)
   turned-down n e r q =
       let z : start limits ss (long-table limits table) table ≡ refused n = subst (λ x. OpenedAs ss (long-table limits table) table x t rows) e open-so in
       record { result-is = q ∙ sym (ap (λ x. decide-from x bs) z) }
@@ -39,13 +39,13 @@ module _ (ss table bs t rows : List ℕ) (o : Opened) (open-so : OpenedAs ss (lo
     from-start : (x : Option Value) → read-booking (force .known .sig) bs ≡ x → decide-from (start limits ss (long-table limits table) table) bs ≡ decide-booking (force .known .sig) (force .rs) x
     from-start x q = ap (λ z. decide-from z bs) (begun .started) ∙ ap (decide-booking (force .known .sig) (force .rs)) q
 
-    pub refused-13 : (r : Ran) → false ≡ is-some (read-booking (force .known .sig) bs) → outcome r ≡ refusal 13 → DecideCall limits ss table bs (r .number) (answer-of r)
+    pub refused-13 : (r : Ran) → false ≡ is-some (read-booking (force .known .sig) bs) → outcome r ≡ refusal 13 → DecideCall limits ss table bs (r .number) (ran-answer r)
     refused-13 r l q = record { result-is = q ∙ sym (from-start none (missing (read-booking (force .known .sig) bs) l)) }
 
     module _ (l : true ≡ is-some (read-booking (force .known .sig) bs)) where
       pub judging : Judging t table bs
       judging = let (v, q) = there (read-booking (force .known .sig) bs) l in record { used = used; total = total; rows = rows; force = force; value = v; booked = q }
 
-      pub answered : (r : Ran) → ((g : Judging t table bs) → outcome r ≡ (0, direct default-plan (g .force .known .sig) (g .force .rs) (g .value))) → DecideCall limits ss table bs (r .number) (answer-of r)
+      pub answered : (r : Ran) → ((g : Judging t table bs) → outcome r ≡ (0, direct default-plan (g .force .known .sig) (g .force .rs) (g .value))) → DecideCall limits ss table bs (r .number) (ran-answer r)
       unfolding judging
       answered r f = record { result-is = f judging ∙ sym (from-start (some (judging .value)) (judging .booked)) }

@@ -18,7 +18,7 @@ ghost use Rattle.builder.specs.Build.{row-room};
 ghost use Rattle.loading.specs.Add.{rows-room};
 ghost use Rattle.table.specs.Limits.{limits};
 ghost use Rattle.table.specs.Calls.{DecideCall};
-ghost use Rattle.run.specs.Outcome.{answer-of};
+ghost use Rattle.run.specs.Outcome.{ran-answer};
 
 // The call over lent workspaces.
 fn decide_in(
@@ -30,7 +30,7 @@ fn decide_in(
     work: &mut [u64],
 ) -> Ran
     requires { ⌜ (length (now t) ≡ decoded-length) × (rows-room ≤ length (now rows)) × (row-room ≤ length (now work)) ⌝ }
-    ensures { λ r. ⌜ DecideCall limits (now (ss .entry)) (now (table .entry)) (now (b .entry)) (r .number) (answer-of r) ⌝ }
+    ensures { λ r. ⌜ DecideCall limits (now (ss .entry)) (now (table .entry)) (now (b .entry)) (r .number) (ran-answer r) ⌝ }
 {
     let long = table.len() >= TABLE;
     let o = open(ss, long, table, t, rows, work);
@@ -46,7 +46,7 @@ fn decide_in(
 }
 
 pub fn decide(ss: &[u16], table: &[u16], b: &[u16]) -> Ran
-    ensures { λ r. ⌜ DecideCall limits (now (ss .entry)) (now (table .entry)) (now (b .entry)) (r .number) (answer-of r) ⌝ }
+    ensures { λ r. ⌜ DecideCall limits (now (ss .entry)) (now (table .entry)) (now (b .entry)) (r .number) (ran-answer r) ⌝ }
 {
     let mut t = [0u16; DECODED];
     let mut rows = [0u64; ROWS_ROOM];

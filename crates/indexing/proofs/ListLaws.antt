@@ -21,7 +21,7 @@ use Rattle.cell.proofs.Walk.{word-at}
 use Rattle.builder.proofs.NextLists.{words-filled}
 use Rattle.path.specs.State.{row-stride}
 use Rattle.path.specs.Wrote.{word-limit}
-use Rattle.writer.specs.Write.{RuleRow, GivenRow, RowIndexed, Before, Placed, Fit}
+use Rattle.path.specs.Rows.{RuleRow, GivenRow, RowIndexed, Before, RowKept, Fit}
 use Rattle.indexing.specs.Indexing.{row-of, GivenList, ListIndexed}
 
 -- an element of a list with one more
@@ -36,7 +36,7 @@ last-or (z ∷ xs) x (suc q) y e = go (last-or xs x q y e)
     go (inr (a, b)) = inr (ap suc a, b)
 
 -- a row of the table stays where later rows are filled
-pub placed-same : (sig : Signature) (t a tab tab′ : List ℕ) (r q : ℕ) (e : RuleRow) → length (code (kinds-of sig) (e .row) 0) ≤ 3 * pattern-limit → q < r → Before (row-stride * r) tab tab′ → Placed sig t a tab q e → Placed sig t a tab′ q e
+pub placed-same : (sig : Signature) (t a tab tab′ : List ℕ) (r q : ℕ) (e : RuleRow) → length (code (kinds-of sig) (e .row) 0) ≤ 3 * pattern-limit → q < r → Before (row-stride * r) tab tab′ → RowKept sig t a tab q e → RowKept sig t a tab′ q e
 placed-same sig t a tab tab′ r q e s l b w = let i = w .indexed in record {
   start = w .start;
   rest = w .rest;
@@ -72,7 +72,7 @@ module _ {t a : List ℕ} {from r room : ℕ} (g : GivenList t a from r room) (n
     pub near : p + length (codes todo) < word-limit
     pub short : fits done
     pub fit : fits todo
-    pub placed : (j : ℕ) (w : Row) → getElem? done j ≡ some w → Placed (g .known .sig) t a tab (r + j) (row-of number plan w)
+    pub placed : (j : ℕ) (w : Row) → getElem? done j ≡ some w → RowKept (g .known .sig) t a tab (r + j) (row-of number plan w)
     pub kept : Before (row-stride * r) tab₀ tab
 
   pub filling-start : Filling from r tab₀
@@ -164,7 +164,7 @@ module _ {t a : List ℕ} {from r room : ℕ} (g : GivenList t a from r room) (n
         kept = λ j l. b j (omega (arith, f .count)) ∙ f .kept j l;
       }
         where
-          mine : Placed (g .known .sig) t a tab′ q (row-of number plan (x .w))
+          mine : RowKept (g .known .sig) t a tab′ q (row-of number plan (x .w))
           mine = record {
             start = p + 1;
             rest = later;
@@ -173,6 +173,6 @@ module _ {t a : List ℕ} {from r room : ℕ} (g : GivenList t a from r room) (n
             indexed = rw (← row-length .0) i;
           }
 
-          go : (j : ℕ) (w : Row) → ((getElem? (f .done) j ≡ some w) × (j < length (f .done))) ⊎ ((j ≡ length (f .done)) × (x .w ≡ w)) → Placed (g .known .sig) t a tab′ (r + j) (row-of number plan w)
+          go : (j : ℕ) (w : Row) → ((getElem? (f .done) j ≡ some w) × (j < length (f .done))) ⊎ ((j ≡ length (f .done)) × (x .w ≡ w)) → RowKept (g .known .sig) t a tab′ (r + j) (row-of number plan w)
           go j w (inl (h, l)) = placed-same (g .known .sig) t a tab tab′ q (r + j) (row-of number plan w) (all-at (f .short) j w h .short) (omega (arith, f .count)) b (f .placed j w h)
           go j w (inr (h, k)) = let z : r + j ≡ q = omega (arith, h, f .count) in rw (z, ← k) mine

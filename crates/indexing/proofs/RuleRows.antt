@@ -8,7 +8,7 @@ use native.Mathlib.Omega.{arith}
 use lib.ListN.{length, length-append, length-map, getElem?}
 use Rattle.signature.specs.Signature.{Signature}
 use Rattle.signature.proofs.Tests.{none≢some, some-inj}
-use Rattle.writer.specs.Write.{RuleRow}
+use Rattle.path.specs.Rows.{RuleRow}
 use Rattle.table.specs.Rule.{Rule}
 use Rattle.loading.specs.Lists.{rows-for}
 use Rattle.indexing.specs.Indexing.{row-of, rule-rows, rows-all}

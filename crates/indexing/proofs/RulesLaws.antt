@@ -17,7 +17,7 @@ use Rattle.cell.specs.RowList.{entries}
 use Rattle.cell.proofs.Walk.{word-at}
 use Rattle.path.specs.State.{row-stride}
 use Rattle.path.specs.Wrote.{word-limit}
-use Rattle.writer.specs.Write.{RuleRow, Fit, AllPlaced, Placed}
+use Rattle.path.specs.Rows.{RuleRow, Fit, RowsKept, RowKept}
 use Rattle.table.specs.Limits.{limits, table-length}
 use Rattle.table.specs.Rule.{Rule}
 use Rattle.store.specs.Laid.{Holds}
@@ -59,7 +59,7 @@ module _ {t table lists : List ℕ} {room : ℕ} (g : GivenRules t table lists r
     pub near : from + length (lists-for (g .force .known .sig) (patterns after)) < word-limit
     pub many : r ≡ length (rows-all (g .force .known .sig) before)
     pub fit : All (Fit (g .force .known .sig) t) (rows-all (g .force .known .sig) after)
-    pub placed : AllPlaced (g .force .known .sig) t lists tab (rows-all (g .force .known .sig) before)
+    pub placed : RowsKept (g .force .known .sig) t lists tab (rows-all (g .force .known .sig) before)
 
   pub start : (tab : List ℕ) → Mid 1 0 0 0 tab
   start tab = record { before = []; after = g .force .rs; walked = walk-start (g .force .rs); code-is = g .force .ready .code-is; within = omega arith; near = omega (arith, g .near); many = refl; fit = g .fit; placed = λ r e i. none≢some i }
@@ -135,10 +135,10 @@ module _ {t table lists : List ℕ} {room : ℕ} (g : GivenRules t table lists r
         unfolding given
         said = gave (given room' x)
 
-        mine : (j : ℕ) (d : RuleRow) → getElem? (map named ws) j ≡ some d → Placed (g .force .known .sig) t lists tab′ (r + j) d
+        mine : (j : ℕ) (d : RuleRow) → getElem? (map named ws) j ≡ some d → RowKept (g .force .known .sig) t lists tab′ (r + j) d
         mine j d h =
             let (w, a, b) = at-made named ws j d h in
-            subst (λ (z : RuleRow). Placed (g .force .known .sig) t lists tab′ (r + j) z) (ap₂ (λ (x y : ℕ). row-of x y w) (step .reads .number-is) (step .reads .plan-is) ∙ b) (said .placed j w a)
+            subst (λ (z : RuleRow). RowKept (g .force .known .sig) t lists tab′ (r + j) z) (ap₂ (λ (x y : ℕ). row-of x y w) (step .reads .number-is) (step .reads .plan-is) ∙ b) (said .placed j w a)
 
         in-all : (k : ℕ) (d : RuleRow) → getElem? (rows-all (g .force .known .sig) (l .before)) k ≡ some d → getElem? (rows-all (g .force .known .sig) (g .force .rs)) k ≡ some d
         in-all k d h = subst (λ (z : List RuleRow). getElem? z k ≡ some d) (sym (all-append (g .force .known .sig) (l .before) (l .after)) ∙ ap (rows-all (g .force .known .sig)) (sym (l .walked .are))) (at-left (rows-all (g .force .known .sig) (l .before)) (rows-all (g .force .known .sig) (l .after)) k d h)
@@ -156,6 +156,6 @@ module _ {t table lists : List ℕ} {room : ℕ} (g : GivenRules t table lists r
           placed = λ k d h. go k d (at-either (rows-all (g .force .known .sig) (l .before)) (map named ws) k d (subst (λ (z : List RuleRow). getElem? z k ≡ some d) (all-last (g .force .known .sig) (l .before) (step .rule)) h));
         }
           where
-            go : (k : ℕ) (d : RuleRow) → (getElem? (rows-all (g .force .known .sig) (l .before)) k ≡ some d) ⊎ ((j : ℕ) × (k ≡ length (rows-all (g .force .known .sig) (l .before)) + j) × (getElem? (map named ws) j ≡ some d)) → Placed (g .force .known .sig) t lists tab′ k d
+            go : (k : ℕ) (d : RuleRow) → (getElem? (rows-all (g .force .known .sig) (l .before)) k ≡ some d) ⊎ ((j : ℕ) × (k ≡ length (rows-all (g .force .known .sig) (l .before)) + j) × (getElem? (map named ws) j ≡ some d)) → RowKept (g .force .known .sig) t lists tab′ k d
             go k d (inl h) = placed-same (g .force .known .sig) t lists tab tab′ r k d (all-at (g .fit) k d (in-all k d h) .short) (omega (arith, l .many, at-below (rows-all (g .force .known .sig) (l .before)) k d h)) (said .kept) (l .placed k d h)
             go k d (inr (j, h, m)) = let z : k ≡ r + j = omega (arith, h, l .many) in rw z (mine j d m)

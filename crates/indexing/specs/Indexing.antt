@@ -12,7 +12,7 @@ use Rattle.cell.specs.Coded.{kinds-of}
 use Rattle.cell.specs.RowList.{entries}
 use Rattle.path.specs.State.{row-stride}
 use Rattle.path.specs.Wrote.{word-limit}
-use Rattle.writer.specs.Write.{RuleRow, Fit, Before, Placed, AllPlaced}
+use Rattle.path.specs.Rows.{RuleRow, Fit, Before, RowKept, RowsKept}
 use Rattle.table.specs.Limits.{limits}
 use Rattle.table.specs.Rule.{Rule}
 use Rattle.store.specs.Laid.{Holds}
@@ -46,7 +46,7 @@ pub record GivenList (t a : List ℕ) (from r room : ℕ) : Type 0 where
 -- they are in it as rows of one rule, q is the row behind the last, and the rows before r are as they were
 pub record ListIndexed (sig : Signature) (t a : List ℕ) (ws : List Row) (number plan r q : ℕ) (tab tab′ : List ℕ) : Type 0 where
   pub many : q ≡ r + length ws
-  pub placed : (j : ℕ) (w : Row) → getElem? ws j ≡ some w → Placed sig t a tab′ (r + j) (row-of number plan w)
+  pub placed : (j : ℕ) (w : Row) → getElem? ws j ≡ some w → RowKept sig t a tab′ (r + j) (row-of number plan w)
   pub kept : Before (row-stride * r) tab tab′
 
 -- rules in force with their lists of rows, and room for all rows
@@ -61,4 +61,4 @@ pub record GivenRules (t table lists : List ℕ) (room : ℕ) : Type 0 where
 -- all rows are in it, so many
 pub record RulesIndexed (sig : Signature) (t lists : List ℕ) (rs : List Rule) (n : ℕ) (tab : List ℕ) : Type 0 where
   pub many : n ≡ length (rows-all sig rs)
-  pub placed : AllPlaced sig t lists tab (rows-all sig rs)
+  pub placed : RowsKept sig t lists tab (rows-all sig rs)

@@ -5,7 +5,7 @@ use path::rows::ROW;
 ghost use Prim.Native.Nat.{_+_, _*_, _≤_, _<_};
 ghost use lib.ListN.{length};
 ghost use Rattle.path.specs.State.{row-stride};
-ghost use Rattle.writer.specs.Write.{GivenRow, RowCounted, RowIndexed, Before};
+ghost use Rattle.path.specs.Rows.{GivenRow, RowCounted, RowIndexed, Before};
 ghost use Rattle.path.specs.Wrote.{word-limit};
 
 const CELL: usize = 3;

@@ -1,24 +1,17 @@
 // What one node of a tree asks for.
 use booking::walk;
 use signature::decoded;
+use tree::words::DEFAULT;
+use tree::words::HIT;
+use tree::words::SKIP;
+use tree::words::TEST;
+use tree::words::TEST_WORDS;
 ghost use mathlib.Core.Path.{_≡_};
 ghost use Prim.Native.Nat.{_<_};
 ghost use lib.ListN.{length};
 ghost use Rattle.signature.specs.Decoded.{Known};
 ghost use Rattle.nodes.specs.Parts.{Parts};
 ghost use Rattle.nodes.specs.Step.{link-to, or-0, step-at};
-
-// The first words of a node: default leaf, hit leaf, test, skip.
-pub const DEFAULT: u16 = 0;
-
-pub const HIT: u16 = 1;
-
-pub const TEST: u16 = 2;
-
-pub const SKIP: u16 = 3;
-
-// The words of a test before its links.
-pub const TEST_WORDS: usize = 3;
 
 // The default; the hit leaf's answer; so many words on in the tree and in the booking; or the tree is broken.
 pub enum Step {

@@ -11,7 +11,8 @@ use lib.Seq.{getD-set-same, getD-set-other}
 use Rattle.signature.specs.Set.{bit, Lowest}
 use Rattle.signature.proofs.SetLaws.{bit-zero}
 use Rattle.signature.proofs.Tests.{eqb-eq, eqb-ne, eqb-no, eqb-self}
-use Rattle.path.specs.Alive.{member, row-limit, FirstAlive}
+use Rattle.tree.specs.Limits.{row-limit}
+use Rattle.path.specs.Alive.{member, FirstAlive}
 use Rattle.path.specs.State.{one-if}
 
 pub member-is : (s : List ℕ) (r : ℕ) → eqb (bit (getD s (r / 64) 0) (r % 64)) 1 ≡ member s r

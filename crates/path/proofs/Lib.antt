@@ -1,6 +1,7 @@
 pub mod AliveLaws
-pub mod ColumnLaws
-pub mod CursorLaws
-pub mod LeafLaws
-pub mod PairLaws
+pub mod HeadSets
+pub mod IndexLaws
+pub mod StandingLaws
+pub mod StateLaws
+pub mod StepLaws
 pub mod VariableLaws

@@ -7,10 +7,6 @@ use lib.Dec.{eqb}
 use lib.ListN.{getD}
 use Rattle.signature.specs.Set.{bit, set-limit}
 
--- the rows of a table: "rules weighing at most 256 in all"
-abbrev pub row-limit : ℕ
-row-limit = 256
-
 -- the words of a set of them
 abbrev pub set-words : ℕ
 set-words = 4

@@ -1,6 +1,5 @@
 pub mod Alive
-pub mod Column
-pub mod Leaf
+pub mod Rows
 pub mod Standing
 pub mod State
 pub mod Variables

@@ -25,15 +25,15 @@ refined-cell sig k tag allowed = ltb tag 256 || not (eqb allowed (mask (first (h
 module _ (sig : Signature) (t : List ℕ) where
   -- a row of kind k whose constructors are of the kinds of their places
   abbrev mutual
-    pub Good : Row → ℕ → Type 0
-    Good (named vs c rs) k = Known (kinds-of sig) t k c × (memb c (heads sig k) ≡ true) × Once vs × Goods rs (arguments sig c)
-    Good (free vs cs) k = (k < 256) × Within (first (heads sig k)) cs × Among cs (heads sig k) × Once vs
+    pub RowStands : Row → ℕ → Type 0
+    RowStands (named vs c rs) k = Known (kinds-of sig) t k c × (memb c (heads sig k) ≡ true) × Once vs × RowsStand rs (arguments sig c)
+    RowStands (free vs cs) k = (k < 256) × Within (first (heads sig k)) cs × Among cs (heads sig k) × Once vs
 
-    pub Goods : Rows → List ℕ → Type 0
-    Goods rnil [] = Unit {0}
-    Goods rnil (k ∷ ks) = ⊥
-    Goods (rcons r rs) [] = ⊥
-    Goods (rcons r rs) (k ∷ ks) = Good r k × Goods rs ks
+    pub RowsStand : Rows → List ℕ → Type 0
+    RowsStand rnil [] = Unit {0}
+    RowsStand rnil (k ∷ ks) = ⊥
+    RowsStand (rcons r rs) [] = ⊥
+    RowsStand (rcons r rs) (k ∷ ks) = RowStands r k × RowsStand rs ks
 
   -- columns of kinds ks: wildcards that no cell stands for, then `own` columns whose cells are the words of a from `at` to `stop`
   pub record At (a : List ℕ) (stop at own : ℕ) (ks : List ℕ) (rs : Rows) : Type 0 where
@@ -43,7 +43,7 @@ module _ (sig : Signature) (t : List ℕ) where
     pub rest : List ℕ
     pub kinds-are : ks ≡ virt ++ mine
     pub columns-are : rs ≡ rappend (open-rows sig virt) qs
-    pub good : Goods qs mine
+    pub good : RowsStand qs mine
     pub code-is : drop at a ≡ wordss (cellss (kinds-of sig) qs mine) ++ rest
     pub within : at ≤ length a
     pub own-is : own ≡ length mine

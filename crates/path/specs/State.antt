@@ -21,8 +21,13 @@ options f i (suc n) = f i ∷ options f (suc i) n
 
 -- ---- the table of the rows: where a row's words begin and end, its rule, its plan, and how many columns it has of its own at each cell
 
+-- the words of a row before those numbers
+abbrev pub row-head : ℕ
+row-head = 4
+
+-- such a number at each cell and one behind the last, and 3 words that are free: 72 is a multiple of 8
 abbrev pub row-stride : ℕ
-row-stride = 72
+row-stride = row-head + pattern-limit + 1 + 3
 
 abbrev pub start-of : List ℕ → ℕ → ℕ
 start-of rows r = getD rows (row-stride * r) 0
@@ -37,7 +42,7 @@ abbrev pub plan-of : List ℕ → ℕ → ℕ
 plan-of rows r = getD rows (row-stride * r + 3) 0
 
 abbrev pub own-of : List ℕ → ℕ → ℕ → ℕ
-own-of rows r q = getD rows (row-stride * r + 4 + q) 0
+own-of rows r q = getD rows (row-stride * r + row-head + q) 0
 
 -- the word where cell q of row r begins
 abbrev pub cell-of : List ℕ → ℕ → ℕ → ℕ

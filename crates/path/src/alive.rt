@@ -3,18 +3,20 @@ use sets::set::has as has_bit;
 use sets::set::lowest;
 use sets::set::with;
 use sets::set::without;
+use tree::words::ROWS;
 ghost use mathlib.Core.Path.{_≡_};
 ghost use mathlib.Core.Bool.{cond};
 ghost use Prim.Native.Nat.{ℕ, _≤_, _<_, min};
 ghost use lib.Dec.{eqb};
 ghost use lib.ListN.{length};
-ghost use Rattle.path.specs.Alive.{member, row-limit, set-words, FirstAlive};
-
-pub const SET_WORDS: usize = 4;
+ghost use Rattle.tree.specs.Limits.{row-limit};
+ghost use Rattle.path.specs.Alive.{member, set-words, FirstAlive};
 
 const WORD: usize = 64;
 
-pub(crate) fn has(s: &[u64; SET_WORDS], r: usize) -> bool
+pub const SET_WORDS: usize = ROWS / WORD;
+
+pub fn has(s: &[u64; SET_WORDS], r: usize) -> bool
     requires { ⌜ r < row-limit ⌝ }
     ensures { λ b. ⌜ b ≡ member (now (s .entry)) r ⌝ }
 {

@@ -1,14 +1,12 @@
 // A line for a pattern.
-use libc::STDOUT_FILENO;
-use matching::places::UNBOUND;
-use matching::places::VARIABLES;
 use matching::places::places;
 use matching::takes::takes;
+use shown::print;
 use weighing::weight::Weighed;
 ghost use Rattle.signature.specs.Decoded.{Known};
 
 // The refusal of a pattern by itself: 7, 8, 9, or 0 for none.
-fn refusal(t: &[u16], p: &[u16]) -> u64
+fn refusal(t: &[u16], p: &[u16]) -> usize
     requires { ⌜ Known (now t) ⌝ }
 {
     if !reading::read::well_formed(t, p) {
@@ -23,24 +21,6 @@ fn refusal(t: &[u16], p: &[u16]) -> u64
     0
 }
 
-fn binding(x: usize, place: u16) {
-    if place == UNBOUND {
-        return;
-    }
-    io::write_all(STDOUT_FILENO, b" ");
-    io::print_decimal(STDOUT_FILENO, x as u64);
-    io::write_all(STDOUT_FILENO, b":");
-    io::print_decimal(STDOUT_FILENO, place as u64);
-}
-
-fn bindings(out: &[u16; VARIABLES]) {
-    let mut x = 0;
-    while x < VARIABLES {
-        binding(x, out[x]);
-        x += 1;
-    }
-}
-
 // Whether the pattern takes the booking.
 fn answer(t: &[u16], p: &[u16], b: &[u16])
     requires { ⌜ Known (now t) ⌝ }
@@ -52,23 +32,23 @@ fn answer(t: &[u16], p: &[u16], b: &[u16])
         return;
     }
     if !takes(t, p, b) {
-        io::write_all(STDOUT_FILENO, b" no");
+        print::text(b" no");
         return;
     }
-    io::write_all(STDOUT_FILENO, b" yes");
+    print::text(b" yes");
     let out = places(t, p, b);
-    bindings(&out);
+    print::bindings(&out);
 }
 
 pub fn line(t: &[u16], p: &[u16])
     requires { ⌜ Known (now t) ⌝ }
 {
     let n = refusal(t, p);
-    io::print_decimal(STDOUT_FILENO, n);
+    print::number(n);
     if n == 0 {
         answer(t, p, &[0u16, 1, 5]);
         answer(t, p, &[0u16, 2, 5]);
         answer(t, p, &[0u16, 3, 4]);
     }
-    io::write_all(STDOUT_FILENO, b"\n");
+    print::end();
 }

@@ -7,8 +7,8 @@ use Prim.Native.Nat.{ℕ, zero, suc, _+_, _-_, _≤_, _<_}
 use native.Mathlib.Numerals.{add-one}
 use native.Mathlib.Omega.{arith}
 use lib.Dec.{leb}
-use lib.ListN.{length, getElem?, getD, drop, take, set, length-drop}
-use lib.Seq.{take-all}
+use borrow.Rule.Slice.PartAt.{part-to-end}
+use lib.ListN.{length, getElem?, getD, drop, take, set}
 use Rattle.signature.specs.Lists.{_>>=_, require}
 use Rattle.signature.proofs.ListFacts.{at-getD, at-out}
 use Rattle.signature.proofs.Tests.{leb-yes, leb-no}
@@ -18,9 +18,6 @@ use Rattle.tree.specs.Limits.{last-number}
 use Rattle.tree.specs.Run.{bound}
 use Rattle.tree.specs.RunCall.{refusal, run-at}
 use Rattle.run.specs.Hit.{hit-at, hit-binds}
-
-pub to-end : (w : List ℕ) (at : ℕ) → take (length w - at) (drop at w) ≡ drop at w
-to-end w at = take-all (length w - at) (drop at w) (omega (arith, length-drop at w))
 
 -- too few words for a pair
 pub bound-short : (n m : ℕ) (ws visits places : List ℕ) → 0 < n → length ws < 2 → bound n m ws visits places ≡ none
@@ -55,7 +52,7 @@ module _ (n m : ℕ) (ws visits places : List ℕ) (h : 0 < n) (l : 2 ≤ length
       no-visit v = first-pair ∙ rw (leb-yes m (getD ws 0 0) a, leb-yes (getD ws 0 0) last-variable b, at-out visits (getD ws 1 0) v)
 
       pub next-pair : getD ws 1 0 < length visits → bound n m ws visits places ≡ bound (n - 1) (getD ws 0 0 + 1) (take (length ws - 2) (drop 2 ws)) visits (set places (getD ws 0 0) (getD visits (getD ws 1 0) 0))
-      next-pair v = first-pair ∙ rw (leb-yes m (getD ws 0 0) a, leb-yes (getD ws 0 0) last-variable b, at-getD visits (getD ws 1 0) v, to-end ws 2)
+      next-pair v = first-pair ∙ rw (leb-yes m (getD ws 0 0) a, leb-yes (getD ws 0 0) last-variable b, at-getD visits (getD ws 1 0) v, part-to-end ws 2)
 
 -- what the pairs give, as the answer of a run
 pub unbound-pairs : (r p n : ℕ) (ws visits : List ℕ) → bound n 0 ws visits unbound ≡ none → refusal 15 ≡ run-at (hit-binds r p n ws visits)
@@ -93,4 +90,4 @@ module _ (t visits : List ℕ) (h : 4 ≤ length t) where
     pub rule-in : getD t 1 0 ≤ last-number → run-at (hit-binds (getD t 1 0) (getD t 2 0) (getD t 3 0) (take (length t - 4) (drop 4 t)) visits) ≡ run-at (hit-at t visits)
     rule-in b =
         let q : hit-at t visits ≡ hit-binds (getD t 1 0) (getD t 2 0) (getD t 3 0) (drop 4 t) visits = hit-words ∙ rw (leb-yes 1 (getD t 1 0) (omega arith), leb-yes (getD t 1 0) last-number b) in
-        rw (to-end t 4) (ap run-at (sym q))
+        rw (part-to-end t 4) (ap run-at (sym q))

@@ -5,6 +5,7 @@ use mathlib.Core.Option.{some}
 use mathlib.Core.Bool.{true, false}
 use Prim.Native.Nat.{ℕ}
 use lib.ListN.{length}
+use Rattle.signature.specs.Decoded.{Known}
 use Rattle.signature.specs.Lists.{is-some}
 use Rattle.signature.specs.Read.{read-signature, read-booking}
 use Rattle.signature.specs.Signature.{Signature}
@@ -15,30 +16,33 @@ use Rattle.tree.specs.Answer.{Answer}
 use Rattle.tree.specs.Leaf.{Treed}
 use Rattle.tree.specs.Limits.{default-plan}
 use Rattle.tree.specs.Run.{run, run-words}
-use Rattle.tree.specs.RunCall.{RunCall, refusal, run-at, run-signature}
+use Rattle.tree.specs.RunCall.{RunCall, refusal, run-at, run-booking, run-signature}
 use Rattle.tree.specs.Tree.{Tree}
 use Rattle.tree.specs.Words.{layout}
 use Rattle.tree.proofs.Laws as tree-laws
 use Rattle.run.specs.Laws.{Laws}
-use Rattle.run.specs.Outcome.{answer-of, outcome}
+use Rattle.run.specs.Outcome.{ran-answer, outcome}
 use Rattle.run.specs.Parts.{Booked}
 use Rattle.run.specs.declared.Ran.{Ran}
 
-pub refused-1 : (ss tree bs : List ℕ) (r : Ran) → false ≡ is-some (read-signature ss) → outcome r ≡ refusal 1 → RunCall ss tree bs (r .number) (answer-of r)
+pub refused-1 : (ss tree bs : List ℕ) (r : Ran) → false ≡ is-some (read-signature ss) → outcome r ≡ refusal 1 → RunCall ss tree bs (r .number) (ran-answer r)
 refused-1 ss tree bs r e q = record { result-is = q ∙ rw (missing (read-signature ss) e) }
 
-module _ {ss t : List ℕ} (o : Of ss t) (tree bs : List ℕ) where
-  pub refused-13 : (r : Ran) → false ≡ is-some (read-booking (o .known .sig) bs) → outcome r ≡ refusal 13 → RunCall ss tree bs (r .number) (answer-of r)
-  refused-13 r e q = record { result-is = q ∙ rw (o .read, missing (read-booking (o .known .sig) bs) e) }
+pub decoded-run : {ss t : List ℕ} (o : Of ss t) (tree bs : List ℕ) (r : Ran) → ((g : Known t) → outcome r ≡ run-booking (g .sig) tree (read-booking (g .sig) bs)) → RunCall ss tree bs (r .number) (ran-answer r)
+decoded-run o tree bs r f = record { result-is = f (o .known) ∙ rw (o .read) }
 
-  pub booked : true ≡ is-some (read-booking (o .known .sig) bs) → Booked t bs
-  booked e = let (v, r) = there (read-booking (o .known .sig) bs) e in record { known = o .known; value = v; read = r }
+module _ {t : List ℕ} (g : Known t) (tree bs : List ℕ) where
+  pub refused-13 : (r : Ran) → false ≡ is-some (read-booking (g .sig) bs) → outcome r ≡ refusal 13 → outcome r ≡ run-booking (g .sig) tree (read-booking (g .sig) bs)
+  refused-13 r e q = q ∙ rw (missing (read-booking (g .sig) bs) e)
 
-  pub walked : (r : Ran) (e : true ≡ is-some (read-booking (o .known .sig) bs)) → ((k : Booked t bs) → outcome r ≡ run-at (run default-plan (length tree) (k .known .sig) tree 0 (vcons (k .value) vnil) 0 [])) → RunCall ss tree bs (r .number) (answer-of r)
-  walked r e f = go (there (read-booking (o .known .sig) bs) e)
+  pub booked : true ≡ is-some (read-booking (g .sig) bs) → Booked t bs
+  booked e = let (v, r) = there (read-booking (g .sig) bs) e in record { known = g; value = v; read = r }
+
+  pub walked : (r : Ran) (e : true ≡ is-some (read-booking (g .sig) bs)) → ((k : Booked t bs) → outcome r ≡ run-at (run default-plan (length tree) (k .known .sig) tree 0 (vcons (k .value) vnil) 0 [])) → outcome r ≡ run-booking (g .sig) tree (read-booking (g .sig) bs)
+  walked r e f = go (there (read-booking (g .sig) bs) e)
     where
-      go : (v : Value) × (read-booking (o .known .sig) bs ≡ some v) → RunCall ss tree bs (r .number) (answer-of r)
-      go (v, q) = record { result-is = f (record { known = o .known; value = v; read = q }) ∙ rw (o .read, q) }
+      go : (v : Value) × (read-booking (g .sig) bs ≡ some v) → outcome r ≡ run-booking (g .sig) tree (read-booking (g .sig) bs)
+      go (v, q) = f (record { known = g; value = v; read = q }) ∙ rw q
 
 not-refused : (ss bs behind : List ℕ) (sig : Signature) (v : Value) (t : Tree) → read-signature ss ≡ some sig → read-booking sig bs ≡ some v → Treed sig (0 ∷ []) 0 t → (number : ℕ) (a : Answer) → RunCall ss (layout t 0 ++ behind) bs number a → number ≡ 0
 not-refused ss bs behind sig v t e f h number a c =

@@ -5,6 +5,7 @@ use mathlib.Core.Option.{some}
 use Prim.Native.Nat.{ℕ, _+_, _-_, _≤_, _<_}
 use native.Mathlib.Numerals.{add-one}
 use native.Mathlib.Omega.{arith}
+use borrow.Rule.Slice.PartAt.{part-to-end}
 use lib.ListN.{length, drop, take, set}
 use lib.Seq.{drop-drop, take-suc-set}
 use Rattle.signature.specs.Lawful.{OfKinds, of-kinds-nil, of-kinds-cons}
@@ -20,7 +21,6 @@ use Rattle.nodes.specs.declared.node.Step.{Step}
 use Rattle.nodes.specs.declared.node.Step.the-variants.{Default, Hit, On, Broken}
 use Rattle.run.specs.Hit.{hit-at}
 use Rattle.run.specs.Parts.{Booked}
-use Rattle.run.proofs.BindLaws.{to-end}
 use Rattle.run.proofs.StepLaw.{run-from, Leads, More, step-law}
 
 -- the node whose words are t is next, with the words b left
@@ -73,7 +73,7 @@ module _ {table book : List ℕ} {k : Booked table book} {tree visits : List ℕ
         kinds = more .kinds;
         values = more .values;
         kinded = more .kinded;
-        words = to-end b m ∙ ap (drop m) (h .words) ∙ sym (more .words);
-        rest = to-end t d ∙ ap (drop d) (h .rest) ∙ drop-drop d node tree;
+        words = part-to-end b m ∙ ap (drop m) (h .words) ∙ sym (more .words);
+        rest = part-to-end t d ∙ ap (drop d) (h .rest) ∙ drop-drop d node tree;
         goes = h .goes ∙ more .goes ∙ rw (add-one n, take-suc-set visits n place l);
       }

@@ -1,5 +1,11 @@
 // The answers of a run: a refusal, the default, and what a hit leaf binds.
 use crate::Ran;
+use pattern::limits::LAST_INDEX;
+use pattern::limits::UNBOUND;
+use pattern::limits::VARIABLES;
+use signature::refusals::TREE_BROKEN;
+use tree::words::HIT_WORDS;
+use tree::words::LAST_NUMBER;
 ghost use mathlib.Core.Path.{_≡_};
 ghost use mathlib.Core.Option.{some};
 ghost use Rattle.tree.specs.Answer.{no-rule};
@@ -7,20 +13,6 @@ ghost use Rattle.tree.specs.Limits.{default-plan};
 ghost use Rattle.tree.specs.RunCall.{refusal, run-at};
 ghost use Rattle.run.specs.Outcome.{outcome};
 ghost use Rattle.run.specs.Hit.{hit-at, hit-binds};
-
-// The tree is broken.
-pub const TREE_BROKEN: u16 = 15;
-
-pub const LAST_NUMBER: u16 = 999;
-
-pub const LAST_VARIABLE: usize = 15;
-
-pub const VARIABLES: usize = 16;
-
-pub const UNBOUND: u16 = 65535;
-
-// The words of a hit leaf before its pairs.
-pub const HIT_WORDS: usize = 4;
 
 pub fn refused(n: u16) -> Ran
     ensures { λ r. ⌜ outcome r ≡ refusal n ⌝ }
@@ -61,7 +53,7 @@ fn bind(rule: u16, plan: u16, count: usize, pairs: &[u16], visits: &[u16]) -> Ra
         if x < least {
             return refused(TREE_BROKEN);
         }
-        if LAST_VARIABLE < x {
+        if LAST_INDEX < x {
             return refused(TREE_BROKEN);
         }
         if visits.len() <= v {

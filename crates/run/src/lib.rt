@@ -2,24 +2,26 @@
 pub mod leaf;
 pub mod promises;
 
-use crate::leaf::TREE_BROKEN;
-use crate::leaf::VARIABLES;
 use booking::walk;
 use booking::walk::BOOKING_LIMIT;
 use decoding::decode;
 use nodes::node;
 use nodes::node::Step;
+use pattern::limits::VARIABLES;
 use signature::decoded;
 use signature::refusals::BOOKING_UNLAWFUL;
 use signature::refusals::SIGNATURE_UNLAWFUL;
+use signature::refusals::TREE_BROKEN;
 ghost use mathlib.Core.Path.{_≡_};
 ghost use mathlib.Core.List.{[]};
 ghost use lib.ListN.{length};
+ghost use Rattle.signature.specs.Decoded.{Known};
+ghost use Rattle.signature.specs.Read.{read-booking};
 ghost use Rattle.signature.specs.Value.{vcons, vnil};
 ghost use Rattle.tree.specs.Limits.{default-plan};
 ghost use Rattle.tree.specs.Run.{run as run-of};
-ghost use Rattle.tree.specs.RunCall.{run-at, RunCall};
-ghost use Rattle.run.specs.Outcome.{answer-of, outcome};
+ghost use Rattle.tree.specs.RunCall.{run-at, run-booking, RunCall};
+ghost use Rattle.run.specs.Outcome.{outcome, ran-answer};
 ghost use Rattle.run.specs.Parts.{Booked};
 
 // The answer of a run: the refusal's number or 0, the rule, its plan, and a place for each variable.
@@ -65,15 +67,23 @@ fn walk_tree(table: &[u16], tree: &[u16], book: &[u16]) -> Ran
     }
 }
 
+// Under a signature that is decoded already: refusals 13 and 15.
+pub fn run_decoded(t: &[u16], tree: &[u16], b: &[u16]) -> Ran
+    requires { ⌜ Known (now t) ⌝ }
+    ensures { λ r. ⌜ ((g : Known (now (t .entry))) → outcome r ≡ run-booking (g .sig) (now (tree .entry)) (read-booking (g .sig) (now (b .entry)))) ⌝ }
+{
+    if !walk::lawful(t, b) {
+        return leaf::refused(BOOKING_UNLAWFUL);
+    }
+    walk_tree(t, tree, b)
+}
+
 pub fn run(ss: &[u16], tree: &[u16], b: &[u16]) -> Ran
-    ensures { λ r. ⌜ RunCall (now (ss .entry)) (now (tree .entry)) (now (b .entry)) (r .number) (answer-of r) ⌝ }
+    ensures { λ r. ⌜ RunCall (now (ss .entry)) (now (tree .entry)) (now (b .entry)) (r .number) (ran-answer r) ⌝ }
 {
     let mut t = [0u16; decoded::DECODED];
     if !decode::decode(ss, &mut t) {
         return leaf::refused(SIGNATURE_UNLAWFUL);
     }
-    if !walk::lawful(&t, b) {
-        return leaf::refused(BOOKING_UNLAWFUL);
-    }
-    walk_tree(&t, tree, b)
+    run_decoded(&t, tree, b)
 }

@@ -2,6 +2,7 @@
 use Prim.Native.Nat.{ℕ, _+_, _*_}
 use Rattle.signature.specs.Limits.{booking-limit, argument-limit}
 use Rattle.pattern.specs.Limits.{pattern-limit}
+use Rattle.tree.specs.Limits.{row-limit}
 
 pub record Limits : Type 0 where
   -- "at most 64 rules"
@@ -10,7 +11,7 @@ pub record Limits : Type 0 where
   pub weight : ℕ
 
 abbrev pub limits : Limits
-limits = record { rules = 64; weight = 256 }
+limits = record { rules = 64; weight = row-limit }
 
 -- "the rule count, then per rule ..": the first rule stands at this index
 abbrev pub rules-at : ℕ

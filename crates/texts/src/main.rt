@@ -1,10 +1,11 @@
 // Texts of every kind through the function of the text program: for each file that list.txt names, its name and what is printed.
 use answering::answer::answer;
 use format::whole::TEXT_LIMIT;
-use libc::STDOUT_FILENO;
 use numbers::bytes::NEWLINE;
 use numbers::bytes::span;
 use printing::print::PRINT_LIMIT;
+use shown::file::read;
+use shown::print;
 
 // The bytes of list.txt at most.
 const NAMES: usize = 16384;
@@ -13,18 +14,13 @@ const NAMES: usize = 16384;
 const READ: usize = TEXT_LIMIT + 1;
 
 fn show(name: &[u8]) {
-    io::write_all(STDOUT_FILENO, name);
-    io::write_all(STDOUT_FILENO, b"\n");
-    let fd = os::open_read(name);
-    if fd < 0 {
-        return;
-    }
+    print::text(name);
+    print::end();
     let mut text = [0u8; READ];
-    let n = io::read_full(fd, &mut text);
-    libc::close(fd);
+    let n = read(name, &mut text);
     let mut out = [0u8; PRINT_LIMIT];
     let m = answer(&text[..n], &mut out);
-    io::write_all(STDOUT_FILENO, &out[..m]);
+    print::text(&out[..m]);
 }
 
 fn show_all(names: &[u8]) {
@@ -42,11 +38,6 @@ fn show_all(names: &[u8]) {
 
 fn main() {
     let mut names = [0u8; NAMES];
-    let fd = os::open_read(b"list.txt");
-    if fd < 0 {
-        return;
-    }
-    let n = io::read_full(fd, &mut names);
-    libc::close(fd);
+    let n = read(b"list.txt", &mut names);
     show_all(&names[..n]);
 }

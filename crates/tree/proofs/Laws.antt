@@ -18,6 +18,7 @@ use Rattle.tree.specs.Run.{run-words}
 use Rattle.tree.specs.Tree.{Tree}
 use Rattle.tree.specs.Words.{words, layout}
 use Rattle.tree.proofs.CompiledFacts.{compiled-only}
+use Rattle.tree.proofs.NodeFacts.{nodes-there, nodes-linked, nodes-rise}
 use Rattle.tree.proofs.RunFacts.{length-layout, run-walks, to-answer}
 use Rattle.tree.proofs.RunFuel.{run-enough}
 use Rattle.tree.proofs.TreeFacts.{walk}
@@ -33,4 +34,7 @@ laws = record {
   counts-words = length-layout;
   never-broken = never-broken;
   run-bound = run-enough;
+  nodes-there = λ dft sig ws bs. nodes-there sig ws dft bs;
+  nodes-linked = nodes-linked;
+  nodes-rise = nodes-rise;
 }

@@ -1,5 +1,6 @@
 pub mod PathsAgree
 pub mod CompiledFacts
+pub mod NodeFacts
 pub mod RowPlaces
 pub mod RunFacts
 pub mod RunFuel

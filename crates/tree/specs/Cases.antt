@@ -7,7 +7,7 @@ use lib.ListN.{set}
 use Rattle.signature.specs.Cases.{T, words-T}
 use Rattle.pattern.specs.Places.{unbound}
 use Rattle.tree.specs.Answer.{no-rule}
-use Rattle.tree.specs.Run.{run-words}
+use Rattle.tree.specs.Run.{run-words, nodes-words}
 use Rattle.tree.specs.RunCall.{refusal, run-signature}
 use Rattle.signature.specs.Read.{read-signature}
 
@@ -20,6 +20,8 @@ pub record Cases : Type 0 where
   pub runs-7 : run-signature (read-signature words-T) tree-T (0 ∷ 1 ∷ 5 ∷ []) ≡ (0, record { rule = 7; plan = 40; places = set unbound 0 2 })
   pub runs-9 : run-signature (read-signature words-T) tree-T (0 ∷ 2 ∷ 5 ∷ []) ≡ (0, record { rule = 9; plan = 41; places = unbound })
   pub runs-default : run-signature (read-signature words-T) tree-T (0 ∷ 3 ∷ 4 ∷ []) ≡ (0, no-rule 0)
+  -- the nodes of the first: two tests, a skip and the leaf
+  pub nodes-7 : nodes-words T tree-T (0 ∷ 1 ∷ 5 ∷ []) ≡ some (0 ∷ 4 ∷ 10 ∷ 11 ∷ [])
   -- 1 before 13 before 15; an empty tree is broken
   pub unlawful-signature : run-signature (read-signature []) [] [] ≡ refusal 1
   pub unlawful-booking : run-signature (read-signature words-T) [] (0 ∷ 1 ∷ []) ≡ refusal 13

@@ -4,13 +4,14 @@ use mathlib.Core.List.{List, [], _++_, _∷_}
 use mathlib.Core.Option.{some}
 use Prim.Native.Nat.{ℕ, _+_, _≤_}
 use lib.ListN.{length}
+use Rattle.signature.specs.Lists.{is-some}
 use Rattle.signature.specs.Read.{read-booking, Signed}
 use Rattle.signature.specs.Signature.{Signature}
 use Rattle.signature.specs.Value.{Value, Values}
 use Rattle.tree.specs.Answer.{Answer}
 use Rattle.tree.specs.Compiled.{Compiled}
 use Rattle.tree.specs.Leaf.{Treed}
-use Rattle.tree.specs.Run.{run, run-words}
+use Rattle.tree.specs.Run.{run, run-words, nodes-words, Linked, RisingTo}
 use Rattle.tree.specs.Tree.{Tree, Line}
 use Rattle.tree.specs.Words.{words, layout}
 
@@ -23,3 +24,9 @@ pub record Laws : Type 0 where
   pub never-broken : (dft : ℕ) (sig : Signature) → Signed sig → (t : Tree) → Treed sig (0 ∷ []) 0 t → (behind bs : List ℕ) (v : Value) → read-booking sig bs ≡ some v → (a : Answer) × (run-words dft sig (layout t 0 ++ behind) bs ≡ some a)
   -- a run does not depend on the bound in its definition
   pub run-bound : (dft : ℕ) (sig : Signature) (tree : List ℕ) (n m i : ℕ) (vs : Values) (j : ℕ) (visits : List ℕ) → length tree ≤ n + i → length tree ≤ m + i → run dft n sig tree i vs j visits ≡ run dft m sig tree i vs j visits
+  -- the nodes of a walk are there exactly where its run is not broken
+  pub nodes-there : (dft : ℕ) (sig : Signature) (ws bs : List ℕ) → is-some (nodes-words sig ws bs) ≡ is-some (run-words dft sig ws bs)
+  -- they begin at index 0, each lies in the slice, and each leads to the next
+  pub nodes-linked : (sig : Signature) (ws bs is : List ℕ) → nodes-words sig ws bs ≡ some is → Linked ws 0 is
+  -- so each stands above the one before it, and below the slice's end
+  pub nodes-rise : (ws is : List ℕ) (i : ℕ) → Linked ws i is → RisingTo (length ws) i is

@@ -1,8 +1,9 @@
 -- 01, Tree: a run over the words of a tree. "Running reads the booking alongside".
+use mathlib.Core.Path.{_≡_}
 use mathlib.Core.List.{List, [], _∷_, _++_}
 use mathlib.Core.Option.{Option, some, none}
 use mathlib.Core.Bool.{_&&_, cond}
-use Prim.Native.Nat.{ℕ, zero, suc, _+_, _-_}
+use Prim.Native.Nat.{ℕ, zero, suc, _+_, _-_, _≤_, _<_}
 use lib.Dec.{leb, eqb, ltb}
 use lib.ListN.{set, drop, length, getElem?}
 use Rattle.signature.specs.Lists.{_>>=_, require, first}
@@ -29,10 +30,14 @@ bound (suc n) m (x ∷ (t ∷ ws)) visits places = do
   i ← getElem? visits t
   bound n (suc x) ws visits (set places x i)
 
--- how a run goes on: at the node at an index, with these parts of the booking left, the first of them at a place,
+-- how a walk goes on, and what it gives: at the node at an index, with these parts of the booking left, the first of them at a place,
 -- and the places visited. none: "A tree is broken"
+abbrev pub Walk : Type 0 → Type 0
+Walk A = ℕ → Values → ℕ → List ℕ → Option A
+
+-- a run gives the answer
 abbrev pub Run : Type 0
-Run = ℕ → Values → ℕ → List ℕ → Option Answer
+Run = Walk Answer
 
 -- a node 1; broken: "a hit leaf with booking left or a rule outside 1 to 999"
 abbrev pub at-hit : List ℕ → Run
@@ -47,7 +52,7 @@ at-hit tree i vnil j visits = do
 
 -- a node 2: one link for each head of the kind of the first part left; broken: "no booking part left to take", "a wrong kind or count", "a link not above its own index".
 -- "of a node 2 only its first three words and the link that is followed" are examined
-abbrev pub at-test : Signature → List ℕ → Run → Run
+abbrev pub at-test : {A : Type 0} → Signature → List ℕ → Walk A → Walk A
 at-test sig tree next i vnil j visits = none
 at-test sig tree next i (vcons (con c us) rest) j visits = do
   d ← getElem? sig c
@@ -59,7 +64,7 @@ at-test sig tree next i (vcons (con c us) rest) j visits = do
   next link (vjoin us rest) (suc j) (visits ++ (j ∷ []))
 
 -- a node 3: "3 skips one whole part"; broken: "no booking part left to take"
-abbrev pub at-skip : Run → Run
+abbrev pub at-skip : {A : Type 0} → Walk A → Walk A
 at-skip next i vnil j visits = none
 at-skip next i (vcons v rest) j visits = next (suc i) rest (j + size v) (visits ++ (j ∷ []))
 
@@ -77,3 +82,29 @@ module _ (dft : ℕ) where
   run-words sig ws bs = do
     v ← read-booking sig bs
     run (length ws) sig ws 0 (vcons v vnil) 0 []
+
+-- the same walk, and the indices of the nodes that it takes, in order, the leaf's last
+abbrev pub nodes : ℕ → Signature → List ℕ → Walk (List ℕ)
+nodes zero sig tree i vs j visits = none
+nodes (suc n) sig tree i vs j visits = do
+  w ← getElem? tree i
+  let next : Walk (List ℕ) = λ i′ vs′ j′ visits′. nodes n sig tree i′ vs′ j′ visits′
+  let leaf : Option (List ℕ) = at-hit tree i vs j visits >>= λ a. some []
+  is ← cond (eqb w 0) (some []) (cond (eqb w 1) leaf (cond (eqb w 2) (at-test sig tree next i vs j visits) (cond (eqb w 3) (at-skip next i vs j visits) none)))
+  some (i ∷ is)
+
+abbrev pub nodes-words : Signature → List ℕ → List ℕ → Option (List ℕ)
+nodes-words sig ws bs = do
+  v ← read-booking sig bs
+  nodes (length ws) sig ws 0 (vcons v vnil) 0 []
+
+-- indices from i on, each above the one before it, and all below n
+pub data RisingTo (n : ℕ) : ℕ → List ℕ → Type 0 where
+  rising-last : {i : ℕ} → i < n → RisingTo n i (i ∷ [])
+  rising-on : {i m : ℕ} {is : List ℕ} → i < m → RisingTo n m is → RisingTo n i (i ∷ is)
+
+-- indices of nodes from i on, each but the first the one that the node before it leads to: below a skip, or a link above the node's own index
+pub data Linked (tree : List ℕ) : ℕ → List ℕ → Type 0 where
+  linked-leaf : {i w : ℕ} → getElem? tree i ≡ some w → w ≤ 1 → Linked tree i (i ∷ [])
+  linked-skip : {i : ℕ} {is : List ℕ} → getElem? tree i ≡ some 3 → Linked tree (suc i) is → Linked tree i (i ∷ is)
+  linked-test : {i link : ℕ} {is : List ℕ} (c : ℕ) → getElem? tree i ≡ some 2 → getElem? tree (i + 3 + c) ≡ some link → i < link → Linked tree link is → Linked tree i (i ∷ is)

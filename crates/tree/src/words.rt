@@ -15,3 +15,6 @@ pub const TEST_WORDS: usize = 3;
 pub const LAST_NUMBER: u16 = 999;
 
 pub const TREE_LIMIT: usize = 32768;
+
+// the rows of all rules: no more than the rules may weigh in all
+pub const ROWS: usize = 256;

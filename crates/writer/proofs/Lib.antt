@@ -1,16 +1,3 @@
-pub mod BlankLaws
-pub mod CallLaws
-pub mod ChildLaws
-pub mod ChildrenLaws
-pub mod HeadSets
-pub mod IndexLaws
-pub mod KindLaws
-pub mod LoopLaws
-pub mod NodeLaws
-pub mod Options
 pub mod RowsFit
-pub mod StandingLaws
 pub mod StartLaws
-pub mod StateLaws
-pub mod StepLaws
 pub mod WriteLaws

@@ -29,7 +29,7 @@ use Rattle.cell.specs.Coded.{kinds-of, code, Typed, Typeds}
 use Rattle.cell.specs.RowList.{Every}
 use Rattle.builder.proofs.Rooms.{code-places}
 use Rattle.rowlist.proofs.Typing.{typed-rows}
-use Rattle.path.specs.Standing.{Good, Goods, Among}
+use Rattle.path.specs.Standing.{RowStands, RowsStand, Among}
 use Rattle.path.specs.Variables.{Once}
 
 abbrev Small : List ℕ → Type 0
@@ -131,11 +131,11 @@ once (x ∷ vs) (also y l s) h = (l, none-more x vs (omega (arith, h x, ap tick 
 
 module _ (sig : Signature) (t : List ℕ) where
   mutual
-    good-row : (r : Row) (k : ℕ) → Typed (kinds-of sig) t r k → Kinded sig r k → ((x : ℕ) → occurs x r ≤ 1) → Good sig t r k
+    good-row : (r : Row) (k : ℕ) → Typed (kinds-of sig) t r k → Kinded sig r k → ((x : ℕ) → occurs x r ≤ 1) → RowStands sig t r k
     good-row (named vs c rs) k y g h = (y .0, g .0, once vs (g .1) (λ x. omega (arith, h x)), good-rows rs (arguments sig c) (y .1) (g .2) (λ x. omega (arith, h x)))
     good-row (free vs cs) k y g h = (y .0, y .2, g .0, once vs (g .1) h)
 
-    good-rows : (rs : Rows) (ks : List ℕ) → Typeds (kinds-of sig) t rs ks → Kindeds sig rs ks → ((x : ℕ) → occurs-all x rs ≤ 1) → Goods sig t rs ks
+    good-rows : (rs : Rows) (ks : List ℕ) → Typeds (kinds-of sig) t rs ks → Kindeds sig rs ks → ((x : ℕ) → occurs-all x rs ≤ 1) → RowsStand sig t rs ks
     good-rows rnil [] y g h = tt
     good-rows rnil (k ∷ ks) y g h = absurd g
     good-rows (rcons r rs) [] y g h = absurd g
@@ -146,7 +146,7 @@ every-all [] e = none-left
 every-all (x ∷ xs) e = also x (e .0) (every-all xs (e .1))
 
 -- what the writer asks of a rule's rows
-pub rows-fit : {t : List ℕ} (g : Known t) (p : Pattern) → WellFormed (g .sig) 0 p → 0 < g .decoded .n → linear-plus p ≡ true → length (pattern-code p) ≤ pattern-limit → All (λ r. Good (g .sig) t r 0 × (length (code (kinds-of (g .sig)) r 0) ≤ 3 * pattern-limit)) (rows-plus (g .sig) 0 p)
+pub rows-fit : {t : List ℕ} (g : Known t) (p : Pattern) → WellFormed (g .sig) 0 p → 0 < g .decoded .n → linear-plus p ≡ true → length (pattern-code p) ≤ pattern-limit → All (λ r. RowStands (g .sig) t r 0 × (length (code (kinds-of (g .sig)) r 0) ≤ 3 * pattern-limit)) (rows-plus (g .sig) 0 p)
 rows-fit {t} g p w n l m =
     all-imp (λ r (y, (k, (o, c))). (good-row (g .sig) t r 0 y k (λ x. omega (arith, o x, tick-one (memb x (E p)))), omega (arith, code-places (kinds-of (g .sig)) r 0, c)))
     (all-both (every-all _ (typed-rows g p true 0 n w)) (all-both (plus-kinded (g .sig) p w) (all-both (plus-once (g .sig) p 0 l) (plus-places (g .sig) p w))))

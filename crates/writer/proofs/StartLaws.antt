@@ -21,10 +21,11 @@ use Rattle.tree.specs.Tree.{Line, Tree, compile}
 use Rattle.path.specs.Alive.{member}
 use Rattle.path.specs.Standing.{At}
 use Rattle.path.specs.State.{row-stride, options, Indexed, LineAt, RowIs, State, cell-of, own-of, stop-of, start-of}
-use Rattle.writer.specs.Write.{RuleRow, line-of, GivenRows, Placed, Fit, tree-of-rows}
+use Rattle.path.specs.Rows.{RuleRow, line-of, RowKept, Fit}
+use Rattle.writer.specs.Write.{GivenRows, tree-of-rows}
 use Rattle.path.specs.Wrote.{Wrote}
-use Rattle.writer.specs.Writer.{Given, tree-of}
-use Rattle.writer.proofs.IndexLaws.{one-column}
+use Rattle.preorder.specs.Node.{Given, tree-of}
+use Rattle.path.proofs.IndexLaws.{one-column}
 
 module _ {B : Type 0} where
   options-on : (f : ℕ → Option B) (i n : ℕ) → options f (suc i) n ≡ options (λ r. f (suc r)) i n
@@ -43,7 +44,7 @@ module _ {t a tab : List ℕ} {n : ℕ} (g : GivenRows t a tab n) where
     e : RuleRow
     there : getElem? (g .rows) r ≡ some e
     fit : Fit (g .known .sig) t e
-    place : Placed (g .known .sig) t a tab r e
+    place : RowKept (g .known .sig) t a tab r e
 
   row-at : (r : ℕ) → r < n → RowAt r
   row-at r l = let (e, h) = at-some (g .rows) r (omega (arith, g .count)) in record { e = e; there = h; fit = all-at (g .fit) r e h; place = g .placed r e h }

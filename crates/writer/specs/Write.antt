@@ -1,85 +1,18 @@
 -- The rows of a set of rules, and what is answered and written for their tree.
 use mathlib.Core.Path.{_≡_}
 use mathlib.Core.List.{List, [], _∷_, _++_, map}
-use mathlib.Core.Option.{some}
-use mathlib.Core.Bool.{Bool, true, false, _&&_, cond}
-use Prim.Native.Nat.{ℕ, _+_, _-_, _*_, _≤_, _<_}
+use mathlib.Core.Bool.{Bool, _&&_, cond}
+use Prim.Native.Nat.{ℕ, _≤_}
 use lib.Dec.{leb}
-use lib.ListN.{length, getD, drop, getElem?}
+use lib.ListN.{length, drop}
 use Rattle.signature.specs.Decoded.{Known}
 use Rattle.signature.specs.Lists.{All}
-use Rattle.signature.specs.Signature.{Signature}
-use Rattle.pattern.specs.Limits.{pattern-limit}
-use Rattle.row.specs.Row.{Row, rcons, rnil}
-use Rattle.cell.specs.Coded.{kinds-of, code}
-use Rattle.cell.specs.Cursor.{opensOf}
-use Rattle.cell.specs.RowList.{each-with}
-use Rattle.tree.specs.Limits.{tree-limit}
-use Rattle.tree.specs.Tree.{Line, Tree, compile}
+use Rattle.tree.specs.Limits.{row-limit, tree-limit}
+use Rattle.tree.specs.Tree.{Tree, compile}
 use Rattle.tree.specs.Words.{words, layout}
-use Rattle.path.specs.Alive.{row-limit}
-use Rattle.path.specs.Standing.{Good}
-use Rattle.path.specs.State.{row-stride, start-of, stop-of, rule-of, plan-of, own-of, cell-of}
+use Rattle.path.specs.Rows.{RuleRow, line-of, Fit, RowsKept}
 use Rattle.writer.specs.declared.write.Written.{Written}
 use Rattle.writer.specs.declared.write.Written.the-variants.{Done, TooLarge}
-
--- a row of a rule
-pub record RuleRow : Type 0 where
-  pub rule : ℕ
-  pub plan : ℕ
-  pub row : Row
-
--- "Each product is a row": its line in the matrix
-abbrev pub line-of : RuleRow → Line
-line-of e = record { rule = e .rule; plan = e .plan; binds = []; cells = rcons (e .row) rnil }
-
--- a row of kind 0, of at most 64 cells
-pub record Fit (sig : Signature) (t : List ℕ) (e : RuleRow) : Type 0 where
-  pub good : Good sig t (e .row) 0
-  pub short : length (code (kinds-of sig) (e .row) 0) ≤ 3 * pattern-limit
-
--- ---- one row in the table of rows
-
--- what is given of a row's words: so many from a word on
-pub record GivenRow (t a : List ℕ) (start len : ℕ) : Type 0 where
-  pub known : Known t
-  pub row : Row
-  pub rest : List ℕ
-  pub good : Good (known .sig) t row 0
-  pub code-is : drop start a ≡ code (kinds-of (known .sig)) row 0 ++ rest
-  pub within : start ≤ length a
-  pub len-is : len ≡ length (code (kinds-of (known .sig)) row 0)
-  pub short : len ≤ 3 * pattern-limit
-
--- words before one stay
-abbrev pub Before : ℕ → List ℕ → List ℕ → Type 0
-Before k xs ys = (i : ℕ) → i < k → getD ys i 0 ≡ getD xs i 0
-
--- one column is row r's own at its first cell, and each cell leaves those that it opens
-pub record RowCounted (t a rows : List ℕ) (r start len : ℕ) : Type 0 where
-  pub one : own-of rows r 0 ≡ 1
-  pub counts : (q : ℕ) → 3 * q + 3 ≤ len → own-of rows r (q + 1) ≡ own-of rows r q - 1 + opensOf t (getD a (start + 3 * q) 0)
-
--- row r of the table: where its words are, and whose it is
-pub record RowIndexed (t a rows : List ℕ) (r start len rule plan : ℕ) : Type 0 where
-  pub start-is : start-of rows r ≡ start
-  pub stop-is : stop-of rows r ≡ start + len
-  pub rule-is : rule-of rows r ≡ rule
-  pub plan-is : plan-of rows r ≡ plan
-  pub counted : RowCounted t a rows r start len
-
--- row r of the table is that of e
-pub record Placed (sig : Signature) (t a rows : List ℕ) (r : ℕ) (e : RuleRow) : Type 0 where
-  pub start : ℕ
-  pub rest : List ℕ
-  pub code-is : drop start a ≡ code (kinds-of sig) (e .row) 0 ++ rest
-  pub within : start ≤ length a
-  pub indexed : RowIndexed t a rows r start (length (code (kinds-of sig) (e .row) 0)) (e .rule) (e .plan)
-
-abbrev pub AllPlaced : Signature → List ℕ → List ℕ → List ℕ → List RuleRow → Type 0
-AllPlaced sig t a rows es = (r : ℕ) (e : RuleRow) → getElem? es r ≡ some e → Placed sig t a rows r e
-
--- ---- all rows
 
 -- n rows of rules under the signature whose table is t: their words in a, each in the table of rows
 pub record GivenRows (t a tab : List ℕ) (n : ℕ) : Type 0 where
@@ -88,7 +21,7 @@ pub record GivenRows (t a tab : List ℕ) (n : ℕ) : Type 0 where
   pub count : n ≡ length rows
   pub few : n ≤ row-limit
   pub fit : All (Fit (known .sig) t) rows
-  pub placed : AllPlaced (known .sig) t a tab rows
+  pub placed : RowsKept (known .sig) t a tab rows
 
 -- their tree, whatever the default's plan and the bound on visits
 abbrev pub tree-of-rows : {t a tab : List ℕ} {n : ℕ} → GivenRows t a tab n → ℕ → ℕ → Tree

@@ -1,3 +1,2 @@
 // The tree of rows: from the rows of rules to the words of their tree.
-mod node;
 pub mod write;

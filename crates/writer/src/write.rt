@@ -1,28 +1,22 @@
 // The tree of the rows of a set of rules.
-use crate::node::node;
 use path::alive::SET_WORDS;
 use path::alive::put;
+use path::rows::CURSORS;
+use path::rows::INDEX_ROOM;
+use path::rows::VISITS;
+use preorder::node;
 use signature::decoded::DECODED;
+use tree::words::TREE_LIMIT;
 ghost use mathlib.Core.Path.{_≡_};
 ghost use mathlib.Core.Bool.{true};
 ghost use mathlib.Core.List.{_++_};
 ghost use Prim.Native.Nat.{ℕ, _*_, _≤_, _<_, min};
 ghost use lib.ListN.{length, getD, take, drop};
 ghost use Rattle.pattern.specs.Limits.{pattern-limit};
-ghost use Rattle.tree.specs.Limits.{tree-limit};
-ghost use Rattle.path.specs.Alive.{member, row-limit};
+ghost use Rattle.tree.specs.Limits.{row-limit, tree-limit};
+ghost use Rattle.path.specs.Alive.{member};
 ghost use Rattle.path.specs.State.{row-stride};
 ghost use Rattle.writer.specs.Write.{GivenRows, tree-of-rows, answer, space-after};
-
-// The most words of a tree.
-pub const TREE_LIMIT: usize = 32768;
-
-// For at most 256 rows: their table, cursors and visits.
-pub const INDEX_ROOM: usize = 18432;
-
-pub const CURSORS: usize = 256;
-
-pub const VISITS: usize = 16384;
 
 pub enum Written {
     Done(usize),

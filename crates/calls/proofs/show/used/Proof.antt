@@ -2,6 +2,7 @@
 use Prim.Native.Nat.{_≤_}
 use native.Mathlib.Omega.{arith}
 use lib.ListN.{length}
+use Rattle.shown.proofs.Counted.{counted}
 use Rattle.calls.proofs.show.used.Statement.{statement}
 use Rattle.calls.proofs.show.used.Tie as tie
 
@@ -21,8 +22,8 @@ used-spec =
     (λ c. omega arith)
     (λ c. omega arith)
     (λ c. omega arith)
+    (λ c. counted _ _ (omega arith))
     (λ c. omega arith)
     (λ c. omega arith)
     (λ c. omega arith)
-    (λ c. omega arith)
-    (λ c. omega arith))
+    (λ c. counted _ _ (omega arith)))

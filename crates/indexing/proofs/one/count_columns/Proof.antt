@@ -6,8 +6,8 @@ use borrow.Author.Needs.{needs}
 use lib.ListN.{length, length-set}
 use Rattle.signature.proofs.KnownFacts.{long}
 use Rattle.path.specs.State.{row-stride}
-use Rattle.writer.specs.Write.{GivenRow, Before}
-use Rattle.writer.proofs.IndexLaws.{OwnAt, own-start, own-cells, own-next, own-end, own-on, row-within, Counting, counting-start, counted-on, counting-end, before-set}
+use Rattle.path.specs.Rows.{GivenRow, Before}
+use Rattle.path.proofs.IndexLaws.{OwnAt, own-start, own-cells, own-next, own-end, own-on, row-within, Counting, counting-start, counted-on, counting-end, before-set}
 use Rattle.indexing.proofs.one.count_columns.Statement.{statement}
 use Rattle.indexing.proofs.one.count_columns.Tie as tie
 

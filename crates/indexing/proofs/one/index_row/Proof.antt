@@ -3,7 +3,7 @@ use mathlib.Core.Path.{_≡_, _∙_}
 use native.Mathlib.Omega.{arith}
 use borrow.Author.Needs.{needs}
 use lib.ListN.{length-set}
-use Rattle.writer.proofs.IndexLaws.{row-indexed}
+use Rattle.path.proofs.IndexLaws.{row-indexed}
 use Rattle.indexing.proofs.one.index_row.Statement.{statement}
 use Rattle.indexing.proofs.one.index_row.Tie as tie
 

@@ -1,0 +1,147 @@
+// The first column: of which kind it is where a row refines it, and which rows allow a head there.
+use cell::cell::KIND_TAG;
+use path::alive::SET_WORDS;
+use path::alive::has;
+use path::alive::put;
+use path::rows::start_of;
+use sets::set::full;
+use sets::set::has as has_bit;
+use signature::decoded::count_of;
+use signature::decoded::kind_of;
+ghost use mathlib.Core.Path.{_≡_};
+ghost use mathlib.Core.Bool.{true};
+ghost use Prim.Native.Nat.{ℕ, _+_, _*_, _-_, _≤_, _<_};
+ghost use lib.ListN.{length, getD};
+ghost use Rattle.signature.specs.Set.{set-limit};
+ghost use Rattle.tree.specs.Limits.{row-limit};
+ghost use Rattle.path.specs.Alive.{member, set-words};
+ghost use Rattle.path.specs.State.{row-stride, cell-of, kept-of};
+ghost use Rattle.path.specs.Standing.{refined-cell};
+ghost use Rattle.column.specs.Column.{Seen, Looking, Column, Keeping, RowKind, RowSaw, tag-at, allowed-at};
+
+// What stands for no kind.
+pub const NO_KIND: usize = 32;
+
+const CELL: usize = 3;
+
+// Whether a cell names or excludes a constructor of its kind.
+fn refined(t: &[u16], tag: u64, allowed: u64) -> bool
+    requires { ⌜ Seen (now t) tag ⌝ }
+    ensures { λ b. ⌜ ((g : Seen (now (t .entry)) tag) → b ≡ refined-cell (g .known .sig) (g .k) tag allowed) ⌝ }
+{
+    if tag < KIND_TAG {
+        return true;
+    }
+    let k = (tag - KIND_TAG) as usize;
+    allowed != full(count_of(t, k) as u32)
+}
+
+// The kind of a cell.
+fn cell_kind(t: &[u16], tag: u64) -> usize
+    requires { ⌜ Seen (now t) tag ⌝ }
+    ensures { λ k. ⌜ ((g : Seen (now (t .entry)) tag) → k ≡ g .k) ⌝ }
+{
+    if tag < KIND_TAG {
+        return kind_of(t, tag as usize) as usize;
+    }
+    (tag - KIND_TAG) as usize
+}
+
+// The kind of a cell that is refined, else NO_KIND.
+fn refined_kind(t: &[u16], tag: u64, allowed: u64) -> usize
+    requires { ⌜ Seen (now t) tag ⌝ }
+    ensures { λ x. ⌜ ((g : Seen (now (t .entry)) tag) → RowKind (g .known .sig) (g .k) tag allowed x) ⌝ }
+{
+    if refined(t, tag, allowed) {
+        return cell_kind(t, tag);
+    }
+    NO_KIND
+}
+
+// The same of row r's cell, where the row is in the set.
+fn row_kind(
+    t: &[u16],
+    a: &[u64],
+    rows: &[u16],
+    n: usize,
+    re: &[u64; SET_WORDS],
+    cur: &[u8],
+    r: usize,
+) -> usize
+    requires { ⌜ Looking (now t) (now a) (now rows) n (now re) (now cur) × (r < n) ⌝ }
+    ensures { λ x. ⌜ ((g : Looking (now (t .entry)) (now (a .entry)) (now (rows .entry)) n (now (re .entry)) (now (cur .entry))) → RowSaw (member (now (re .entry)) r) (g .known .sig) (g .k) (tag-at (now (a .entry)) (now (rows .entry)) (now (cur .entry)) r) (allowed-at (now (a .entry)) (now (rows .entry)) (now (cur .entry)) r) x) ⌝ }
+{
+    if has(re, r) {
+        let at = start_of(rows, r) as usize + CELL * cur[r] as usize;
+        return refined_kind(t, a[at], a[at + 2]);
+    }
+    NO_KIND
+}
+
+// The kind of the column that some row of the set refines, else NO_KIND.
+pub fn column(
+    t: &[u16],
+    a: &[u64],
+    rows: &[u16],
+    n: usize,
+    re: &[u64; SET_WORDS],
+    cur: &[u8],
+) -> usize
+    requires { ⌜ Looking (now t) (now a) (now rows) n (now re) (now cur) ⌝ }
+    ensures { λ x. ⌜ ((g : Looking (now (t .entry)) (now (a .entry)) (now (rows .entry)) n (now (re .entry)) (now (cur .entry))) → Column (g .known .sig) (now (a .entry)) (now (rows .entry)) n (now (re .entry)) (now (cur .entry)) (g .k) x) ⌝ }
+{
+    let mut r = 0;
+    while r < n {
+        let x = row_kind(t, a, rows, n, re, cur, r);
+        if x < NO_KIND {
+            return x;
+        }
+        r += 1;
+    }
+    NO_KIND
+}
+
+// Whether row r stays alive where head number j of the kind is taken; its cursor is past its cell.
+fn stays(
+    a: &[u64],
+    rows: &[u16],
+    s: &[u64; SET_WORDS],
+    re: &[u64; SET_WORDS],
+    cur: &[u8],
+    j: usize,
+    r: usize,
+) -> bool
+    requires { ⌜ (r < row-limit) × (r < length (now cur)) × (row-stride * r + row-stride ≤ length (now rows)) × (j < set-limit) × (member (now re) r ≡ true → (0 < getD (now cur) r 0) × (cell-of (now rows) r (getD (now cur) r 0 - 1) + 3 ≤ length (now a))) ⌝ }
+    ensures { λ b. ⌜ b ≡ kept-of (now (a .entry)) (now (rows .entry)) (member (now (s .entry))) (member (now (re .entry))) (now (cur .entry)) j r ⌝ }
+{
+    if has(re, r) {
+        let at = start_of(rows, r) as usize + CELL * (cur[r] as usize - 1);
+        if has_bit(a[at + 2], j as u32) {
+            return has(s, r);
+        }
+        return false;
+    }
+    has(s, r)
+}
+
+// In next from now on: the rows that stay alive where head number j of the kind is taken.
+pub fn keep(
+    a: &[u64],
+    rows: &[u16],
+    n: usize,
+    s: &[u64; SET_WORDS],
+    re: &[u64; SET_WORDS],
+    cur: &[u8],
+    j: usize,
+    next: &mut [u64],
+)
+    requires { ⌜ Keeping (now a) (now rows) n (now re) (now cur) j × (length (now next) ≡ set-words) ⌝ }
+    ensures { λ _. ⌜ ((r : ℕ) → r < n → member (now (next .exit)) r ≡ kept-of (now (a .entry)) (now (rows .entry)) (member (now (s .entry))) (member (now (re .entry))) (now (cur .entry)) j r) ⌝ }
+{
+    let mut r = 0;
+    while r < n {
+        let b = stays(a, rows, s, re, cur, j, r);
+        put(next, r, b);
+        r += 1;
+    }
+}

@@ -1,0 +1,141 @@
+-- A leaf is written.
+use mathlib.Core.Bool.{Bool, true, false}
+use mathlib.Core.Path.{_≡_, refl, sym, ap, ap₂, subst, _∙_}
+use mathlib.Core.List.{List, [], _∷_, _++_, append-nil}
+use Prim.Native.Nat.{ℕ, zero, suc, _+_, _-_, _*_, _/_, _≤_, _<_, min, max}
+use native.Mathlib.Nat.{zero-add}
+use native.Mathlib.Omega.{arith}
+use lib.Dec.{eqb}
+use lib.ListN.{length, getD, drop, take, set, length-append, length-drop, drop-of-length-le}
+use lib.Seq.{take-all, length-take-le, drop-drop}
+use Rattle.signature.specs.Set.{bit}
+use Rattle.signature.proofs.SetLaws.{bit-lt}
+use Rattle.signature.proofs.Tests.{eqb-eq, eqb-ne}
+use Rattle.pattern.specs.Limits.{variable-count}
+use Rattle.tree.specs.Tree.{hit}
+use Rattle.tree.specs.Words.{pairs}
+use Rattle.leaf.specs.Leaf.{Paired, all-pairs, pairs-from, cell-pair, cell-pairs, Pairing, Used}
+use Rattle.path.specs.State.{bound, cell-of, start-of}
+use Rattle.leaf.specs.Leaf.{Leaving}
+use Rattle.path.specs.Wrote.{Wrote}
+use Rattle.leaf.proofs.PairLaws.{bound-rising, Sofar, sofar-more, sofar-full, sofar-end, paired-none}
+
+pub pairing : {a rows : List ℕ} {r : ℕ} {cur vis : List ℕ} (q : ℕ) → Leaving a rows r cur vis → q ≡ getD cur r 0 → Pairing a rows vis r q
+pairing q g e = record { long = g .long; visits = g .visits; small = omega (arith, g .small); cells = omega (arith, g .cells) }
+
+pub pairing-less : {a rows vis : List ℕ} {r q : ℕ} (p : ℕ) → Pairing a rows vis r q → p + 1 ≤ q → Pairing a rows vis r (p + 1)
+pairing-less p g l = record { long = g .long; visits = g .visits; small = omega (arith, g .small); cells = omega (arith, g .cells) }
+
+module _ (a rows vis : List ℕ) (r q rule plan : ℕ) where
+  rising : length (bound a rows vis r q) ≡ length (all-pairs a rows vis r q)
+  rising = ap length (bound-rising a rows vis r q)
+
+  pub leaf-short : (o : List ℕ) → length o < 4 → Wrote (hit rule plan (bound a rows vis r q)) 0 (length o + 1) o o
+  leaf-short o l = record { much = omega arith; wrote = λ h. absurd (omega arith) }
+
+  module _ (n : ℕ) (o ys : List ℕ) (l : 4 ≤ length o) (w : Paired (all-pairs a rows vis r q) 0 n (take (length o - 4) (drop 4 o)) ys) where
+    tail-long : length (take (length o - 4) (drop 4 o)) ≡ length o - 4
+    tail-long = length-take-le (length o - 4) (drop 4 o) (simp length-drop (omega arith))
+
+    pub leaf-most : n ≤ length o
+    leaf-most = omega (arith, w .much, tail-long)
+
+    pub leaf-full : (m : ℕ) (o′ : List ℕ) → m ≡ length o → length o - 4 < n → Wrote (hit rule plan (bound a rows vis r q)) 0 (m + 1) o o′
+    leaf-full m o′ e h = record { much = omega (arith, w .much, tail-long, rising); wrote = λ i. absurd (omega (arith, w .much, tail-long, rising)) }
+
+    pub leaf-wrote : (u v : ℕ) → u ≡ rule → v ≡ plan → n ≤ length o - 4 → Wrote (hit rule plan (bound a rows vis r q)) 0 (n + 4) o (set (set (set (set (take 4 o ++ (ys ++ drop (length o - 4) (drop 4 o))) 0 1) 1 u) 2 v) 3 (n / 2))
+    leaf-wrote u v d f h = rw (d, f) (record {
+      much = omega (arith, w .much, tail-long, rising);
+      wrote = λ i. go o l tail;
+    })
+      where
+        many : n ≡ 2 * length (all-pairs a rows vis r q)
+        many = omega (arith, w .much, tail-long)
+
+        end : drop (length o - 4) (drop 4 o) ≡ []
+        end = drop-of-length-le (drop 4 o) {i = length o - 4} (simp length-drop (omega arith))
+
+        whole : take (length o - 4) (drop 4 o) ≡ drop 4 o
+        whole = take-all (length o - 4) (drop 4 o) (simp length-drop (omega arith))
+
+        tail : ys ++ drop (length o - 4) (drop 4 o) ≡ pairs (bound a rows vis r q) ++ drop n (drop 4 o)
+        tail =
+            ap (λ (z : List ℕ). ys ++ z) end
+            ∙ append-nil ys
+            ∙ w .wrote (omega (arith, many, tail-long))
+            ∙ (rw (whole, bound-rising a rows vis r q, ← many, zero-add n))
+
+        half : n / 2 ≡ length (bound a rows vis r q)
+        half = omega (arith, many, rising)
+
+        go : (o : List ℕ) → 4 ≤ length o → ys ++ drop (length o - 4) (drop 4 o) ≡ pairs (bound a rows vis r q) ++ drop n (drop 4 o)
+            → set (set (set (set (take 4 o ++ (ys ++ drop (length o - 4) (drop 4 o))) 0 1) 1 rule) 2 plan) 3 (n / 2) ≡ 1 ∷ (rule ∷ (plan ∷ (length (bound a rows vis r q) ∷ (pairs (bound a rows vis r q) ++ drop (4 + 2 * length (bound a rows vis r q)) o))))
+        go [] k e = absurd (omega arith)
+        go (x ∷ []) k e = absurd (omega arith)
+        go (x ∷ (y ∷ [])) k e = absurd (omega arith)
+        go (x ∷ (y ∷ (z ∷ []))) k e = absurd (omega arith)
+        go (x ∷ (y ∷ (z ∷ (u ∷ o)))) k e =
+            let d : 2 * length (bound a rows vis r q) ≡ n = omega (arith, many, rising) in
+            rw (e, half, d) (ap (λ (l : List ℕ). 1 ∷ (rule ∷ (plan ∷ (length (bound a rows vis r q) ∷ (pairs (bound a rows vis r q) ++ l))))) (drop-drop n 4 (x ∷ (y ∷ (z ∷ (u ∷ o))))))
+
+-- ---- the loops over the cells and over the variables
+
+module _ (a rows vis : List ℕ) (r x p : ℕ) where
+  cells-next : 0 < p → cell-pairs a rows vis r x p ≡ cell-pair a rows vis r x (p - 1) ++ cell-pairs a rows vis r x (p - 1)
+  cells-next l = let e : p ≡ suc (p - 1) = omega arith in ap (cell-pairs a rows vis r x) e
+
+  cells-end : p ≤ 0 → cell-pairs a rows vis r x p ≡ []
+  cells-end l = let e : p ≡ 0 = omega arith in ap (cell-pairs a rows vis r x) e
+
+  pub cell-more : (bs : List (ℕ × ℕ)) (at to u : ℕ) (o₀ o o′ : List ℕ) → 0 < p → Sofar bs (cell-pairs a rows vis r x p) at to o₀ o → Paired (cell-pair a rows vis r x (p - 1)) to u o o′ → u ≤ length o′ → length o′ ≡ length o → Sofar bs (cell-pairs a rows vis r x (p - 1)) at u o₀ o′
+  cell-more bs at to u o₀ o o′ l s w h e = sofar-more bs (cell-pair a rows vis r x (p - 1)) (cell-pairs a rows vis r x (p - 1)) at to u o₀ o o′ (subst (λ (cs : List (ℕ × ℕ)). Sofar bs cs at to o₀ o) (cells-next l) s) w h e
+
+  pub cell-full : (bs : List (ℕ × ℕ)) (at to u : ℕ) (o₀ o o′ o″ : List ℕ) → 0 < p → Sofar bs (cell-pairs a rows vis r x p) at to o₀ o → Paired (cell-pair a rows vis r x (p - 1)) to u o o′ → length o < u → Paired bs at u o₀ o″
+  cell-full bs at to u o₀ o o′ o″ l s w h = sofar-full bs (cell-pair a rows vis r x (p - 1)) (cell-pairs a rows vis r x (p - 1)) at to u o₀ o o′ o″ (subst (λ (cs : List (ℕ × ℕ)). Sofar bs cs at to o₀ o) (cells-next l) s) w h
+
+  pub cell-end : (bs : List (ℕ × ℕ)) (at to : ℕ) (o₀ o : List ℕ) → p ≤ 0 → Sofar bs (cell-pairs a rows vis r x p) at to o₀ o → Paired bs at to o₀ o
+  cell-end bs at to o₀ o l s = sofar-end bs at to o₀ o (subst (λ (cs : List (ℕ × ℕ)). Sofar bs cs at to o₀ o) (cells-end l) s)
+
+module _ (a rows vis : List ℕ) (r q x : ℕ) where
+  -- the variables from x on
+  abbrev pub later : ℕ → List (ℕ × ℕ)
+  later y = pairs-from a rows vis r q y (variable-count - y)
+
+  later-next : x < variable-count → later x ≡ cell-pairs a rows vis r x q ++ later (x + 1)
+  later-next l =
+      let e : variable-count - x ≡ suc (variable-count - (x + 1)) = omega arith in
+      let f : suc x ≡ x + 1 = omega arith in
+      rw (e, ← f)
+
+  later-end : variable-count ≤ x → later x ≡ []
+  later-end l = let e : variable-count - x ≡ 0 = omega arith in rw e
+
+  pub variable-more : (bs : List (ℕ × ℕ)) (to u : ℕ) (o₀ o o′ : List ℕ) → x < variable-count → Sofar bs (later x) 0 to o₀ o → Paired (cell-pairs a rows vis r x q) to u o o′ → u ≤ length o′ → length o′ ≡ length o → Sofar bs (later (x + 1)) 0 u o₀ o′
+  variable-more bs to u o₀ o o′ l s w h e = sofar-more bs (cell-pairs a rows vis r x q) (later (x + 1)) 0 to u o₀ o o′ (subst (λ (cs : List (ℕ × ℕ)). Sofar bs cs 0 to o₀ o) (later-next l) s) w h e
+
+  pub variable-full : (bs : List (ℕ × ℕ)) (to u : ℕ) (o₀ o o′ o″ : List ℕ) → x < variable-count → Sofar bs (later x) 0 to o₀ o → Paired (cell-pairs a rows vis r x q) to u o o′ → length o < u → Paired bs 0 u o₀ o″
+  variable-full bs to u o₀ o o′ o″ l s w h = sofar-full bs (cell-pairs a rows vis r x q) (later (x + 1)) 0 to u o₀ o o′ o″ (subst (λ (cs : List (ℕ × ℕ)). Sofar bs cs 0 to o₀ o) (later-next l) s) w h
+
+  pub variable-end : (bs : List (ℕ × ℕ)) (to : ℕ) (o₀ o : List ℕ) → variable-count ≤ x → Sofar bs (later x) 0 to o₀ o → Paired bs 0 to o₀ o
+  variable-end bs to o₀ o l s = sofar-end bs 0 to o₀ o (subst (λ (cs : List (ℕ × ℕ)). Sofar bs cs 0 to o₀ o) (later-end l) s)
+
+-- ---- variables that no cell binds
+
+pub used-more : (a rows : List ℕ) (r p u u′ s : ℕ) → Used a rows r p u → s ≡ start-of rows r → ((x : ℕ) → bit u′ x ≡ max (bit u x) (bit (getD a (s + 3 * p + 1) 0) x)) → Used a rows r (p + 1) u′
+used-more a rows r p u u′ s h e j x q z l = go (eqb q p) refl
+  where
+    both : (bit u x ≡ 0) × (bit (getD a (cell-of rows r p + 1) 0) x ≡ 0)
+    both = (omega (arith, j x, z), ap (λ (y : ℕ). bit (getD a (y + 3 * p + 1) 0) x) (sym e) ∙ (let w : bit (getD a (s + 3 * p + 1) 0) x ≡ 0 = omega (arith, j x, z) in w))
+
+    go : (b : Bool) → eqb q p ≡ b → bit (getD a (cell-of rows r q + 1) 0) x ≡ 0
+    go true i = ap (λ (y : ℕ). bit (getD a (cell-of rows r y + 1) 0) x) (eqb-eq q p i) ∙ both .1
+    go false i = h x q (both .0) (omega (arith, eqb-ne q p i))
+
+unused : (a rows vis : List ℕ) (r q u x : ℕ) → Used a rows r q u → bit u x ≡ 0 → cell-pairs a rows vis r x q ≡ []
+unused a rows vis r zero u x h z = refl
+unused a rows vis r (suc q) u x h z = rw (h x q z (omega arith)) (unused a rows vis r q u x (λ y p w l. h y p w (omega arith)) z)
+
+pub none-bound : (a rows vis : List ℕ) (r q u x at : ℕ) (o : List ℕ) → Used a rows r q u → eqb (bit u x) 1 ≡ false → at ≤ length o → Paired (cell-pairs a rows vis r x q) at at o o
+none-bound a rows vis r q u x at o h e l =
+    let z : bit u x ≡ 0 = omega (arith, bit-lt u x, eqb-ne (bit u x) 1 e) in
+    rw (unused a rows vis r q u x h z) (paired-none at o l)

@@ -1,0 +1,53 @@
+-- The pairs of a leaf, variables rising.
+use mathlib.Core.Path.{_≡_}
+use mathlib.Core.List.{List, [], _∷_, _++_}
+use mathlib.Core.Bool.{cond}
+use Prim.Native.Nat.{ℕ, zero, suc, _+_, _*_, _≤_, _<_, min}
+use lib.Dec.{eqb}
+use lib.ListN.{length, getD, take, drop}
+use Rattle.signature.specs.Set.{bit}
+use Rattle.pattern.specs.Limits.{pattern-limit, variable-count}
+use Rattle.tree.specs.Words.{pairs}
+use Rattle.path.specs.State.{row-stride, cell-of, visit-of}
+
+module _ (a rows vis : List ℕ) (r : ℕ) where
+  -- what cell p of row r binds of variable x
+  abbrev pub cell-pair : ℕ → ℕ → List (ℕ × ℕ)
+  cell-pair x p = cond (eqb (bit (getD a (cell-of rows r p + 1) 0) x) 1) ((x, visit-of vis r p) ∷ []) []
+
+  -- what the cells before q do, the last one first
+  abbrev pub cell-pairs : ℕ → ℕ → List (ℕ × ℕ)
+  cell-pairs x zero = []
+  cell-pairs x (suc p) = cell-pair x p ++ cell-pairs x p
+
+  -- and of n variables from x on
+  abbrev pub pairs-from : ℕ → ℕ → ℕ → List (ℕ × ℕ)
+  pairs-from q x zero = []
+  pairs-from q x (suc n) = cell-pairs x q ++ pairs-from q (suc x) n
+
+  abbrev pub all-pairs : ℕ → List (ℕ × ℕ)
+  all-pairs q = pairs-from q 0 variable-count
+
+-- a variable outside the set is bound by no cell before q
+abbrev pub Used : List ℕ → List ℕ → ℕ → ℕ → ℕ → Type 0
+Used a rows r q u = (x p : ℕ) → bit u x ≡ 0 → p < q → bit (getD a (cell-of rows r p + 1) 0) x ≡ 0
+
+-- the cells before q, and their visits
+pub record Pairing (a rows vis : List ℕ) (r q : ℕ) : Type 0 where
+  pub long : row-stride * r + row-stride ≤ length rows
+  pub visits : pattern-limit * r + pattern-limit ≤ length vis
+  pub small : q ≤ pattern-limit
+  pub cells : cell-of rows r q ≤ length a
+
+-- pairs written from a word on: where they end, or that there is no room
+pub record Paired (bs : List (ℕ × ℕ)) (at res : ℕ) (o o′ : List ℕ) : Type 0 where
+  pub much : res ≡ min (at + 2 * length bs) (suc (length o))
+  pub wrote : at + 2 * length bs ≤ length o → o′ ≡ take at o ++ (pairs bs ++ drop (at + 2 * length bs) o)
+
+-- what a leaf is given
+pub record Leaving (a rows : List ℕ) (r : ℕ) (cur vis : List ℕ) : Type 0 where
+  pub there : r < length cur
+  pub long : row-stride * r + row-stride ≤ length rows
+  pub visits : pattern-limit * r + pattern-limit ≤ length vis
+  pub small : getD cur r 0 ≤ pattern-limit
+  pub cells : cell-of rows r (getD cur r 0) ≤ length a

@@ -1,0 +1,225 @@
+-- The proof of the cycle of calls {branch, node, visit}. The measure is the room that is left. Assumes nothing.
+use mathlib.Core.Path.{_≡_, refl, sym, ap, _∙_}
+use mathlib.Core.List.{[]}
+use Prim.Native.Nat.{ℕ, _+_, _-_, _*_, _≤_, _<_}
+use native.Mathlib.Omega.{arith}
+use borrow.Author.Needs.{needs}
+use borrow.Rule.Slice.PartMut.{same-len-mid}
+use lib.ListN.{length, set, take, drop, length-set, length-take, length-drop}
+use Rattle.signature.specs.Decoded.{first-of, count-of}
+use Rattle.signature.proofs.KnownFacts.{long}
+use Rattle.path.specs.Alive.{member}
+use Rattle.path.specs.State.{Kept}
+use Rattle.preorder.specs.Node.{Branching, child-of}
+use Rattle.preorder.proofs.BlankLaws.{blank-short, blank-given, blank-most, blank-wrote}
+use Rattle.preorder.proofs.CallLaws.{restored, kept-through, cols, cursor-within, leaving, looking, skip-child, skip-result, skip-fits, branch-child, branch-result, none-result, leaf-result, lower-ok}
+use Rattle.preorder.proofs.ChildLaws.{head-bounds, bounds, head-fits, head-width, keeping}
+use Rattle.preorder.proofs.ChildrenLaws.{Part}
+use Rattle.preorder.proofs.LoopLaws.{short-result, given-child, child-more, long-result, child-pos, node-start, node-end, width, kept-trans}
+use Rattle.preorder.proofs.NodeLaws.{no-room, real-cell}
+use borrow.Fn.Kinds.{In}
+use borrow.Fn.PlainCycle.{Measures, is, falls, and}
+use Rattle.preorder.proofs.branch.Reads as branch
+use Rattle.preorder.proofs.branch.Kinds as branch-kinds
+use Rattle.preorder.proofs.+branch+node+visit.Lts-branch as branch-lts
+use Rattle.preorder.proofs.node.Reads as node
+use Rattle.preorder.proofs.node.Kinds as node-kinds
+use Rattle.preorder.proofs.+branch+node+visit.Lts-node as node-lts
+use Rattle.preorder.proofs.visit.Reads as visit
+use Rattle.preorder.proofs.visit.Kinds as visit-kinds
+use Rattle.preorder.proofs.+branch+node+visit.Lts-visit as visit-lts
+use Rattle.signature.proofs.decoded.arity_of.Reads as arity-of-reads
+use Rattle.signature.proofs.decoded.count_of.Reads as count-of-reads
+use Rattle.signature.proofs.decoded.first_of.Reads as first-of-reads
+use Rattle.path.proofs.alive.first_alive.Reads as first-alive-reads
+use Rattle.column.proofs.column.Reads as column-reads
+use Rattle.column.proofs.keep.Reads as keep-reads
+use Rattle.visits.proofs.blank.Reads as blank-reads
+use Rattle.visits.proofs.lower.Reads as lower-reads
+use Rattle.visits.proofs.raise.Reads as raise-reads
+use Rattle.visits.proofs.real.Reads as real-reads
+use Rattle.leaf.proofs.leaf.Reads as leaf-reads
+use Rattle.preorder.proofs.skips.Reads as skips-reads
+use Rattle.preorder.proofs.+branch+node+visit.{statement}
+use Rattle.preorder.proofs.+branch+node+visit.Tie.{close}
+
+abbrev μ-branch : Measures 8 branch-kinds.ps ℕ
+μ-branch κs a = 3 * length (a .1 .1 .1 .1 .1 .1 .1 .1 .1 .1 .1 .0 .now)
+
+abbrev μ-node : Measures 7 node-kinds.ps ℕ
+μ-node κs a = 3 * length (a .1 .1 .1 .1 .1 .1 .1 .1 .1 .1 .0 .now) + 2
+
+abbrev μ-visit : Measures 7 visit-kinds.ps ℕ
+μ-visit κs a = 3 * length (a .1 .1 .1 .1 .1 .1 .1 .1 .1 .1 .0 .now) + 1
+
+abbrev branch-at : ℕ → In 8 branch-kinds.ps
+branch-at t = and 8 branch-kinds.ps (is 8 branch-kinds.ps μ-branch t) branch.Pre
+
+abbrev branch-below : ℕ → In 8 branch-kinds.ps
+branch-below t = and 8 branch-kinds.ps (falls 8 branch-kinds.ps _<_ μ-branch t) branch.Pre
+
+abbrev node-at : ℕ → In 7 node-kinds.ps
+node-at t = and 7 node-kinds.ps (is 7 node-kinds.ps μ-node t) node.Pre
+
+abbrev node-below : ℕ → In 7 node-kinds.ps
+node-below t = and 7 node-kinds.ps (falls 7 node-kinds.ps _<_ μ-node t) node.Pre
+
+abbrev visit-at : ℕ → In 7 visit-kinds.ps
+visit-at t = and 7 visit-kinds.ps (is 7 visit-kinds.ps μ-visit t) visit.Pre
+
+abbrev visit-below : ℕ → In 7 visit-kinds.ps
+visit-below t = and 7 visit-kinds.ps (falls 7 visit-kinds.ps _<_ μ-visit t) visit.Pre
+
+abbrev branch-Inv-loop : branch-lts.InvT-loop
+branch-Inv-loop t a rows n s re cur₀ vis₀ ncols v base out₀ k f m at₀ j₀ cur vis out at j =
+    (j ≤ m) × (at ≤ length out) × (length out ≡ length out₀) × (length vis ≡ length vis₀) × (cur ≡ cur₀) × Kept n cur₀ vis₀ vis
+    × ((len : ℕ) → len ≡ length out₀ → (g : Branching t a rows n s re cur₀ vis₀ ncols v base len k) → (dft fuel : ℕ) → len ≤ fuel → Part base (first-of t k) (count-of t k) (child-of g dft fuel) out₀ out at j) × (3 + m ≤ at)
+
+abbrev branch-μ-loop : branch-lts.MeasureT-loop
+branch-μ-loop t a rows n s re cur₀ vis₀ ncols v base out₀ k f m at₀ j₀ cur vis out at j = m - j
+
+pub +branch+node+visit-spec : {M : Type 1} → statement M
++branch+node+visit-spec = close μ-branch μ-node μ-visit (λ t. branch-lts.spec (
+  first-of-reads.Asked,
+  first-of-reads.Learnt,
+  count-of-reads.Asked,
+  count-of-reads.Learnt,
+  keep-reads.Asked,
+  keep-reads.Learnt,
+  arity-of-reads.Asked,
+  arity-of-reads.Learnt,
+  node-below t,
+  node.Post,
+)
+    (branch-at t)
+    branch.Post
+    branch-Inv-loop
+    branch-μ-loop
+    (λ c κs. (long (c .before .before .before .pre .1 .given .known), head-bounds (c .before .before .before .pre .1) .1))
+    (λ c κs. (long (c .before .before .before .before .before .pre .1 .given .known), head-bounds (c .before .before .before .before .before .pre .1) .1))
+    (λ c. search needs)
+    (λ c. omega (arith, head-bounds (c .before .before .before .before .before .before .pre .1), c .count-of .ensures))
+    (λ c. omega (arith, bounds (c .before .before .before .before .before .before .before .pre .1)))
+    (λ c. record { wrote = (λ g dft fuel h. short-result g dft fuel _ (omega (arith, c .if1 .taken, c .before .count-of .ensures))); kept = record { cursors = refl; visits = (λ r q h l. refl); long = refl } })
+    (λ c. omega (arith, c .if1 .left))
+    (λ c. simp length-set (omega (arith, c .if1 .left)))
+    (λ c. simp length-set (omega (arith, c .if1 .left)))
+    (λ c. (omega arith, simp length-set (omega (arith, c .if1 .left)), refl, refl, refl, (λ r q h l. refl), (λ len e g dft fuel h. node-start _ _ _ _ _ (child-of g dft fuel) (c .before .before .before .before .before .before .before .args .out .now) (c .before .before .before .first-of .ensures) (c .before .count-of .ensures) (omega (arith, c .if1 .left))), omega arith))
+    (λ c. search needs)
+    (λ c. refl)
+    (λ c κs. (keeping (c .before .before .before .before .before .before .before .before .before .before .before .before .before .pre .1) _ _ (c .before .before .before .before .before .loop .inv .4) (omega (arith, c .before .before .before .before .loop-test .taken, c .before .before .before .before .before .before .before .count-of .ensures)), refl))
+    (λ c. omega (arith, bounds (c .before .before .before .before .before .before .before .before .before .before .before .before .before .before .before .pre .1)))
+    (λ c. search needs)
+    (λ c. omega (arith, head-fits (c .before .before .before .before .before .before .before .before .before .before .before .before .before .before .before .before .pre .1) (c .before .before .before .before .before .before .before .before .loop .j) (omega (arith, c .before .before .before .before .before .before .before .loop-test .taken, c .before .before .before .before .before .before .before .before .before .before .count-of .ensures)), c .before .before .before .before .before .before .before .before .before .before .before .before .first-of .ensures))
+    (λ c κs. (long (c .before .before .before .before .before .before .before .before .before .before .before .before .before .before .before .before .pre .1 .given .known), omega (arith, head-fits (c .before .before .before .before .before .before .before .before .before .before .before .before .before .before .before .before .pre .1) (c .before .before .before .before .before .before .before .before .loop .j) (omega (arith, c .before .before .before .before .before .before .before .loop-test .taken, c .before .before .before .before .before .before .before .before .before .before .count-of .ensures)), c .before .before .before .before .before .before .before .before .before .before .before .before .first-of .ensures)))
+    (λ c. search needs)
+    (λ c. omega (arith, head-width (c .before .before .before .before .before .before .before .before .before .before .before .before .before .before .before .before .before .pre .1) (c .before .before .before .before .before .before .before .before .before .loop .j) _ _ (omega (arith, c .before .before .before .before .before .before .before .before .loop-test .taken, c .before .before .before .before .before .before .before .before .before .before .before .count-of .ensures)) (c .before .before .before .before .before .before .before .before .before .before .before .before .before .first-of .ensures) (c .arity-of .ensures), bounds (c .before .before .before .before .before .before .before .before .before .before .before .before .before .before .before .before .before .pre .1)))
+    (λ c. omega (arith, bounds (c .before .before .before .before .before .before .before .before .before .before .before .before .before .before .before .before .before .before .before .before .pre .1)))
+    (λ c. omega (arith, bounds (c .before .before .before .before .before .before .before .before .before .before .before .before .before .before .before .before .before .before .before .before .pre .1), (simp length-set at (c .before .before .before .before .before .before .before .before .before .before .before .before .loop .inv .2)), c .before .before .before .before .before .before .before .before .before .before .before .before .loop .inv .1))
+    (λ c. omega (arith, bounds (c .before .before .before .before .before .before .before .before .before .before .before .before .before .before .before .before .before .before .before .before .pre .1), (simp length-set at (c .before .before .before .before .before .before .before .before .before .before .before .before .loop .inv .2)), c .before .before .before .before .before .before .before .before .before .before .before .before .loop .inv .1))
+    (λ c. omega (arith, c .before .before .before .before .before .before .before .before .before .before .before .before .loop .inv .1))
+    (λ c. omega (arith, c .before .before .before .before .before .before .before .before .before .before .before .before .loop .inv .1))
+    (λ c. omega (arith, c .before .before .before .before .before .before .before .before .before .before .before .before .loop .inv .1))
+    (λ c κs. (simp (length-take, length-drop) (omega (arith, c .before .before .before .before .before .before .before .before .before .before .before .before .before .before .before .before .before .before .before .before .before .pre .0, (simp length-set at (c .before .before .before .before .before .before .before .before .before .before .before .before .before .loop .inv .2)), c .before .before .before .before .before .before .before .before .before .before .before .before .before .loop .inv .7, c .before .before .before .before .before .before .before .before .before .before .before .before .before .loop .inv .1)), given-child (c .before .before .before .before .before .before .before .before .before .before .before .before .before .before .before .before .before .before .before .before .before .pre .1) (c .before .before .before .before .before .before .before .keep .last .1 .1 .1 .1 .1 .1 .1 .0) (c .before .before .before .before .before .before .before .before .before .before .before .before .before .loop .cur) (c .before .before .before .before .before .before .before .before .before .before .before .before .before .loop .vis) (take (length (c .before .before .before .before .before .before .before .before .before .before .before .before .before .loop .out) - c .before .before .before .before .before .before .before .before .before .before .before .before .before .loop .at) (drop (c .before .before .before .before .before .before .before .before .before .before .before .before .before .loop .at) (c .before .before .before .before .before .before .before .before .before .before .before .before .before .loop .out))) (c .before .before .before .before .before .before .before .before .before .before .before .before .before .loop .j) (c .before .before .before .before .before .before .before .before .before .before .before .before .before .loop .at) _ (width (c .before .before .before .before .before .before .before .before .before .before .before .before .before .before .before .before .before .before .before .before .before .args .t .now) (c .before .before .before .before .before .before .before .before .before .before .before .before .before .before .before .before .before .before .before .before .before .args .ncols) (c .before .before .before .before .before .before .before .before .before .before .before .before .before .before .before .before .before .before .before .before .before .args .k) (c .before .before .before .before .before .before .before .before .before .before .before .before .before .loop .j) (c .before .before .before .before .before .before .before .before .before .before .before .before .before .before .before .before .before .first-of .result) (c .before .before .before .before .arity-of .result) (c .before .before .before .before .before .before .before .before .before .before .before .before .before .before .before .before .before .first-of .ensures) (c .before .before .before .before .arity-of .ensures)) (c .before .before .before .before .before .before .before .before .before .before .before .before .before .loop .inv .4) (omega (arith, c .before .before .before .before .before .before .before .before .before .before .before .before .loop-test .taken, c .before .before .before .before .before .before .before .before .before .before .before .before .before .before .before .count-of .ensures)) (c .before .before .before .before .before .before .before .keep .ensures) (c .before .before .before .before .before .before .before .before .before .before .before .before .before .loop .inv .5) (c .before .before .before .before .before .before .before .before .before .before .before .before .before .loop .inv .3) (omega (arith, c .before .before .before .before .before .before .before .before .before .before .before .before .before .loop .inv .7)) (simp (length-take, length-drop) (omega (arith, (simp length-set at (c .before .before .before .before .before .before .before .before .before .before .before .before .before .loop .inv .2)), c .before .before .before .before .before .before .before .before .before .before .before .before .before .loop .inv .1)))))
+    (λ c. omega (arith, same-len-mid (c .before .before .before .before .before .before .before .before .before .before .before .before .before .before .before .before .loop .at) (length (c .before .before .before .before .before .before .before .before .before .before .before .before .before .before .before .before .loop .out) - c .before .before .before .before .before .before .before .before .before .before .before .before .before .before .before .before .loop .at) (c .before .before .before .before .before .before .before .before .before .before .before .before .before .before .before .before .loop .out) (c .before .before .node .last .1 .1 .1 .1 .1 .1 .1 .1 .1 .1 .0) (c .before .before .node .kept .1 .1 .1 .1 .1 .1 .1 .1 .1 .1 .0), c .before .before .before .before .before .before .before .before .before .before .before .before .before .before .before .before .loop .inv .1))
+    (λ c. omega (arith, same-len-mid (c .before .before .before .before .before .before .before .before .before .before .before .before .before .before .before .before .before .loop .at) (length (c .before .before .before .before .before .before .before .before .before .before .before .before .before .before .before .before .before .loop .out) - c .before .before .before .before .before .before .before .before .before .before .before .before .before .before .before .before .before .loop .at) (c .before .before .before .before .before .before .before .before .before .before .before .before .before .before .before .before .before .loop .out) (c .before .before .before .node .last .1 .1 .1 .1 .1 .1 .1 .1 .1 .1 .0) (c .before .before .before .node .kept .1 .1 .1 .1 .1 .1 .1 .1 .1 .1 .0), (simp length-set at (c .before .before .before .before .before .before .before .before .before .before .before .before .before .before .before .before .before .loop .inv .2)), bounds (c .before .before .before .before .before .before .before .before .before .before .before .before .before .before .before .before .before .before .before .before .before .before .before .before .before .pre .1)))
+    (λ c. same-len-mid (c .before .before .before .before .before .before .before .before .before .before .before .before .before .before .before .before .before .loop .at) (length (c .before .before .before .before .before .before .before .before .before .before .before .before .before .before .before .before .before .loop .out) - c .before .before .before .before .before .before .before .before .before .before .before .before .before .before .before .before .before .loop .at) (c .before .before .before .before .before .before .before .before .before .before .before .before .before .before .before .before .before .loop .out) (c .before .before .before .node .last .1 .1 .1 .1 .1 .1 .1 .1 .1 .1 .0) (c .before .before .before .node .kept .1 .1 .1 .1 .1 .1 .1 .1 .1 .1 .0) ∙ (simp length-set at (c .before .before .before .before .before .before .before .before .before .before .before .before .before .before .before .before .before .loop .inv .2)))
+    (λ c. record {
+      wrote = (λ g dft fuel h. long-result g (c .before .before .before .before .before .before .before .before .before .before .before .keep .last .1 .1 .1 .1 .1 .1 .1 .0) (c .before .before .before .before .before .before .before .before .before .before .before .before .before .before .before .before .before .loop .cur) (c .before .before .before .before .before .before .before .before .before .before .before .before .before .before .before .before .before .loop .vis) (set (set (set (c .before .before .before .before .before .before .before .before .before .before .before .before .before .before .before .before .before .before .before .before .before .before .before .before .before .args .out .now) 0 2) 1 (c .before .before .before .before .before .before .before .before .before .before .before .before .before .before .before .before .before .before .before .before .before .first-of .result)) 2 (c .before .before .before .before .before .before .before .before .before .before .before .before .before .before .before .before .before .before .before .count-of .result)) (c .before .before .before .before .before .before .before .before .before .before .before .before .before .before .before .before .before .loop .out) (c .before .before .before .node .last .1 .1 .1 .1 .1 .1 .1 .1 .1 .1 .0) (c .before .before .before .before .before .before .before .before .before .before .before .before .before .before .before .before .before .before .before .before .before .before .before .before .before .args .out .now) _ (c .before .before .before .before .before .before .before .before .before .before .before .before .before .before .before .before .before .loop .j) (c .before .before .before .before .before .before .before .before .before .before .before .before .before .before .before .before .before .loop .at) (c .before .before .before .node .result) dft fuel _ (width (c .before .before .before .before .before .before .before .before .before .before .before .before .before .before .before .before .before .before .before .before .before .before .before .before .before .args .t .now) (c .before .before .before .before .before .before .before .before .before .before .before .before .before .before .before .before .before .before .before .before .before .before .before .before .before .args .ncols) (c .before .before .before .before .before .before .before .before .before .before .before .before .before .before .before .before .before .before .before .before .before .before .before .before .before .args .k) (c .before .before .before .before .before .before .before .before .before .before .before .before .before .before .before .before .before .loop .j) (c .before .before .before .before .before .before .before .before .before .before .before .before .before .before .before .before .before .before .before .before .before .first-of .result) (c .before .before .before .before .before .before .before .before .arity-of .result) (c .before .before .before .before .before .before .before .before .before .before .before .before .before .before .before .before .before .before .before .before .before .first-of .ensures) (c .before .before .before .before .before .before .before .before .arity-of .ensures)) (c .before .before .before .before .before .before .before .before .before .before .before .before .before .before .before .before .before .loop .inv .4) (omega (arith, c .before .before .before .before .before .before .before .before .before .before .before .before .before .before .before .before .loop-test .taken, c .before .before .before .before .before .before .before .before .before .before .before .before .before .before .before .before .before .before .before .count-of .ensures)) (c .before .before .before .before .before .before .before .before .before .before .before .keep .ensures) (c .before .before .before .before .before .before .before .before .before .before .before .before .before .before .before .before .before .loop .inv .5) (c .before .before .before .before .before .before .before .before .before .before .before .before .before .before .before .before .before .loop .inv .3) (c .before .before .before .before .before .before .before .before .before .before .before .before .before .before .before .before .before .loop .inv .1) (simp length-set at (c .before .before .before .before .before .before .before .before .before .before .before .before .before .before .before .before .before .loop .inv .2)) h refl (c .before .before .before .node .ensures .wrote)
+          ((c .before .before .before .before .before .before .before .before .before .before .before .before .before .before .before .before .before .loop .inv .6) _ (sym (simp length-set)) g dft fuel h) (omega (arith, same-len-mid (c .before .before .before .before .before .before .before .before .before .before .before .before .before .before .before .before .before .loop .at) (length (c .before .before .before .before .before .before .before .before .before .before .before .before .before .before .before .before .before .loop .out) - c .before .before .before .before .before .before .before .before .before .before .before .before .before .before .before .before .before .loop .at) (c .before .before .before .before .before .before .before .before .before .before .before .before .before .before .before .before .before .loop .out) (c .before .before .before .node .last .1 .1 .1 .1 .1 .1 .1 .1 .1 .1 .0) (c .before .before .before .node .kept .1 .1 .1 .1 .1 .1 .1 .1 .1 .1 .0), c .if2 .taken)) _ (same-len-mid (c .before .before .before .before .before .before .before .before .before .before .before .before .before .before .before .before .before .loop .at) (length (c .before .before .before .before .before .before .before .before .before .before .before .before .before .before .before .before .before .loop .out) - c .before .before .before .before .before .before .before .before .before .before .before .before .before .before .before .before .before .loop .at) (c .before .before .before .before .before .before .before .before .before .before .before .before .before .before .before .before .before .loop .out) (c .before .before .before .node .last .1 .1 .1 .1 .1 .1 .1 .1 .1 .1 .0) (c .before .before .before .node .kept .1 .1 .1 .1 .1 .1 .1 .1 .1 .1 .0) ∙ (simp length-set at (c .before .before .before .before .before .before .before .before .before .before .before .before .before .before .before .before .before .loop .inv .2))));
+      kept = record { cursors = c .before .before .before .node .ensures .kept .cursors ∙ c .before .before .before .before .before .before .before .before .before .before .before .before .before .before .before .before .before .loop .inv .4; visits = kept-trans (c .before .before .before .before .before .before .before .before .before .before .before .before .before .before .before .before .before .before .before .before .before .before .before .before .before .args .n) (c .before .before .before .before .before .before .before .before .before .before .before .before .before .before .before .before .before .before .before .before .before .before .before .before .before .args .cur .now) (c .before .before .before .before .before .before .before .before .before .before .before .before .before .before .before .before .before .loop .cur) (c .before .before .before .before .before .before .before .before .before .before .before .before .before .before .before .before .before .before .before .before .before .before .before .before .before .args .vis .now) (c .before .before .before .before .before .before .before .before .before .before .before .before .before .before .before .before .before .loop .vis) (c .before .before .before .node .last .1 .1 .1 .1 .1 .1 .0) (c .before .before .before .before .before .before .before .before .before .before .before .before .before .before .before .before .before .loop .inv .4) (c .before .before .before .before .before .before .before .before .before .before .before .before .before .before .before .before .before .loop .inv .5) (c .before .before .before .node .ensures .kept .visits); long = c .before .before .before .node .ensures .kept .long ∙ c .before .before .before .before .before .before .before .before .before .before .before .before .before .before .before .before .before .loop .inv .3 };
+    })
+    (λ c. omega (arith, bounds (c .before .before .before .before .before .before .before .before .before .before .before .before .before .before .before .before .before .before .before .before .before .before .before .before .before .pre .1), (simp length-set at (c .before .before .before .before .before .before .before .before .before .before .before .before .before .before .before .before .before .loop .inv .2)), c .before .before .before .before .before .before .before .before .before .before .before .before .before .before .before .before .before .loop .inv .1))
+    (λ c. omega (arith, bounds (c .before .before .before .before .before .before .before .before .before .before .before .before .before .before .before .before .before .before .before .before .before .before .before .before .before .pre .1), (simp length-set at (c .before .before .before .before .before .before .before .before .before .before .before .before .before .before .before .before .before .loop .inv .2)), child-pos (c .before .before .before .before .before .before .before .before .before .before .before .before .before .before .before .before .before .before .before .before .before .before .before .before .before .pre .1) (c .before .before .before .before .before .before .before .before .before .before .before .keep .last .1 .1 .1 .1 .1 .1 .1 .0) (c .before .before .before .before .before .before .before .before .before .before .before .before .before .before .before .before .before .loop .cur) (c .before .before .before .before .before .before .before .before .before .before .before .before .before .before .before .before .before .loop .vis) (c .before .before .before .before .before .before .before .before .before .before .before .before .before .before .before .before .before .loop .out) (c .before .before .before .node .last .1 .1 .1 .1 .1 .1 .1 .1 .1 .1 .0) (c .before .before .before .before .before .before .before .before .before .before .before .before .before .before .before .before .before .loop .j) (c .before .before .before .before .before .before .before .before .before .before .before .before .before .before .before .before .before .loop .at) (c .before .before .before .node .result) _ (width (c .before .before .before .before .before .before .before .before .before .before .before .before .before .before .before .before .before .before .before .before .before .before .before .before .before .args .t .now) (c .before .before .before .before .before .before .before .before .before .before .before .before .before .before .before .before .before .before .before .before .before .before .before .before .before .args .ncols) (c .before .before .before .before .before .before .before .before .before .before .before .before .before .before .before .before .before .before .before .before .before .before .before .before .before .args .k) (c .before .before .before .before .before .before .before .before .before .before .before .before .before .before .before .before .before .loop .j) (c .before .before .before .before .before .before .before .before .before .before .before .before .before .before .before .before .before .before .before .before .before .first-of .result) (c .before .before .before .before .before .before .before .before .arity-of .result) (c .before .before .before .before .before .before .before .before .before .before .before .before .before .before .before .before .before .before .before .before .before .first-of .ensures) (c .before .before .before .before .before .before .before .before .arity-of .ensures)) (c .before .before .before .before .before .before .before .before .before .before .before .before .before .before .before .before .before .loop .inv .4) (omega (arith, c .before .before .before .before .before .before .before .before .before .before .before .before .before .before .before .before .loop-test .taken, c .before .before .before .before .before .before .before .before .before .before .before .before .before .before .before .before .before .before .before .count-of .ensures)) (c .before .before .before .before .before .before .before .before .before .before .before .keep .ensures) (c .before .before .before .before .before .before .before .before .before .before .before .before .before .before .before .before .before .loop .inv .5) (c .before .before .before .before .before .before .before .before .before .before .before .before .before .before .before .before .before .loop .inv .3) (c .before .before .before .before .before .before .before .before .before .before .before .before .before .before .before .before .before .loop .inv .1) (simp length-set at (c .before .before .before .before .before .before .before .before .before .before .before .before .before .before .before .before .before .loop .inv .2)) (omega (arith, c .before .before .before .before .before .before .before .before .before .before .before .before .before .before .before .before .before .loop .inv .7)) (c .before .before .before .node .ensures .wrote), same-len-mid (c .before .before .before .before .before .before .before .before .before .before .before .before .before .before .before .before .before .loop .at) (length (c .before .before .before .before .before .before .before .before .before .before .before .before .before .before .before .before .before .loop .out) - c .before .before .before .before .before .before .before .before .before .before .before .before .before .before .before .before .before .loop .at) (c .before .before .before .before .before .before .before .before .before .before .before .before .before .before .before .before .before .loop .out) (c .before .before .before .node .last .1 .1 .1 .1 .1 .1 .1 .1 .1 .1 .0) (c .before .before .before .node .kept .1 .1 .1 .1 .1 .1 .1 .1 .1 .1 .0), c .if2 .left))
+    (λ c. omega (arith, head-bounds (c .before .before .before .before .before .before .before .before .before .before .before .before .before .before .before .before .before .before .before .before .before .before .before .before .before .pre .1), c .before .before .before .before .before .before .before .before .before .before .before .before .before .before .before .before .before .before .before .count-of .ensures, c .before .before .before .before .before .before .before .before .before .before .before .before .before .before .before .before .loop-test .taken))
+    (λ c. omega (arith, head-bounds (c .before .before .before .before .before .before .before .before .before .before .before .before .before .before .before .before .before .before .before .before .before .before .before .before .before .pre .1), c .before .before .before .before .before .before .before .before .before .before .before .before .before .before .before .before .before .before .before .count-of .ensures, c .before .before .before .before .before .before .before .before .before .before .before .before .before .before .before .before .loop-test .taken))
+    (λ c. omega (arith, same-len-mid (c .before .before .before .before .before .before .before .before .before .before .before .before .before .before .before .before .before .loop .at) (length (c .before .before .before .before .before .before .before .before .before .before .before .before .before .before .before .before .before .loop .out) - c .before .before .before .before .before .before .before .before .before .before .before .before .before .before .before .before .before .loop .at) (c .before .before .before .before .before .before .before .before .before .before .before .before .before .before .before .before .before .loop .out) (c .before .before .before .node .last .1 .1 .1 .1 .1 .1 .1 .1 .1 .1 .0) (c .before .before .before .node .kept .1 .1 .1 .1 .1 .1 .1 .1 .1 .1 .0), c .before .before .before .before .before .before .before .before .before .before .before .before .before .before .before .before .before .loop .inv .7, c .before .before .before .before .before .before .before .before .before .before .before .before .before .before .before .before .before .loop .inv .1, c .before .before .before .before .before .before .before .before .before .before .before .before .before .before .before .before .loop-test .taken))
+    (λ c. omega (arith, same-len-mid (c .before .before .before .before .before .before .before .before .before .before .before .before .before .before .before .before .before .loop .at) (length (c .before .before .before .before .before .before .before .before .before .before .before .before .before .before .before .before .before .loop .out) - c .before .before .before .before .before .before .before .before .before .before .before .before .before .before .before .before .before .loop .at) (c .before .before .before .before .before .before .before .before .before .before .before .before .before .before .before .before .before .loop .out) (c .before .before .before .node .last .1 .1 .1 .1 .1 .1 .1 .1 .1 .1 .0) (c .before .before .before .node .kept .1 .1 .1 .1 .1 .1 .1 .1 .1 .1 .0), (simp length-set at (c .before .before .before .before .before .before .before .before .before .before .before .before .before .before .before .before .before .loop .inv .2)), bounds (c .before .before .before .before .before .before .before .before .before .before .before .before .before .before .before .before .before .before .before .before .before .before .before .before .before .pre .1), c .if2 .left))
+    (λ c. omega (arith, head-bounds (c .before .before .before .before .before .before .before .before .before .before .before .before .before .before .before .before .before .before .before .before .before .before .before .before .before .pre .1), c .before .before .before .before .before .before .before .before .before .before .before .before .before .before .before .before .before .before .before .count-of .ensures, c .before .before .before .before .before .before .before .before .before .before .before .before .before .before .before .before .loop-test .taken))
+    (λ c. omega (arith, c .before .before .before .before .before .before .before .before .before .before .before .before .before .before .before .before .loop-test .taken))
+    (λ c. (
+      omega (arith, c .before .before .before .before .before .before .before .before .before .before .before .before .before .before .before .before .loop-test .taken),
+      simp length-set (omega (arith, same-len-mid (c .before .before .before .before .before .before .before .before .before .before .before .before .before .before .before .before .before .loop .at) (length (c .before .before .before .before .before .before .before .before .before .before .before .before .before .before .before .before .before .loop .out) - c .before .before .before .before .before .before .before .before .before .before .before .before .before .before .before .before .before .loop .at) (c .before .before .before .before .before .before .before .before .before .before .before .before .before .before .before .before .before .loop .out) (c .before .before .before .node .last .1 .1 .1 .1 .1 .1 .1 .1 .1 .1 .0) (c .before .before .before .node .kept .1 .1 .1 .1 .1 .1 .1 .1 .1 .1 .0), c .before .before .before .before .before .before .before .before .before .before .before .before .before .before .before .before .before .loop .inv .1, c .if2 .left)),
+      simp length-set (same-len-mid (c .before .before .before .before .before .before .before .before .before .before .before .before .before .before .before .before .before .loop .at) (length (c .before .before .before .before .before .before .before .before .before .before .before .before .before .before .before .before .before .loop .out) - c .before .before .before .before .before .before .before .before .before .before .before .before .before .before .before .before .before .loop .at) (c .before .before .before .before .before .before .before .before .before .before .before .before .before .before .before .before .before .loop .out) (c .before .before .before .node .last .1 .1 .1 .1 .1 .1 .1 .1 .1 .1 .0) (c .before .before .before .node .kept .1 .1 .1 .1 .1 .1 .1 .1 .1 .1 .0) ∙ (simp length-set at (c .before .before .before .before .before .before .before .before .before .before .before .before .before .before .before .before .before .loop .inv .2))),
+      c .before .before .before .node .ensures .kept .long ∙ c .before .before .before .before .before .before .before .before .before .before .before .before .before .before .before .before .before .loop .inv .3,
+      c .before .before .before .node .ensures .kept .cursors ∙ c .before .before .before .before .before .before .before .before .before .before .before .before .before .before .before .before .before .loop .inv .4,
+      kept-trans (c .before .before .before .before .before .before .before .before .before .before .before .before .before .before .before .before .before .before .before .before .before .before .before .before .before .args .n) (c .before .before .before .before .before .before .before .before .before .before .before .before .before .before .before .before .before .before .before .before .before .before .before .before .before .args .cur .now) (c .before .before .before .before .before .before .before .before .before .before .before .before .before .before .before .before .before .loop .cur) (c .before .before .before .before .before .before .before .before .before .before .before .before .before .before .before .before .before .before .before .before .before .before .before .before .before .args .vis .now) (c .before .before .before .before .before .before .before .before .before .before .before .before .before .before .before .before .before .loop .vis) (c .before .before .before .node .last .1 .1 .1 .1 .1 .1 .0) (c .before .before .before .before .before .before .before .before .before .before .before .before .before .before .before .before .before .loop .inv .4) (c .before .before .before .before .before .before .before .before .before .before .before .before .before .before .before .before .before .loop .inv .5) (c .before .before .before .node .ensures .kept .visits),
+      (λ len e g dft fuel h. child-more g (c .before .before .before .before .before .before .before .before .before .before .before .keep .last .1 .1 .1 .1 .1 .1 .1 .0) (c .before .before .before .before .before .before .before .before .before .before .before .before .before .before .before .before .before .loop .cur) (c .before .before .before .before .before .before .before .before .before .before .before .before .before .before .before .before .before .loop .vis) (set (set (set (c .before .before .before .before .before .before .before .before .before .before .before .before .before .before .before .before .before .before .before .before .before .before .before .before .before .args .out .now) 0 2) 1 (c .before .before .before .before .before .before .before .before .before .before .before .before .before .before .before .before .before .before .before .before .before .first-of .result)) 2 (c .before .before .before .before .before .before .before .before .before .before .before .before .before .before .before .before .before .before .before .count-of .result)) (c .before .before .before .before .before .before .before .before .before .before .before .before .before .before .before .before .before .loop .out) (c .before .before .before .node .last .1 .1 .1 .1 .1 .1 .1 .1 .1 .1 .0) (c .before .before .before .before .before .before .before .before .before .before .before .before .before .before .before .before .before .loop .j) (c .before .before .before .before .before .before .before .before .before .before .before .before .before .before .before .before .before .loop .at) (c .before .before .before .node .result) dft fuel _ (width (c .before .before .before .before .before .before .before .before .before .before .before .before .before .before .before .before .before .before .before .before .before .before .before .before .before .args .t .now) (c .before .before .before .before .before .before .before .before .before .before .before .before .before .before .before .before .before .before .before .before .before .before .before .before .before .args .ncols) (c .before .before .before .before .before .before .before .before .before .before .before .before .before .before .before .before .before .before .before .before .before .before .before .before .before .args .k) (c .before .before .before .before .before .before .before .before .before .before .before .before .before .before .before .before .before .loop .j) (c .before .before .before .before .before .before .before .before .before .before .before .before .before .before .before .before .before .before .before .before .before .first-of .result) (c .before .before .before .before .before .before .before .before .arity-of .result) (c .before .before .before .before .before .before .before .before .before .before .before .before .before .before .before .before .before .before .before .before .before .first-of .ensures) (c .before .before .before .before .before .before .before .before .arity-of .ensures)) (c .before .before .before .before .before .before .before .before .before .before .before .before .before .before .before .before .before .loop .inv .4) (omega (arith, c .before .before .before .before .before .before .before .before .before .before .before .before .before .before .before .before .loop-test .taken, c .before .before .before .before .before .before .before .before .before .before .before .before .before .before .before .before .before .before .before .count-of .ensures)) (c .before .before .before .before .before .before .before .before .before .before .before .keep .ensures) (c .before .before .before .before .before .before .before .before .before .before .before .before .before .before .before .before .before .loop .inv .5) (c .before .before .before .before .before .before .before .before .before .before .before .before .before .before .before .before .before .loop .inv .3) (c .before .before .before .before .before .before .before .before .before .before .before .before .before .before .before .before .before .loop .inv .1) ((c .before .before .before .before .before .before .before .before .before .before .before .before .before .before .before .before .before .loop .inv .2) ∙ sym e) h (c .before .before .before .node .ensures .wrote)
+          ((c .before .before .before .before .before .before .before .before .before .before .before .before .before .before .before .before .before .loop .inv .6) _ e g dft fuel h) (omega (arith, same-len-mid (c .before .before .before .before .before .before .before .before .before .before .before .before .before .before .before .before .before .loop .at) (length (c .before .before .before .before .before .before .before .before .before .before .before .before .before .before .before .before .before .loop .out) - c .before .before .before .before .before .before .before .before .before .before .before .before .before .before .before .before .before .loop .at) (c .before .before .before .before .before .before .before .before .before .before .before .before .before .before .before .before .before .loop .out) (c .before .before .before .node .last .1 .1 .1 .1 .1 .1 .1 .1 .1 .1 .0) (c .before .before .before .node .kept .1 .1 .1 .1 .1 .1 .1 .1 .1 .1 .0), c .if2 .left))),
+      omega (arith, c .before .before .before .before .before .before .before .before .before .before .before .before .before .before .before .before .before .loop .inv .7),
+    ))
+    (λ c. (simp length-set at (c .before .loop .inv .2)))
+    (λ c. record { wrote = (λ g dft fuel h. node-end _ _ _ _ _ (child-of g dft fuel) (c .before .before .before .before .before .before .before .before .before .args .out .now) _ _ _ (c .before .before .before .before .before .first-of .ensures) (c .before .before .before .count-of .ensures) (c .loop-test .left) (c .before .loop .inv .0) (omega (arith, c .before .loop .inv .1, (simp length-set at (c .before .loop .inv .2)))) ((c .before .loop .inv .6) _ (sym (simp length-set)) g dft fuel h)); kept = record { cursors = c .before .loop .inv .4; visits = c .before .loop .inv .5; long = c .before .loop .inv .3 } }))
+    (λ t. node-lts.spec (
+      blank-reads.Asked,
+      blank-reads.Learnt,
+      skips-reads.Asked,
+      skips-reads.Learnt,
+      visit-below t,
+      visit.Post,
+    )
+    (node-at t)
+    node.Post
+    (λ c κs. (c .before .before .before .before .before .pre .1 .few, c .before .before .before .before .before .pre .1 .cursors, c .before .before .before .before .before .pre .1 .ok .long, λ r l e. (c .before .before .before .before .before .pre .1 .low r l, cursor-within (c .before .before .before .before .before .pre .1) r l e .1)))
+    (λ c. omega (arith, c .before .before .before .before .before .before .before .pre .1 .links-fit))
+    (λ c. record { wrote = (λ g dft fuel h. blank-short _ g (c .before .blank .result) (c .before .blank .ensures) dft fuel h (c .if1 .taken)); kept = record { cursors = refl; visits = (λ r q h l. refl); long = refl } })
+    (λ c κs. omega (arith, c .before .if1 .left))
+    (λ c. omega (arith, c .before .before .before .before .before .before .before .blank .ensures .most))
+    (λ c. omega (arith, c .before .before .before .before .before .before .before .before .before .before .before .before .before .pre .1 .visits-fit, c .before .before .before .before .before .before .if1 .left))
+    (λ c. omega (arith, c .before .before .before .before .before .before .before .before .before .before .before .before .before .pre .1 .links-fit, c .before .before .before .before .before .before .if1 .left))
+    (λ c. omega (arith, c .before .before .before .before .before .before .before .before .before .before .before .before .before .pre .1 .links-fit, c .before .before .before .before .before .before .if1 .left))
+    (λ c. omega (arith, c .before .before .before .before .skips .kept .0, c .before .before .before .before .before .before .if1 .left))
+    (λ c. omega (arith, c .before .before .before .before .skips .kept .0, c .before .before .before .before .before .before .if1 .left))
+    (λ c. omega (arith, c .before .before .before .before .skips .kept .0, c .before .before .before .before .before .before .if1 .left))
+    (λ c κs. (simp (length-take, length-drop) (omega (arith, c .before .before .before .before .before .before .before .before .before .before .before .before .before .before .pre .0, c .before .before .before .before .before .skips .kept .0, c .before .before .before .before .before .before .before .if1 .left)), blank-given _ (c .before .before .before .before .before .before .before .before .before .before .before .before .before .before .pre .1) (c .before .before .before .before .before .before .before .before .blank .result) (c .before .before .before .before .before .before .before .before .blank .ensures) (c .before .before .before .before .before .skips .last .0) (omega (arith, c .before .before .before .before .before .before .before .if1 .left)) (c .before .before .before .before .before .skips .ensures)))
+    (λ c. omega (arith, blank-most _ (c .before .before .before .before .before .before .before .before .before .before .before .before .before .before .before .before .before .pre .1) (c .before .before .before .before .before .before .before .before .before .before .before .blank .result) (c .before .before .before .before .before .before .before .before .before .before .before .blank .ensures) (c .before .before .before .before .before .before .before .before .skips .last .0) (omega (arith, c .before .before .before .before .before .before .before .before .before .before .if1 .left)) (c .before .before .before .before .before .before .before .before .skips .ensures) (c .before .before .visit .result) (c .before .before .visit .last .1 .1 .1 .1 .1 .1 .1 .1 .1 .1 .0) (c .before .before .visit .ensures .wrote), c .before .before .before .before .before .before .before .before .before .before .before .before .before .before .before .before .before .pre .1 .links-fit))
+    (λ c. same-len-mid (c .before .before .before .before .before .before .before .before .before .before .before .blank .result) (length (c .before .before .before .before .before .before .before .before .skips .last .0) - c .before .before .before .before .before .before .before .before .before .before .before .blank .result) (c .before .before .before .before .before .before .before .before .skips .last .0) (c .before .before .visit .last .1 .1 .1 .1 .1 .1 .1 .1 .1 .1 .0) (c .before .before .visit .kept .1 .1 .1 .1 .1 .1 .1 .1 .1 .1 .0) ∙ c .before .before .before .before .before .before .before .before .skips .kept .0)
+    (λ c. record { wrote = (λ g dft fuel h. blank-wrote _ g (c .before .before .before .before .before .before .before .before .before .before .before .blank .result) (c .before .before .before .before .before .before .before .before .before .before .before .blank .ensures) (c .before .before .before .before .before .before .before .before .skips .last .0) (omega (arith, c .before .before .before .before .before .before .before .before .before .before .if1 .left)) (c .before .before .before .before .before .before .before .before .skips .ensures) (c .before .before .visit .result) (c .before .before .visit .last .1 .1 .1 .1 .1 .1 .1 .1 .1 .1 .0) (c .before .before .visit .ensures .wrote) dft fuel h); kept = record { cursors = c .before .before .visit .ensures .kept .cursors; visits = c .before .before .visit .ensures .kept .visits; long = c .before .before .visit .ensures .kept .long } }))
+    λ t. visit-lts.spec (
+      first-alive-reads.Asked,
+      first-alive-reads.Learnt,
+      leaf-reads.Asked,
+      leaf-reads.Learnt,
+      real-reads.Asked,
+      real-reads.Learnt,
+      column-reads.Asked,
+      column-reads.Learnt,
+      raise-reads.Asked,
+      raise-reads.Learnt,
+      node-below t,
+      node.Post,
+      lower-reads.Asked,
+      lower-reads.Learnt,
+      branch-below t,
+      branch.Post,
+    )
+    (visit-at t)
+    visit.Post
+    (λ c. record { wrote = (λ g dft fuel h. no-room _ _ _ _ (c .if1 .taken)); kept = record { cursors = refl; visits = (λ r q h l. refl); long = refl } })
+    (λ c κs. c .before .before .before .pre .1 .few)
+    (λ c. omega (arith, c .before .before .if1 .left))
+    (λ c. simp length-set)
+    (λ c. record { wrote = (λ g dft fuel h. none-result g dft fuel _ h (omega (arith, c .before .before .if1 .left)) (c .if2 .taken) (c .before .first-alive .ensures)); kept = record { cursors = refl; visits = (λ r q h l. refl); long = refl } })
+    (λ c κs. (leaving (c .before .before .before .before .before .before .before .before .before .before .before .before .pre .1) _ (omega (arith, c .before .before .before .before .before .before .before .before .first-alive .ensures .most, c .before .before .before .before .before .before .before .if2 .left)) (c .before .before .before .before .before .before .before .before .first-alive .ensures .there (omega (arith, c .before .before .before .before .before .before .before .before .first-alive .ensures .most, c .before .before .before .before .before .before .before .if2 .left))), omega (arith, c .before .before .before .before .before .before .before .before .before .before .before .before .pre .1 .links-fit)))
+    (λ c. c .before .before .leaf .kept .1 .1 .1 .1 .1 .0)
+    (λ c. record { wrote = (λ g dft fuel h. leaf-result g dft fuel _ _ _ h (omega (arith, c .before .before .before .before .before .before .before .before .before .before .before .first-alive .ensures .most, c .before .before .before .before .before .before .before .before .before .before .if2 .left)) (c .before .before .before .before .before .before .before .before .before .before .before .first-alive .ensures) (c .before .before .before .before .before .before .before .before .before .if3 .taken) (c .before .before .leaf .ensures)); kept = record { cursors = refl; visits = (λ r q h l. refl); long = refl } })
+    (λ c. refl)
+    (λ c κs. (c .before .before .before .before .before .before .before .before .before .before .pre .1 .few, c .before .before .before .before .before .before .before .before .before .before .pre .1 .cursors, c .before .before .before .before .before .before .before .before .before .before .pre .1 .ok .long, (λ r l e. c .before .before .before .before .before .before .before .before .before .before .pre .1 .low r l), refl))
+    (λ c κs. let k = cols (c .before .before .before .before .before .before .before .before .before .before .before .before .before .before .before .before .before .pre .1) (omega (arith, c .before .before .before .before .before .before .before .before .before .before .before .if3 .left)) in looking (c .before .before .before .before .before .before .before .before .before .before .before .before .before .before .before .before .before .pre .1) _ (k .k) (k .rest) (k .is) (k .there) (c .before .before .before .before .before .before .real .ensures))
+    (λ c κs. let k = cols (c .before .before .before .before .before .before .before .before .before .before .before .before .before .before .before .before .before .before .before .before .before .pre .1) (omega (arith, c .before .before .before .before .before .before .before .before .before .before .before .before .before .before .before .if3 .left)) in (c .before .before .before .before .before .before .before .before .before .before .before .before .before .before .before .before .before .before .before .before .before .pre .1 .few, c .before .before .before .before .before .before .before .before .before .before .before .before .before .before .before .before .before .before .before .before .before .pre .1 .cursors, c .before .before .before .before .before .before .before .before .before .before .before .before .before .before .before .before .before .before .before .before .before .pre .1 .visits, omega (arith, c .before .before .before .before .before .before .before .before .before .before .before .before .before .before .before .before .before .before .before .before .before .pre .1 .visits-fit, c .before .before .before .before .before .before .before .before .before .before .before .before .before .before .before .before .before .before .if1 .left), c .before .before .before .before .before .before .before .before .before .before .before .before .before .before .before .before .before .before .before .before .before .pre .1 .low, λ r l e. real-cell (c .before .before .before .before .before .before .before .before .before .before .before .before .before .before .before .before .before .before .before .before .before .pre .1) _ (k .k) (k .rest) (k .is) (c .before .before .before .before .before .before .before .before .before .before .real .ensures) r l e .0))
+    (λ c. omega (arith, c .before .before .before .before .before .before .before .before .before .before .before .before .before .before .before .before .before .before .before .before .if1 .left))
+    (λ c. omega (arith, c .before .before .before .before .before .before .before .before .before .before .before .before .before .before .before .before .before .before .before .if3 .left))
+    (λ c. omega (arith, c .before .before .before .before .before .before .before .before .before .before .before .before .before .before .before .before .before .before .before .before .before .before .before .before .before .pre .1 .visits-fit, c .before .before .before .before .before .before .before .before .before .before .before .before .before .before .before .before .before .before .before .before .before .before .if1 .left))
+    (λ c. omega (arith, c .before .before .before .before .before .before .before .before .before .before .before .before .before .before .before .before .before .before .before .before .before .before .before .before .before .pre .1 .links-fit, c .before .before .before .before .before .before .before .before .before .before .before .before .before .before .before .before .before .before .before .before .before .before .if1 .left))
+    (λ c. simp length-set (omega (arith, c .before .before .before .before .before .before .before .before .before .before .before .before .before .before .before .before .before .before .before .before .before .before .if1 .left)))
+    (λ c. simp length-set (omega (arith, c .before .before .before .before .before .before .before .before .before .before .before .before .before .before .before .before .before .before .before .before .before .before .if1 .left)))
+    (λ c. omega arith)
+    (λ c κs. (simp (length-take, length-drop, length-set) (omega (arith, c .before .before .before .before .before .before .before .before .before .before .before .before .before .before .before .before .before .before .before .before .before .before .before .before .before .before .pre .0, c .before .before .before .before .before .before .before .before .before .before .before .before .before .before .before .before .before .before .before .before .before .before .before .if1 .left)), skip-child (c .before .before .before .before .before .before .before .before .before .before .before .before .before .before .before .real .last .1 .1 .1 .1 .1 .0) (c .before .before .before .before .raise .last .0) (c .before .before .before .before .raise .last .1 .0) (c .before .before .before .before .before .before .before .before .before .before .before .before .before .before .before .before .before .before .before .before .before .before .before .before .before .before .args .out .now) [] (c .before .before .before .before .before .before .before .before .column .result) 0 (c .before .before .before .before .before .before .before .before .before .before .before .before .before .before .before .before .before .before .before .before .before .before .first-alive .result) (c .before .before .before .before .before .before .before .before .before .before .before .before .before .before .before .real .ensures) (c .before .before .before .before .before .before .before .before .column .ensures) (c .before .before .before .before .raise .ensures) (c .before .before .before .before .raise .kept .0) (c .before .before .before .before .raise .kept .1 .0) (omega (arith, c .before .before .before .before .before .before .before .before .before .before .before .before .before .before .before .before .before .before .before .before .if3 .left)) (c .before .before .before .before .before .before .before .before .before .before .before .before .before .before .before .before .before .before .before .before .before .before .before .before .before .before .pre .1) (c .before .before .before .if4 .taken) _ (simp (length-take, length-drop, length-set) (omega (arith, c .before .before .before .before .before .before .before .before .before .before .before .before .before .before .before .before .before .before .before .before .before .before .before .if1 .left)))))
+    (λ c κs. (c .before .before .before .before .before .before .before .before .before .before .before .before .before .before .before .before .before .before .before .before .before .before .before .before .before .before .before .before .before .before .before .pre .1 .few, omega (arith, c .before .before .before .before .before .before .before .before .before .before .before .before .before .before .before .before .before .before .before .before .before .before .before .before .before .before .before .before .before .before .before .pre .1 .cursors, c .before .before .before .before .before .before .before .before .before .raise .kept .0, ap length (c .before .before .before .before .node .ensures .kept .cursors)), λ r l e. lower-ok _ _ _ _ _ _ _ _ (c .before .before .before .before .before .before .before .before .before .raise .ensures) (c .before .before .before .before .node .ensures .kept .cursors) r l e))
+    (λ c. omega (arith, skip-fits (c .before .before .before .before .before .before .before .before .before .before .before .before .before .before .before .before .before .before .before .before .before .real .last .1 .1 .1 .1 .1 .0) (c .before .before .before .before .before .before .before .before .before .before .raise .last .0) (c .before .before .before .before .before .before .before .before .before .before .raise .last .1 .0) (c .before .before .before .before .before .before .before .before .before .before .before .before .before .before .before .before .before .before .before .before .before .before .before .before .before .before .before .before .before .before .before .before .args .out .now) (c .before .before .before .before .before .node .last .1 .1 .1 .1 .1 .1 .1 .1 .1 .1 .0) (c .before .before .before .before .before .before .before .before .before .before .before .before .before .before .column .result) (c .before .before .before .before .before .node .result) (c .before .before .before .before .before .before .before .before .before .before .before .before .before .before .before .before .before .before .before .before .before .before .before .before .before .before .before .before .first-alive .result) (c .before .before .before .before .before .before .before .before .before .before .before .before .before .before .before .before .before .before .before .before .before .real .ensures) (c .before .before .before .before .before .before .before .before .before .before .before .before .before .before .column .ensures) (c .before .before .before .before .before .before .before .before .before .before .raise .ensures) (c .before .before .before .before .before .before .before .before .before .before .raise .kept .0) (c .before .before .before .before .before .before .before .before .before .before .raise .kept .1 .0) (omega (arith, c .before .before .before .before .before .before .before .before .before .before .before .before .before .before .before .before .before .before .before .before .before .before .before .before .before .before .if3 .left)) (c .before .before .before .before .before .before .before .before .before .before .before .before .before .before .before .before .before .before .before .before .before .before .before .before .before .before .before .before .before .before .before .before .pre .1) (c .before .before .before .before .before .before .before .before .before .if4 .taken) (omega (arith, c .before .before .before .before .before .before .before .before .before .before .before .before .before .before .before .before .before .before .before .before .before .before .before .before .before .before .before .before .before .if1 .left)) (c .before .before .before .before .before .node .ensures .wrote), c .before .before .before .before .before .before .before .before .before .before .before .before .before .before .before .before .before .before .before .before .before .before .before .before .before .before .before .before .before .before .before .before .pre .1 .links-fit))
+    (λ c. same-len-mid 1 (length (set (c .before .before .before .before .before .before .before .before .before .before .before .before .before .before .before .before .before .before .before .before .before .before .before .before .before .before .before .before .before .before .before .before .args .out .now) 0 3) - 1) (set (c .before .before .before .before .before .before .before .before .before .before .before .before .before .before .before .before .before .before .before .before .before .before .before .before .before .before .before .before .before .before .before .before .args .out .now) 0 3) (c .before .before .before .before .before .node .last .1 .1 .1 .1 .1 .1 .1 .1 .1 .1 .0) (c .before .before .before .before .before .node .kept .1 .1 .1 .1 .1 .1 .1 .1 .1 .1 .0) ∙ length-set (c .before .before .before .before .before .before .before .before .before .before .before .before .before .before .before .before .before .before .before .before .before .before .before .before .before .before .before .before .before .before .before .before .args .out .now) 0 3)
+    (λ c. record { wrote = (λ g dft fuel h. skip-result (c .before .before .before .before .before .before .before .before .before .before .before .before .before .before .before .before .before .before .before .before .before .real .last .1 .1 .1 .1 .1 .0) (c .before .before .before .before .before .before .before .before .before .before .raise .last .0) (c .before .before .before .before .before .before .before .before .before .before .raise .last .1 .0) (c .before .before .before .before .before .before .before .before .before .before .before .before .before .before .before .before .before .before .before .before .before .before .before .before .before .before .before .before .before .before .before .before .args .out .now) (c .before .before .before .before .before .node .last .1 .1 .1 .1 .1 .1 .1 .1 .1 .1 .0) (c .before .before .before .before .before .before .before .before .before .before .before .before .before .before .column .result) (c .before .before .before .before .before .node .result) (c .before .before .before .before .before .before .before .before .before .before .before .before .before .before .before .before .before .before .before .before .before .before .before .before .before .before .before .before .first-alive .result) (c .before .before .before .before .before .before .before .before .before .before .before .before .before .before .before .before .before .before .before .before .before .real .ensures) (c .before .before .before .before .before .before .before .before .before .before .before .before .before .before .column .ensures) (c .before .before .before .before .before .before .before .before .before .before .raise .ensures) (c .before .before .before .before .before .before .before .before .before .before .raise .kept .0) (c .before .before .before .before .before .before .before .before .before .before .raise .kept .1 .0) (omega (arith, c .before .before .before .before .before .before .before .before .before .before .before .before .before .before .before .before .before .before .before .before .before .before .before .before .before .before .if3 .left)) g dft fuel (c .before .before .before .before .before .before .before .before .before .if4 .taken) (omega (arith, c .before .before .before .before .before .before .before .before .before .before .before .before .before .before .before .before .before .before .before .before .before .before .before .before .before .before .before .before .first-alive .ensures .most, c .before .before .before .before .before .before .before .before .before .before .before .before .before .before .before .before .before .before .before .before .before .before .before .before .before .before .before .if2 .left)) (c .before .before .before .before .before .before .before .before .before .before .before .before .before .before .before .before .before .before .before .before .before .before .before .before .before .before .before .before .first-alive .ensures) (omega (arith, c .before .before .before .before .before .before .before .before .before .before .before .before .before .before .before .before .before .before .before .before .before .before .before .before .before .before .before .before .before .if1 .left)) h (c .before .before .before .before .before .node .ensures .wrote)); kept = record { cursors = restored _ _ _ _ _ _ _ _ _ (c .before .before .before .before .before .before .before .before .before .before .raise .ensures) (c .before .before .before .before .before .node .ensures .kept .cursors) (c .lower .ensures) (c .lower .kept .0 ∙ ap length (c .before .before .before .before .before .node .ensures .kept .cursors) ∙ c .before .before .before .before .before .before .before .before .before .before .raise .kept .0); visits = kept-through (c .before .before .before .before .before .before .before .before .before .before .before .before .before .before .before .before .before .before .before .before .before .before .before .before .before .before .before .before .before .before .before .before .args .n) (c .before .before .before .before .before .before .before .before .before .before .before .before .before .before .before .before .before .before .before .before .before .before .before .before .before .before .before .before .before .before .before .before .args .v) (member (c .before .before .before .before .before .before .before .before .before .before .before .before .before .before .before .before .before .before .before .before .before .real .last .1 .1 .1 .1 .1 .0)) (c .before .before .before .before .before .before .before .before .before .before .before .before .before .before .before .before .before .before .before .before .before .before .before .before .before .before .before .before .before .before .before .before .args .cur .now) (c .before .before .before .before .before .before .before .before .before .before .before .before .before .before .before .before .before .before .before .before .before .before .before .before .before .before .before .before .before .before .before .before .args .vis .now) (c .before .before .before .before .before .before .before .before .before .before .raise .last .0) (c .before .before .before .before .before .before .before .before .before .before .raise .last .1 .0) (c .before .before .before .before .before .node .last .1 .1 .1 .1 .1 .1 .0) (c .before .before .before .before .before .before .before .before .before .before .raise .ensures) (c .before .before .before .before .before .node .ensures .kept .visits); long = c .before .before .before .before .before .node .ensures .kept .long ∙ c .before .before .before .before .before .before .before .before .before .before .raise .kept .1 .0 } })
+    (λ c κs. (omega (arith, c .before .before .before .before .before .before .before .before .before .before .before .before .before .before .before .before .before .before .before .before .before .before .before .before .before .before .before .pre .0), branch-child (c .before .before .before .before .before .before .before .before .before .before .before .before .before .before .before .before .real .last .1 .1 .1 .1 .1 .0) (c .before .before .before .before .before .raise .last .0) (c .before .before .before .before .before .raise .last .1 .0) (c .before .before .before .before .before .before .before .before .before .before .before .before .before .before .before .before .before .before .before .before .before .before .before .before .before .before .before .args .out .now) [] (c .before .before .before .before .before .before .before .before .before .column .result) 0 (c .before .before .before .before .before .before .before .before .before .before .before .before .before .before .before .before .before .before .before .before .before .before .before .first-alive .result) (c .before .before .before .before .before .before .before .before .before .before .before .before .before .before .before .before .real .ensures) (c .before .before .before .before .before .before .before .before .before .column .ensures) (c .before .before .before .before .before .raise .ensures) (c .before .before .before .before .before .raise .kept .0) (c .before .before .before .before .before .raise .kept .1 .0) (omega (arith, c .before .before .before .before .before .before .before .before .before .before .before .before .before .before .before .before .before .before .before .before .before .if3 .left)) (c .before .before .before .before .before .before .before .before .before .before .before .before .before .before .before .before .before .before .before .before .before .before .before .before .before .before .before .pre .1) (c .before .before .before .before .if4 .left)))
+    (λ c κs. (c .before .before .before .before .before .before .before .before .before .before .before .before .before .before .before .before .before .before .before .before .before .before .before .before .before .before .before .before .before .before .before .before .pre .1 .few, omega (arith, c .before .before .before .before .before .before .before .before .before .before .before .before .before .before .before .before .before .before .before .before .before .before .before .before .before .before .before .before .before .before .before .before .pre .1 .cursors, c .before .before .before .before .before .before .before .before .before .before .raise .kept .0, ap length (c .before .before .before .before .branch .ensures .kept .cursors)), λ r l e. lower-ok _ _ _ _ _ _ _ _ (c .before .before .before .before .before .before .before .before .before .before .raise .ensures) (c .before .before .before .before .branch .ensures .kept .cursors) r l e))
+    (λ c. c .before .before .before .before .before .branch .kept .1 .1 .1 .1 .1 .1 .1 .1 .1 .1 .1 .0)
+    (λ c. record { wrote = (λ g dft fuel h. branch-result (c .before .before .before .before .before .before .before .before .before .before .before .before .before .before .before .before .before .before .before .before .before .before .real .last .1 .1 .1 .1 .1 .0) (c .before .before .before .before .before .before .before .before .before .before .before .raise .last .0) (c .before .before .before .before .before .before .before .before .before .before .before .raise .last .1 .0) (c .before .before .before .before .before .before .before .before .before .before .before .before .before .before .before .before .before .before .before .before .before .before .before .before .before .before .before .before .before .before .before .before .before .args .out .now) (c .before .before .before .before .before .branch .last .1 .1 .1 .1 .1 .1 .1 .1 .1 .1 .1 .0) (c .before .before .before .before .before .before .before .before .before .before .before .before .before .before .before .column .result) (c .before .before .before .before .before .branch .result) (c .before .before .before .before .before .before .before .before .before .before .before .before .before .before .before .before .before .before .before .before .before .before .before .before .before .before .before .before .before .first-alive .result) (c .before .before .before .before .before .before .before .before .before .before .before .before .before .before .before .before .before .before .before .before .before .before .real .ensures) (c .before .before .before .before .before .before .before .before .before .before .before .before .before .before .before .column .ensures) (c .before .before .before .before .before .before .before .before .before .before .before .raise .ensures) (c .before .before .before .before .before .before .before .before .before .before .before .raise .kept .0) (c .before .before .before .before .before .before .before .before .before .before .before .raise .kept .1 .0) (omega (arith, c .before .before .before .before .before .before .before .before .before .before .before .before .before .before .before .before .before .before .before .before .before .before .before .before .before .before .before .if3 .left)) g dft fuel (c .before .before .before .before .before .before .before .before .before .before .if4 .left) (omega (arith, c .before .before .before .before .before .before .before .before .before .before .before .before .before .before .before .before .before .before .before .before .before .before .before .before .before .before .before .before .before .first-alive .ensures .most, c .before .before .before .before .before .before .before .before .before .before .before .before .before .before .before .before .before .before .before .before .before .before .before .before .before .before .before .before .if2 .left)) (c .before .before .before .before .before .before .before .before .before .before .before .before .before .before .before .before .before .before .before .before .before .before .before .before .before .before .before .before .before .first-alive .ensures) h (c .before .before .before .before .before .branch .ensures .wrote)); kept = record { cursors = restored _ _ _ _ _ _ _ _ _ (c .before .before .before .before .before .before .before .before .before .before .before .raise .ensures) (c .before .before .before .before .before .branch .ensures .kept .cursors) (c .lower2 .ensures) (c .lower2 .kept .0 ∙ ap length (c .before .before .before .before .before .branch .ensures .kept .cursors) ∙ c .before .before .before .before .before .before .before .before .before .before .before .raise .kept .0); visits = kept-through (c .before .before .before .before .before .before .before .before .before .before .before .before .before .before .before .before .before .before .before .before .before .before .before .before .before .before .before .before .before .before .before .before .before .args .n) (c .before .before .before .before .before .before .before .before .before .before .before .before .before .before .before .before .before .before .before .before .before .before .before .before .before .before .before .before .before .before .before .before .before .args .v) (member (c .before .before .before .before .before .before .before .before .before .before .before .before .before .before .before .before .before .before .before .before .before .before .real .last .1 .1 .1 .1 .1 .0)) (c .before .before .before .before .before .before .before .before .before .before .before .before .before .before .before .before .before .before .before .before .before .before .before .before .before .before .before .before .before .before .before .before .before .args .cur .now) (c .before .before .before .before .before .before .before .before .before .before .before .before .before .before .before .before .before .before .before .before .before .before .before .before .before .before .before .before .before .before .before .before .before .args .vis .now) (c .before .before .before .before .before .before .before .before .before .before .before .raise .last .0) (c .before .before .before .before .before .before .before .before .before .before .before .raise .last .1 .0) (c .before .before .before .before .before .branch .last .1 .1 .1 .1 .1 .1 .1 .0) (c .before .before .before .before .before .before .before .before .before .before .before .raise .ensures) (c .before .before .before .before .before .branch .ensures .kept .visits); long = c .before .before .before .before .before .branch .ensures .kept .long ∙ c .before .before .before .before .before .before .before .before .before .before .before .raise .kept .1 .0 } })

@@ -1,0 +1,133 @@
+// The cursors of the rows on a path: which rows have a cell in a column, and what raises and lowers them.
+use path::alive::SET_WORDS;
+use path::alive::first_alive;
+use path::alive::has;
+use path::alive::put;
+use path::rows::OWN;
+use path::rows::ROW;
+use pattern::limits::PATTERN_WORDS;
+ghost use mathlib.Core.Path.{_≡_};
+ghost use mathlib.Core.Bool.{true};
+ghost use Prim.Native.Nat.{ℕ, _+_, _*_, _≤_, _<_, max};
+ghost use lib.ListN.{length, getD};
+ghost use Rattle.pattern.specs.Limits.{pattern-limit};
+ghost use Rattle.tree.specs.Limits.{row-limit};
+ghost use Rattle.path.specs.Alive.{member, set-words};
+ghost use Rattle.path.specs.State.{real-of, Raised, Lowered, row-stride, own-if, own-of, Lifted, Dropped};
+ghost use Rattle.visits.specs.Blank.{Blank};
+ghost use Rattle.path.specs.Wrote.{word-limit};
+
+fn own_of(rows: &[u16], r: usize, q: usize) -> u16
+    requires { ⌜ (row-stride * r + row-stride ≤ length (now rows)) × (q ≤ pattern-limit) ⌝ }
+    ensures { λ w. ⌜ w ≡ own-of (now (rows .entry)) r q ⌝ }
+{
+    rows[ROW * r + OWN + q]
+}
+
+// How many columns are row r's own, 0 where it is not alive.
+fn own(rows: &[u16], s: &[u64; SET_WORDS], cur: &[u8], r: usize) -> usize
+    requires { ⌜ (r < row-limit) × (r < length (now cur)) × (row-stride * r + row-stride ≤ length (now rows)) × (member (now s) r ≡ true → getD (now cur) r 0 ≤ pattern-limit) ⌝ }
+    ensures { λ m. ⌜ m ≡ own-if (now (rows .entry)) (member (now (s .entry)) r) r (getD (now (cur .entry)) r 0) ⌝ }
+{
+    if has(s, r) {
+        let q = cur[r] as usize;
+        return own_of(rows, r, q) as usize;
+    }
+    0
+}
+
+fn is_real(rows: &[u16], s: &[u64; SET_WORDS], cur: &[u8], ncols: usize, r: usize) -> bool
+    requires { ⌜ (r < row-limit) × (r < length (now cur)) × (row-stride * r + row-stride ≤ length (now rows)) × (member (now s) r ≡ true → getD (now cur) r 0 ≤ pattern-limit) ⌝ }
+    ensures { λ b. ⌜ b ≡ real-of (now (rows .entry)) (member (now (s .entry))) (now (cur .entry)) ncols r ⌝ }
+{
+    if has(s, r) {
+        let q = cur[r] as usize;
+        return own_of(rows, r, q) as usize == ncols;
+    }
+    false
+}
+
+// In re from now on: the rows alive whose own cell stands in the first of ncols columns.
+pub fn real(rows: &[u16], n: usize, s: &[u64; SET_WORDS], cur: &[u8], ncols: usize, re: &mut [u64])
+    requires { ⌜ (n ≤ row-limit) × (n ≤ length (now cur)) × (row-stride * n ≤ length (now rows)) × ((r : ℕ) → r < n → member (now s) r ≡ true → getD (now cur) r 0 ≤ pattern-limit) × (length (now re) ≡ set-words) ⌝ }
+    ensures { λ _. ⌜ ((r : ℕ) → r < n → member (now (re .exit)) r ≡ real-of (now (rows .entry)) (member (now (s .entry))) (now (cur .entry)) ncols r) ⌝ }
+{
+    let mut r = 0;
+    while r < n {
+        let b = is_real(rows, s, cur, ncols, r);
+        put(re, r, b);
+        r += 1;
+    }
+}
+
+fn larger(a: usize, b: usize) -> usize
+    ensures { λ m. ⌜ m ≡ max a b ⌝ }
+{
+    if a < b {
+        return b;
+    }
+    a
+}
+
+// How many columns come before the first in which some row alive has a cell; none where no row is alive.
+pub fn blank(rows: &[u16], n: usize, s: &[u64; SET_WORDS], cur: &[u8], ncols: usize) -> usize
+    requires { ⌜ (n ≤ row-limit) × (n ≤ length (now cur)) × (row-stride * n ≤ length (now rows)) × ((r : ℕ) → r < n → member (now s) r ≡ true → (getD (now cur) r 0 ≤ pattern-limit) × (own-of (now rows) r (getD (now cur) r 0) ≤ ncols)) ⌝ }
+    ensures { λ b. ⌜ Blank (now (rows .entry)) n (now (s .entry)) (now (cur .entry)) ncols b ⌝ }
+{
+    let mut r = first_alive(s, n);
+    if r == n {
+        return 0;
+    }
+    let mut m = 0;
+    while r < n {
+        let o = own(rows, s, cur, r);
+        m = larger(m, o);
+        r += 1;
+    }
+    ncols - m
+}
+
+// Row r past its cell, at visit v, where it is in the set.
+fn lift(cur: &mut [u8], vis: &mut [u16], re: &[u64; SET_WORDS], v: usize, r: usize)
+    requires { ⌜ (r < row-limit) × (r < length (now cur)) × (pattern-limit * r + pattern-limit ≤ length (now vis)) × (v < word-limit) × (member (now re) r ≡ true → getD (now cur) r 0 < pattern-limit) ⌝ }
+    ensures { λ _. ⌜ Lifted (member (now (re .entry)) r) v r (now (cur .entry)) (now (vis .entry)) (now (cur .exit)) (now (vis .exit)) ⌝ }
+{
+    if has(re, r) {
+        let q = cur[r];
+        vis[PATTERN_WORDS * r + q as usize] = v as u16;
+        cur[r] = q + 1;
+    }
+}
+
+// The rows of the set past their cells, at visit v.
+pub fn raise(cur: &mut [u8], vis: &mut [u16], n: usize, re: &[u64; SET_WORDS], v: usize)
+    requires { ⌜ (n ≤ row-limit) × (n ≤ length (now cur)) × (pattern-limit * n ≤ length (now vis)) × (v < word-limit) × ((r : ℕ) → r < n → getD (now cur) r 0 ≤ pattern-limit) × ((r : ℕ) → r < n → member (now re) r ≡ true → getD (now cur) r 0 < pattern-limit) ⌝ }
+    ensures { λ _. ⌜ Raised n (member (now (re .entry))) v (now (cur .entry)) (now (vis .entry)) (now (cur .exit)) (now (vis .exit)) ⌝ }
+{
+    let mut r = 0;
+    while r < n {
+        lift(cur, vis, re, v, r);
+        r += 1;
+    }
+}
+
+fn drop(cur: &mut [u8], re: &[u64; SET_WORDS], r: usize)
+    requires { ⌜ (r < row-limit) × (r < length (now cur)) × (member (now re) r ≡ true → 0 < getD (now cur) r 0) ⌝ }
+    ensures { λ _. ⌜ Dropped (member (now (re .entry)) r) r (now (cur .entry)) (now (cur .exit)) ⌝ }
+{
+    if has(re, r) {
+        cur[r] = cur[r] - 1;
+    }
+}
+
+// The rows of the set back at their cells.
+pub fn lower(cur: &mut [u8], n: usize, re: &[u64; SET_WORDS])
+    requires { ⌜ (n ≤ row-limit) × (n ≤ length (now cur)) × ((r : ℕ) → r < n → member (now re) r ≡ true → 0 < getD (now cur) r 0) ⌝ }
+    ensures { λ _. ⌜ Lowered n (member (now (re .entry))) (now (cur .entry)) (now (cur .exit)) ⌝ }
+{
+    let mut r = 0;
+    while r < n {
+        drop(cur, re, r);
+        r += 1;
+    }
+}
