@@ -1,11 +1,8 @@
 //! The calls side by side with the prototype, with a first-match list of the same rules, and a run with one pass over the
 //! booking. Times are the least of many rounds, in which the parties take turns.
-mod cases;
-mod first_match;
-mod stack;
-
 use bellgantlet::raw;
-use cases::{cases, long, Case};
+use benchmark::cases::{cases, long, Case};
+use benchmark::first_match;
 use std::hint::black_box;
 use std::time::Instant;
 
@@ -202,35 +199,6 @@ fn compile(c: &Case, rounds: usize) {
     line("compile", &name, &mut parties, rounds);
 }
 
-fn stacks() {
-    println!("| table | part | run | empty | decide | enter | withdraw | compile | compile of the prototype |");
-    println!("|---|---|---|---|---|---|---|---|---|");
-    for c in cases() {
-        let (sig, table, n) = (&c.signature, c.table(c.rules.len()), c.rules.len());
-        let fewer = c.table(n - 1);
-        let (number, plan, pattern) = c.rules.last().unwrap();
-        let b = c.bookings.first().cloned().unwrap_or(vec![0]);
-        let mut space = vec![0; 32768];
-        let mut witness = vec![0; 4096];
-        let tree = if c.bookings.is_empty() { vec![0] } else { compiled(&c) };
-        let mut lent = fewer.clone();
-        let mut out = table.clone();
-        let mut fresh = table.clone();
-        let all = [
-            stack::peak(|| { black_box(raw::part(sig, &b, 0)); }),
-            stack::peak(|| { black_box(raw::run(sig, &tree, &b)); }),
-            stack::peak(|| { black_box(raw::empty(&mut fresh)); }),
-            stack::peak(|| { black_box(raw::decide(sig, &table, &b)); }),
-            stack::peak(|| { black_box(raw::enter(sig, *number, *plan, pattern, &mut lent, &mut witness)); }),
-            stack::peak(|| { black_box(raw::withdraw(sig, *number, &mut out)); }),
-            stack::peak(|| { black_box(raw::compile(sig, &table, &mut space)); }),
-            stack::peak(|| { black_box(prototype::compile::compile(sig, &table, &mut space)); }),
-        ];
-        let shown: Vec<String> = all.iter().map(|b| format!("{} KB", (b + 512) / 1024)).collect();
-        println!("| {} | {} |", c.name, shown.join(" | "));
-    }
-}
-
 /// One call again and again, for a profiler: `benchmark only run "64 rules" 1000`.
 fn only(call: &str, case: &str, times: usize) {
     let c = cases().into_iter().find(|c| c.name == case).expect("a case");
@@ -258,11 +226,6 @@ fn main() {
         return only(&arguments[2], &arguments[3], arguments[4].parse().unwrap());
     }
     let rounds = arguments.get(1).map_or(150, |r| r.parse().unwrap());
-    let work = move || {
-        times(rounds);
-        println!();
-        stacks();
-    };
     // the calls' own stack, and the prototype's
-    std::thread::Builder::new().stack_size(64 << 20).spawn(work).unwrap().join().unwrap();
+    std::thread::Builder::new().stack_size(64 << 20).spawn(move || times(rounds)).unwrap().join().unwrap();
 }
