@@ -6,6 +6,7 @@ use std::collections::BTreeMap;
 const HEADER: &str = include_str!("../../include/bellgantlet.h");
 const RAW: &str = include_str!("../src/raw.rs");
 const EXPORTED: &str = include_str!("../../../crates/bellgantlet/src/lib.rt");
+const README: &str = include_str!("../../../README.md");
 
 /// A field or a parameter: its name and its type, as Rust writes it.
 type Named = (String, String);
@@ -175,6 +176,20 @@ fn the_same_constants() {
         assert_eq!(text, r.sentence());
     }
     assert_eq!(numbers, BTreeMap::new(), "only in the header");
+}
+
+/// 860160 is 860,160 in a text.
+fn written(n: usize) -> String {
+    if n < 1000 { n.to_string() } else { format!("{},{:03}", written(n / 1000), n % 1000) }
+}
+
+#[test]
+fn the_readme_has_the_stacks() {
+    assert_eq!((stack::ENTER, stack::ENTER), (stack::WITHDRAW, stack::DECIDE));
+    let calls = [("enter, withdraw, decide", stack::ENTER), ("compile", stack::COMPILE), ("run", stack::RUN)];
+    for (call, bytes) in calls.into_iter().chain([("part", stack::PART), ("empty", stack::EMPTY)]) {
+        assert!(README.contains(&format!("| {call} | {} | `BELLGANTLET_STACK_", written(bytes))), "{call}");
+    }
 }
 
 #[test]

@@ -4,7 +4,7 @@ use crate::cases::{cases, Case};
 use bellgantlet::{raw, TABLE, TREE, WITNESS};
 
 /// One kind: 0 has no argument, 1 one, 2 two, 3 four.
-const ONE_KIND: [u16; 16] = [4, 0, 0, 0, 1, 0, 0, 2, 0, 0, 0, 4, 0, 0, 0, 0];
+pub const ONE_KIND: [u16; 16] = [4, 0, 0, 0, 1, 0, 0, 2, 0, 0, 0, 4, 0, 0, 0, 0];
 /// 0 and 1 have one argument, 2 has none.
 const TWO_LETTERS: [u16; 9] = [3, 0, 1, 0, 0, 1, 0, 0, 0];
 

@@ -3,4 +3,5 @@ pub mod calls;
 pub mod cases;
 pub mod deep;
 pub mod first_match;
+pub mod search;
 pub mod stack;

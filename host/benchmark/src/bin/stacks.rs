@@ -3,10 +3,12 @@
 //!     stacks          the peak of each call at each kind of input, and the worst beside what is documented
 //!     stacks check    each call at all these inputs on a thread of just the documented stack: one that is too small ends the program.
 //!                     Where a thread cannot be so small, the call's peak is held to what is documented
+//!     stacks search N the deepest of N random nests for each call, to find inputs that are worse
 use bellgantlet::{stack, RuleNumber, Signature, Table};
 use benchmark::calls::CALLS;
 use benchmark::cases::cases;
 use benchmark::deep::rows;
+use benchmark::search::deepest;
 use benchmark::stack::peak;
 use std::hint::black_box;
 use std::io::Write;
@@ -91,7 +93,20 @@ fn wrapper() {
     println!("the wrapper's methods on the same stacks");
 }
 
+fn search(rounds: usize) {
+    for call in ["enter", "withdraw", "decide", "compile"] {
+        let (bytes, pattern) = deepest(call, rounds);
+        println!("{call}: {bytes} with {pattern:?}");
+    }
+}
+
 fn main() {
-    let work = || if std::env::args().nth(1).is_some_and(|a| a == "check") { check() } else { peaks() };
+    let arguments: Vec<String> = std::env::args().collect();
+    let work = || match arguments.get(1).map(|a| &a[..]) {
+        None => peaks(),
+        Some("check") => check(),
+        Some("search") => search(arguments[2].parse().unwrap()),
+        Some(other) => panic!("check or search, not {other}"),
+    };
     on(64 << 20, work);
 }
