@@ -17,6 +17,11 @@ fn kb(bytes: usize) -> String {
     format!("{} KB", bytes.div_ceil(1024))
 }
 
+/// 860160 is 860,160.
+fn written(n: usize) -> String {
+    if n < 1000 { n.to_string() } else { format!("{},{:03}", written(n / 1000), n % 1000) }
+}
+
 fn peaks() {
     let names: Vec<&str> = CALLS.iter().map(|(c, _)| *c).collect();
     println!("| inputs | {} |", names.join(" | "));
@@ -38,7 +43,7 @@ fn peaks() {
     }
     println!("\n| call | worst | at | documented | margin |\n|---|---|---|---|---|");
     for ((call, documented), (bytes, row)) in CALLS.iter().zip(worst) {
-        println!("| {call} | {bytes} | {row} | {documented} | {} % |", documented * 100 / bytes - 100);
+        println!("| {call} | {} | {row} | {} | {} % |", written(bytes), written(*documented), documented * 100 / bytes - 100);
     }
     println!("\nThe prototype's compile:");
     for c in cases() {
