@@ -12,9 +12,9 @@ static uint16_t space[BELLGANTLET_TREE];
 static void enter(uint16_t number, uint16_t plan, const uint16_t *pattern, size_t n)
 {
     bellgantlet_entered e = bellgantlet_enter(signature, N(signature), number, plan, pattern, n, table, N(table), witness, N(witness));
-    printf("enter %u: %u", number, e.number);
+    printf("enter %u: %u. %s", number, e.number, bellgantlet_refusal_text(e.number));
     if (e.number == BELLGANTLET_SHARES_BOOKING) {
-        printf(", shares with rule %u:", e.rule);
+        printf(" Rule %u:", e.rule);
         for (size_t i = 0; i < e.length; i++)
             printf(" %u", witness[i]);
     }
@@ -37,6 +37,7 @@ int main(void)
     bellgantlet_tree t;
     bellgantlet_part_at p;
 
+    printf("bellgantlet %s\n", BELLGANTLET_VERSION);
     printf("empty: %u\n", bellgantlet_empty(table, N(table)));
     printf("empty, too short: %u\n", bellgantlet_empty(table, N(table) - 1));
     enter(7, 40, seven, N(seven));

@@ -10,8 +10,8 @@
  * Every answer has a number: 0, or that of the first refusal that applies, in the order given. On a refusal all other
  * results are 0 and nothing is written, except on 12.
  *
- * Stack: enter, withdraw and decide take up to 0.7 MB, compile up to 2 MB, run and part up to 16 KB. A stack that is too
- * small ends the program: nothing else is written.
+ * Stack: a call takes up to BELLGANTLET_STACK_ENTER bytes and its like. What a thread itself needs comes on top. A stack
+ * that is too small ends the program: nothing else is written.
  */
 #ifndef BELLGANTLET_H
 #define BELLGANTLET_H
@@ -23,7 +23,11 @@
 extern "C" {
 #endif
 
+#define BELLGANTLET_VERSION "0.2.0"
+#define BELLGANTLET_VERSION_NUMBER 200  /* 10,000 times the first number, 100 times the second, the third */
+
 enum {
+    BELLGANTLET_SIGNATURE = 1533,   /* the most words of a lawful signature: 255 constructors with four arguments, one without */
     BELLGANTLET_TABLE = 4289,       /* the words of a table */
     BELLGANTLET_WITNESS = 4096,     /* the words of a witness buffer */
     BELLGANTLET_TREE = 32768,       /* the most words of a tree */
@@ -34,26 +38,63 @@ enum {
     BELLGANTLET_UNBOUND = 65535     /* the place of a variable that is not bound */
 };
 
-/* The numbers. */
+/* Bytes of stack that a call takes at most: the worst that was measured, with a margin of at least 15 %. */
+enum {
+    BELLGANTLET_STACK_EMPTY = 4096,
+    BELLGANTLET_STACK_ENTER = 860160,
+    BELLGANTLET_STACK_WITHDRAW = 860160,
+    BELLGANTLET_STACK_DECIDE = 860160,
+    BELLGANTLET_STACK_COMPILE = 2097152,
+    BELLGANTLET_STACK_RUN = 16384,
+    BELLGANTLET_STACK_PART = 8192,
+    BELLGANTLET_STACK_ANY = 2097152     /* the most of all calls */
+};
+
+/* The numbers; bellgantlet_refusal_text says what each means. */
 enum {
     BELLGANTLET_DONE = 0,
-    BELLGANTLET_SIGNATURE_UNLAWFUL = 1,  /* the signature is unlawful */
-    BELLGANTLET_TOO_SHORT = 2,           /* a lent table is under 4,289 words or a witness buffer under 4,096 */
-    BELLGANTLET_TABLE_UNSOUND = 3,       /* the table is not sound under this signature */
-    BELLGANTLET_NUMBER_OUTSIDE = 4,      /* the rule number is not 1 to 999 */
-    BELLGANTLET_NUMBER_HELD = 5,         /* the number to enter is held */
-    BELLGANTLET_NOT_HELD = 6,            /* the number to withdraw is not held */
-    BELLGANTLET_PATTERN_MALFORMED = 7,   /* the pattern is malformed */
-    BELLGANTLET_NOT_LINEAR = 8,          /* it is not linear-plus: a variable would be bound twice, or in one branch only */
-    BELLGANTLET_TOO_HEAVY = 9,           /* some part of it weighs over 64 */
-    BELLGANTLET_AMBIGUOUS = 10,          /* it is ambiguous: it could bind its variables in two ways */
-    BELLGANTLET_FULL = 11,               /* 64 rules are held, or weights would total over 256 */
-    BELLGANTLET_SHARES_BOOKING = 12,     /* it shares a booking with a held rule */
-    BELLGANTLET_BOOKING_UNLAWFUL = 13,   /* the booking is unlawful */
-    BELLGANTLET_TREE_TOO_LARGE = 14,     /* the tree exceeds the lent slice or 32,768 words */
-    BELLGANTLET_TREE_BROKEN = 15,        /* the tree is broken where the booking walks it */
-    BELLGANTLET_PLACE_OUTSIDE = 16       /* the place is not below the booking's length */
+    BELLGANTLET_SIGNATURE_UNLAWFUL = 1,
+    BELLGANTLET_TOO_SHORT = 2,
+    BELLGANTLET_TABLE_UNSOUND = 3,
+    BELLGANTLET_NUMBER_OUTSIDE = 4,
+    BELLGANTLET_NUMBER_HELD = 5,
+    BELLGANTLET_NOT_HELD = 6,
+    BELLGANTLET_PATTERN_MALFORMED = 7,
+    BELLGANTLET_NOT_LINEAR = 8,
+    BELLGANTLET_TOO_HEAVY = 9,
+    BELLGANTLET_AMBIGUOUS = 10,
+    BELLGANTLET_FULL = 11,
+    BELLGANTLET_SHARES_BOOKING = 12,
+    BELLGANTLET_BOOKING_UNLAWFUL = 13,
+    BELLGANTLET_TREE_TOO_LARGE = 14,
+    BELLGANTLET_TREE_BROKEN = 15,
+    BELLGANTLET_PLACE_OUTSIDE = 16
 };
+
+/* What a number means, for a planner. */
+static inline const char *bellgantlet_refusal_text(uint16_t number)
+{
+    switch (number) {
+    case BELLGANTLET_DONE: return "Done.";
+    case BELLGANTLET_SIGNATURE_UNLAWFUL: return "The signature is unlawful.";
+    case BELLGANTLET_TOO_SHORT: return "A lent table is under 4,289 words or a witness buffer under 4,096.";
+    case BELLGANTLET_TABLE_UNSOUND: return "The table is not sound.";
+    case BELLGANTLET_NUMBER_OUTSIDE: return "The rule number is not 1 to 999.";
+    case BELLGANTLET_NUMBER_HELD: return "The number to enter is held.";
+    case BELLGANTLET_NOT_HELD: return "The number to withdraw is not held.";
+    case BELLGANTLET_PATTERN_MALFORMED: return "The pattern is malformed.";
+    case BELLGANTLET_NOT_LINEAR: return "The pattern is not linear-plus: some variable would be bound twice, or in one branch only.";
+    case BELLGANTLET_TOO_HEAVY: return "Some part of the pattern weighs over 64.";
+    case BELLGANTLET_AMBIGUOUS: return "The pattern is ambiguous: it could bind its variables in two ways.";
+    case BELLGANTLET_FULL: return "64 rules are held, or weights would total over 256.";
+    case BELLGANTLET_SHARES_BOOKING: return "The rule shares a booking with a held rule.";
+    case BELLGANTLET_BOOKING_UNLAWFUL: return "The booking is unlawful.";
+    case BELLGANTLET_TREE_TOO_LARGE: return "The tree exceeds the lent slice or 32,768 words.";
+    case BELLGANTLET_TREE_BROKEN: return "The tree is broken.";
+    case BELLGANTLET_PLACE_OUTSIDE: return "The place is not below the booking's length.";
+    default: return "The call is refused.";
+    }
+}
 
 /* What enter answers: on 12 the lowest rule that shares a booking and the booking's length, else 0 and 0. */
 typedef struct {

@@ -3,27 +3,40 @@
 //! A [`Signature`] is checked once; a [`Table`] is always sound under its signature; a [`Tree`] keeps the signature that it
 //! was compiled under. So of the refusals of 01 a call can give only those that its arguments can still cause.
 //!
-//! The calls need no heap. Entering, withdrawing and deciding take up to 0.7 MB of the caller's stack, compiling up to 2 MB:
-//! a thread that compiles is started with [`COMPILE_STACK`].
+//! The calls take what they need of the caller's stack, up to [`stack::ENTER`] and its like: a thread that calls is
+//! started with that much, and with what the thread itself needs.
 
+mod entered;
 pub mod raw;
 mod refusal;
+pub mod stack;
 
+pub use entered::NotEntered;
 pub use refusal::Refusal;
 use std::fmt;
 use std::num::NonZeroU16;
 use std::sync::Arc;
 
+/// The version of the wrapper and of the header.
+pub const VERSION: &str = env!("CARGO_PKG_VERSION");
+/// The most words of a lawful signature: 255 constructors with four arguments and one without, as some value must end.
+pub const SIGNATURE: usize = 1 + 255 * 6 + 2;
 /// Words of a table.
 pub const TABLE: usize = 4289;
 /// Words of a witness buffer.
 pub const WITNESS: usize = 4096;
 /// The most words of a tree.
 pub const TREE: usize = 32768;
-/// Bytes of stack that a thread needs to compile: under 2 MB for the call, and room for the host.
-pub const COMPILE_STACK: usize = 3 << 20;
+/// The most words of a booking.
+pub const BOOKING: usize = 4096;
+/// The most words of a pattern.
+pub const PATTERN: usize = 64;
+/// Rules are numbered from 1 to this.
+pub const LAST_RULE: u16 = 999;
+/// Variables are numbered from 0.
+pub const VARIABLES: usize = 16;
 /// The place of a variable that is not bound.
-const UNBOUND: u16 = 65535;
+pub const UNBOUND: u16 = 65535;
 
 /// A lawful signature.
 #[derive(Clone, Debug, PartialEq, Eq)]
@@ -81,7 +94,7 @@ pub struct RuleNumber(NonZeroU16);
 impl RuleNumber {
     pub fn new(number: u16) -> Result<RuleNumber, Refusal> {
         match NonZeroU16::new(number) {
-            Some(n) if number <= 999 => Ok(RuleNumber(n)),
+            Some(n) if number <= LAST_RULE => Ok(RuleNumber(n)),
             _ => Err(Refusal::NumberOutside),
         }
     }
@@ -91,34 +104,11 @@ impl RuleNumber {
     }
 }
 
-/// Why a rule was not entered.
-#[derive(Clone, Debug, PartialEq, Eq)]
-pub enum NotEntered {
-    /// 5 and 7 to 11.
-    Refused(Refusal),
-    /// 12, with the lowest rule that shares a booking, and such a booking.
-    Shares { rule: RuleNumber, booking: Vec<u16> },
-}
-
-impl NotEntered {
-    pub fn refusal(&self) -> Refusal {
-        match self {
-            NotEntered::Refused(r) => *r,
-            NotEntered::Shares { .. } => Refusal::SharesBooking,
-        }
-    }
-}
-
-impl fmt::Display for NotEntered {
+impl fmt::Display for RuleNumber {
     fn fmt(&self, f: &mut fmt::Formatter) -> fmt::Result {
-        match self {
-            NotEntered::Refused(r) => r.fmt(f),
-            NotEntered::Shares { rule, booking } => write!(f, "{}: rule {}, booking {:?}", Refusal::SharesBooking, rule.get(), booking),
-        }
+        self.0.fmt(f)
     }
 }
-
-impl std::error::Error for NotEntered {}
 
 /// The rules in force: always sound under its signature.
 #[derive(Clone, Debug, PartialEq, Eq)]
@@ -136,9 +126,9 @@ impl Table {
         Table { signature: signature.clone(), words }
     }
 
-    /// A table as [`Table::words`] gave it, say from a disk; refused with 2 or 3.
+    /// A table as [`Table::words`] gave it, say from a disk; refused with 2 or 3. Words behind the table's own are left out.
     pub fn from_words(signature: &Signature, words: &[u16]) -> Result<Table, Refusal> {
-        let mut words: Box<[u16]> = words.into();
+        let mut words: Box<[u16]> = words[..words.len().min(TABLE)].into();
         // 0 is no rule's number: a sound table refuses it with 4 and stays as it is.
         match raw::withdraw(&signature.0, 0, &mut words) {
             4 => Ok(Table { signature: signature.clone(), words }),
@@ -146,6 +136,7 @@ impl Table {
         }
     }
 
+    /// The [`TABLE`] words of the table.
     pub fn words(&self) -> &[u16] {
         &self.words
     }
@@ -167,16 +158,13 @@ impl Table {
 
     /// Enters a rule; on an error the table is as it was.
     pub fn enter(&mut self, number: RuleNumber, plan: u16, pattern: &[u16]) -> Result<(), NotEntered> {
-        let mut witness = [0u16; WITNESS];
+        let mut witness = vec![0; WITNESS];
         let e = raw::enter(&self.signature.0, number.get(), plan, pattern, &mut self.words, &mut witness);
-        match e.number {
-            0 => Ok(()),
-            12 => Err(NotEntered::Shares {
-                rule: RuleNumber(NonZeroU16::new(e.rule).expect("a held rule")),
-                booking: witness[..e.length].to_vec(),
-            }),
-            n => Err(NotEntered::Refused(Refusal::of(n))),
+        if e.number == 0 {
+            return Ok(());
         }
+        witness.truncate(e.length);
+        Err(NotEntered::of(e.number, NonZeroU16::new(e.rule).map(RuleNumber), witness))
     }
 
     /// Withdraws a rule; refused with [`Refusal::NotHeld`] alone.
@@ -187,7 +175,7 @@ impl Table {
         }
     }
 
-    /// The tree of the rules in force; refused with [`Refusal::TreeTooLarge`] alone. Takes up to 2 MB of stack: see [`COMPILE_STACK`].
+    /// The tree of the rules in force; refused with [`Refusal::TreeTooLarge`] alone. Takes up to [`stack::COMPILE`] bytes.
     pub fn compile(&self) -> Result<Tree, Refusal> {
         let mut space = vec![0; TREE];
         let t = raw::compile(&self.signature.0, &self.words, &mut space);
@@ -232,7 +220,7 @@ impl Tree {
 #[derive(Clone, Copy, Debug, PartialEq, Eq)]
 pub enum Answer {
     /// No rule takes the booking.
-    Default,
+    Default { plan: u16 },
     Rule { number: RuleNumber, plan: u16, places: Places },
 }
 
@@ -242,23 +230,34 @@ impl Answer {
             return Err(Refusal::of(a.number));
         }
         Ok(match NonZeroU16::new(a.rule) {
-            None => Answer::Default,
+            None => Answer::Default { plan: a.plan },
             Some(n) => Answer::Rule { number: RuleNumber(n), plan: a.plan, places: Places(a.places) },
         })
     }
 
-    /// The plan's number; the default is plan 0.
+    /// The plan's number.
     pub fn plan(&self) -> u16 {
         match self {
-            Answer::Default => 0,
-            Answer::Rule { plan, .. } => *plan,
+            Answer::Default { plan } | Answer::Rule { plan, .. } => *plan,
+        }
+    }
+}
+
+impl fmt::Display for Answer {
+    fn fmt(&self, f: &mut fmt::Formatter) -> fmt::Result {
+        match self {
+            Answer::Default { plan } => write!(f, "no rule, plan {plan}"),
+            Answer::Rule { number, plan, places } => {
+                write!(f, "rule {number}, plan {plan}")?;
+                places.iter().try_for_each(|(x, place)| write!(f, ", variable {x} at {place}"))
+            }
         }
     }
 }
 
 /// The places that variables 0 to 15 are bound to.
 #[derive(Clone, Copy, Debug, PartialEq, Eq)]
-pub struct Places([u16; 16]);
+pub struct Places([u16; VARIABLES]);
 
 impl Places {
     /// The place of a variable, none where it is unbound or there is no such variable.
@@ -267,6 +266,6 @@ impl Places {
     }
 
     pub fn iter(&self) -> impl Iterator<Item = (u8, usize)> + '_ {
-        (0..16).filter_map(|x| self.of(x).map(|p| (x, p)))
+        (0..VARIABLES as u8).filter_map(|x| self.of(x).map(|p| (x, p)))
     }
 }

@@ -4,17 +4,30 @@ macro_rules! refusals {
     ($($name:ident = $number:literal: $sentence:literal,)*) => {
         /// Why a call was refused, by 01's numbers.
         #[derive(Clone, Copy, Debug, PartialEq, Eq, PartialOrd, Ord, Hash)]
-        #[repr(u16)]
+        #[non_exhaustive]
         pub enum Refusal {
-            $(#[doc = $sentence] $name = $number,)*
+            $(#[doc = $sentence] $name,)*
+            /// A number that this wrapper does not know: the library is a newer one.
+            #[non_exhaustive]
+            Unknown(u16),
         }
 
         impl Refusal {
+            /// Those that this wrapper knows, by number.
             pub const ALL: &'static [Refusal] = &[$(Refusal::$name),*];
+
+            pub fn number(self) -> u16 {
+                match self { $(Refusal::$name => $number,)* Refusal::Unknown(n) => n }
+            }
+
+            /// Of the number that a call gave, any but 0.
+            pub(crate) fn of(number: u16) -> Refusal {
+                match number { $($number => Refusal::$name,)* n => Refusal::Unknown(n) }
+            }
 
             /// The sentence for a planner.
             pub fn sentence(self) -> &'static str {
-                match self { $(Refusal::$name => $sentence,)* }
+                match self { $(Refusal::$name => $sentence,)* Refusal::Unknown(_) => "The call is refused." }
             }
         }
     };
@@ -39,17 +52,6 @@ refusals! {
     PlaceOutside = 16: "The place is not below the booking's length.",
 }
 
-impl Refusal {
-    pub fn number(self) -> u16 {
-        self as u16
-    }
-
-    /// Of a number that a call gave: 1 to 16.
-    pub(crate) fn of(number: u16) -> Refusal {
-        Refusal::ALL[number as usize - 1]
-    }
-}
-
 impl fmt::Display for Refusal {
     fn fmt(&self, f: &mut fmt::Formatter) -> fmt::Result {
         write!(f, "{} ({})", self.sentence(), self.number())
@@ -57,3 +59,16 @@ impl fmt::Display for Refusal {
 }
 
 impl std::error::Error for Refusal {}
+
+#[cfg(test)]
+mod tests {
+    use super::*;
+
+    #[test]
+    fn every_number_has_a_refusal() {
+        for n in 1..=u16::MAX {
+            assert_eq!(Refusal::of(n).number(), n);
+        }
+        assert_eq!(Refusal::of(18).to_string(), "The call is refused. (18)");
+    }
+}

@@ -3,6 +3,20 @@ use bellgantlet::*;
 
 const T: [u16; 15] = [6, 0, 2, 1, 2, 1, 0, 1, 0, 1, 0, 2, 0, 2, 0];
 
+/// An "or" of 65 wildcards would be too long; an "and" of "or"s of 5 and 13 weighs 65.
+const HEAVY: [u16; 35] = {
+    let mut words = [258; 35];
+    words[0] = 256;
+    let mut i = 1;
+    while i < 34 {
+        if i < 9 || i > 9 {
+            words[i] = 257;
+        }
+        i += if i == 9 { 1 } else { 2 };
+    }
+    words
+};
+
 fn rule(n: u16) -> RuleNumber {
     RuleNumber::new(n).unwrap()
 }
@@ -24,8 +38,8 @@ fn refusals_have_the_numbers_of_01() {
 
 #[test]
 fn case_t() {
-    // compiling may take more stack than a test's thread has
-    std::thread::Builder::new().stack_size(COMPILE_STACK).spawn(case_t_here).unwrap().join().unwrap();
+    // a test's thread has 2 MB, and needs some of them itself
+    std::thread::Builder::new().stack_size(stack::ANY + (64 << 10)).spawn(case_t_here).unwrap().join().unwrap();
 }
 
 fn case_t_here() {
@@ -38,19 +52,31 @@ fn case_t_here() {
     }
     let Answer::Rule { number, plan, places } = tree.run(&[0, 1, 5]).unwrap() else { panic!() };
     assert_eq!((number.get(), plan, places.of(0), places.of(1), places.iter().count()), (7, 40, Some(2), None, 1));
-    assert_eq!(tree.run(&[0, 3, 4]), Ok(Answer::Default));
+    assert_eq!(tree.run(&[0, 3, 4]), Ok(Answer::Default { plan: 0 }));
+    assert_eq!(tree.run(&[0, 1, 5]).unwrap().to_string(), "rule 7, plan 40, variable 0 at 2");
+    assert_eq!(tree.run(&[0, 3, 4]).unwrap().to_string(), "no rule, plan 0");
     assert_eq!(tree.run(&[0, 1]), Err(Refusal::BookingUnlawful));
     assert_eq!(Tree::from_words(table.signature(), &[]).run(&[0, 1, 5]), Err(Refusal::TreeBroken));
 
     let shares = table.enter(rule(8), 1, &[0, 258, 4]);
     assert_eq!(shares, Err(NotEntered::Shares { rule: rule(7), booking: vec![0, 1, 4] }));
-    assert_eq!(table.enter(rule(7), 1, &[258]), Err(NotEntered::Refused(Refusal::NumberHeld)));
+    assert_eq!(shares.unwrap_err().to_string(), "The rule shares a booking with a held rule. (12): rule 7, booking [0, 1, 4]");
+    assert_eq!(table.enter(rule(7), 1, &[258]), Err(NotEntered::NumberHeld));
+    let refused: [(&[u16], NotEntered); 4] = [
+        (&[0, 1], NotEntered::PatternMalformed),
+        (&[256, 261, 261], NotEntered::NotLinear),
+        (&[257, 261, 261], NotEntered::Ambiguous),
+        (&HEAVY, NotEntered::TooHeavy),
+    ];
+    for (pattern, why) in refused {
+        assert_eq!(table.enter(rule(8), 1, pattern), Err(why));
+    }
     assert_eq!(table.rules().map(|(n, p, w)| (n.get(), p, w.len())).collect::<Vec<_>>(), [(7, 40, 3), (9, 41, 4)]);
     table.withdraw(rule(7)).unwrap();
     assert_eq!(table.withdraw(rule(7)), Err(Refusal::NotHeld));
     // the tree still answers by the rules that it was compiled from
     assert_eq!(tree.run(&[0, 1, 5]).unwrap().plan(), 40);
-    assert_eq!(table.decide(&[0, 1, 5]), Ok(Answer::Default));
+    assert_eq!(table.decide(&[0, 1, 5]), Ok(Answer::Default { plan: 0 }));
 }
 
 #[test]
@@ -63,6 +89,8 @@ fn what_is_checked_once() {
     let sig = table.signature();
     assert_eq!(Table::from_words(sig, table.words()).as_ref(), Ok(&table));
     assert_eq!(Table::from_words(sig, &table.words()[1..]), Err(Refusal::TooShort));
+    // words behind the table's own say nothing of it
+    assert_eq!(Table::from_words(sig, &[table.words(), &[7, 8]].concat()).as_ref(), Ok(&table));
     let mut twice = table.words().to_vec();
     twice[1] = 9;
     assert_eq!(Table::from_words(sig, &twice), Err(Refusal::TableUnsound));
@@ -71,4 +99,34 @@ fn what_is_checked_once() {
     assert_eq!((b.part(0), b.part(2)), (Ok(&words[..]), Ok(&words[2..])));
     assert_eq!(b.part(3), Err(Refusal::PlaceOutside));
     assert_eq!(sig.booking(&words[..2]).unwrap_err(), Refusal::BookingUnlawful);
+}
+
+/// `?` where a refusal is due, and where any error is.
+#[test]
+fn errors() {
+    fn refusal() -> Result<Answer, Refusal> {
+        let mut table = Table::new(&Signature::new(&T)?);
+        table.enter(RuleNumber::new(7)?, 40, &[0, 1, 261])?;
+        table.enter(RuleNumber::new(8)?, 40, &[258])?;
+        table.decide(&[0, 1, 5])
+    }
+    fn any() -> Result<Answer, Box<dyn std::error::Error>> {
+        Ok(refusal()?)
+    }
+    assert_eq!(refusal(), Err(Refusal::SharesBooking));
+    assert_eq!(any().unwrap_err().to_string(), "The rule shares a booking with a held rule. (12)");
+}
+
+/// 255 constructors with four arguments and one without: lawful, and no lawful signature is longer.
+#[test]
+fn the_longest_signature() {
+    let mut words = vec![256];
+    for c in 0..256 {
+        words.extend(if c == 255 { vec![3, 0] } else { vec![c / 64, 4, 3, 3, 3, 3] });
+    }
+    assert_eq!(words.len(), SIGNATURE);
+    assert!(Signature::new(&words).is_ok());
+    let last = words.len() - 1;
+    words[last] = 4;
+    assert_eq!(Signature::new(&[&words[..], &[3; 4]].concat()), Err(Refusal::SignatureUnlawful));
 }

@@ -4,7 +4,7 @@ pub struct Case {
     pub signature: Vec<u16>,
     /// number, plan, pattern; rising by number
     pub rules: Vec<(u16, u16, Vec<u16>)>,
-    /// Bookings that rules of the table take.
+    /// For each rule of the table a booking that it takes.
     pub bookings: Vec<Vec<u16>>,
 }
 
@@ -44,8 +44,9 @@ fn grid(name: &'static str, n: usize) -> Case {
         }
     }
     rules.truncate(n);
-    // the same bookings for every number of rules: those that the first two rules take
-    let bookings = vec![vec![0, 1, 9, 17, 18, 19], vec![0, 1, 10, 19], vec![0, 1, 9, 19], vec![0, 1, 10, 17, 19, 17, 18, 18]];
+    // one for each rule, of 4 and of 6 words by turns
+    let energy = |number: u16| if number % 2 == 1 { vec![17, 18, 19] } else { vec![19] };
+    let bookings = rules.iter().map(|(number, _, p)| [p[..3].to_vec(), energy(*number)].concat()).collect();
     Case { name, signature, rules, bookings }
 }
 
@@ -85,9 +86,7 @@ fn heaviest() -> Case {
         pattern.push(3 + i);
         assert_eq!(pattern.len(), 60);
         rules.push((1 + i, i, pattern));
-        if i % 16 == 7 {
-            bookings.push([vec![0], body.clone(), vec![3 + i]].concat());
-        }
+        bookings.push([vec![0], body.clone(), vec![3 + i]].concat());
     }
     Case { name: "heaviest", signature, rules, bookings }
 }

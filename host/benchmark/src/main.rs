@@ -1,11 +1,8 @@
 //! The calls side by side with the prototype, with a first-match list of the same rules, and a run with one pass over the
 //! booking. Times are the least of many rounds, in which the parties take turns.
-mod cases;
-mod first_match;
-mod stack;
-
 use bellgantlet::raw;
-use cases::{cases, long, Case};
+use benchmark::cases::{cases, long, Case};
+use benchmark::first_match;
 use std::hint::black_box;
 use std::time::Instant;
 
@@ -87,22 +84,25 @@ fn compiled(c: &Case) -> Vec<u16> {
     space
 }
 
+/// One booking after the other, again and again.
+fn turning<'a>(c: &'a Case) -> impl FnMut() -> &'a [u16] + Clone {
+    let mut i = 0;
+    move || {
+        i = (i + 1) % c.bookings.len();
+        &c.bookings[i][..]
+    }
+}
+
 fn run(c: &Case, rounds: usize) {
     let (sig, table, tree) = (&c.signature, c.table(c.rules.len()), compiled(c));
-    for b in &c.bookings {
+    for (b, (rule, ..)) in c.bookings.iter().zip(&c.rules) {
         let (a, p, l) = (raw::run(sig, &tree, b), prototype::run::run(sig, &tree, b), first_match::answer(sig, &table, b));
-        assert!(a.number == 0 && a.rule != 0 && (a.rule, a.places) == (p.rule, p.places) && (a.rule, a.places) == (l.rule, l.places));
+        assert!(a.number == 0 && a.rule == *rule && (a.rule, a.places) == (p.rule, p.places) && (a.rule, a.places) == (l.rule, l.places));
     }
     let words: usize = c.bookings.iter().map(|b| b.len()).sum();
     let name = format!("{}, {} words a booking", c.name, words / c.bookings.len());
-    let mut i = 0;
-    let mut next = move || {
-        i = (i + 1) % c.bookings.len();
-        &c.bookings[i][..]
-    };
-    let mut next2 = next.clone();
-    let mut next3 = next.clone();
-    let mut next4 = next.clone();
+    let mut next = turning(c);
+    let (mut next2, mut next3, mut next4) = (next.clone(), next.clone(), next.clone());
     let mut parties: Vec<Party> = vec![
         ("library", Box::new(|| { black_box(raw::run(sig, &tree, next())); })),
         ("prototype", Box::new(|| { black_box(prototype::run::run(sig, &tree, next2())); })),
@@ -126,13 +126,16 @@ fn part(c: &Case, rounds: usize) {
 
 fn decide(c: &Case, rounds: usize) {
     let (sig, table) = (&c.signature, c.table(c.rules.len()));
-    let b = &c.bookings[0];
-    let (a, p) = (raw::decide(sig, &table, b), prototype::decide::decide(sig, &table, b));
-    assert!(a.number == 0 && a.rule != 0 && (a.rule, a.places) == (p.rule, p.places));
+    for (b, (rule, ..)) in c.bookings.iter().zip(&c.rules) {
+        let (a, p) = (raw::decide(sig, &table, b), prototype::decide::decide(sig, &table, b));
+        assert!(a.number == 0 && a.rule == *rule && (a.rule, a.places) == (p.rule, p.places));
+    }
+    let mut next = turning(c);
+    let (mut next2, mut next3) = (next.clone(), next.clone());
     let mut parties: Vec<Party> = vec![
-        ("library", Box::new(|| { black_box(raw::decide(sig, &table, b)); })),
-        ("prototype", Box::new(|| { black_box(prototype::decide::decide(sig, &table, b)); })),
-        ("list", Box::new(|| { black_box(first_match::answer(sig, &table, b)); })),
+        ("library", Box::new(|| { black_box(raw::decide(sig, &table, next())); })),
+        ("prototype", Box::new(|| { black_box(prototype::decide::decide(sig, &table, next2())); })),
+        ("list", Box::new(|| { black_box(first_match::answer(sig, &table, next3())); })),
     ];
     line("decide", c.name, &mut parties, rounds);
 }
@@ -202,35 +205,6 @@ fn compile(c: &Case, rounds: usize) {
     line("compile", &name, &mut parties, rounds);
 }
 
-fn stacks() {
-    println!("| table | part | run | empty | decide | enter | withdraw | compile | compile of the prototype |");
-    println!("|---|---|---|---|---|---|---|---|---|");
-    for c in cases() {
-        let (sig, table, n) = (&c.signature, c.table(c.rules.len()), c.rules.len());
-        let fewer = c.table(n - 1);
-        let (number, plan, pattern) = c.rules.last().unwrap();
-        let b = c.bookings.first().cloned().unwrap_or(vec![0]);
-        let mut space = vec![0; 32768];
-        let mut witness = vec![0; 4096];
-        let tree = if c.bookings.is_empty() { vec![0] } else { compiled(&c) };
-        let mut lent = fewer.clone();
-        let mut out = table.clone();
-        let mut fresh = table.clone();
-        let all = [
-            stack::peak(|| { black_box(raw::part(sig, &b, 0)); }),
-            stack::peak(|| { black_box(raw::run(sig, &tree, &b)); }),
-            stack::peak(|| { black_box(raw::empty(&mut fresh)); }),
-            stack::peak(|| { black_box(raw::decide(sig, &table, &b)); }),
-            stack::peak(|| { black_box(raw::enter(sig, *number, *plan, pattern, &mut lent, &mut witness)); }),
-            stack::peak(|| { black_box(raw::withdraw(sig, *number, &mut out)); }),
-            stack::peak(|| { black_box(raw::compile(sig, &table, &mut space)); }),
-            stack::peak(|| { black_box(prototype::compile::compile(sig, &table, &mut space)); }),
-        ];
-        let shown: Vec<String> = all.iter().map(|b| format!("{} KB", (b + 512) / 1024)).collect();
-        println!("| {} | {} |", c.name, shown.join(" | "));
-    }
-}
-
 /// One call again and again, for a profiler: `benchmark only run "64 rules" 1000`.
 fn only(call: &str, case: &str, times: usize) {
     let c = cases().into_iter().find(|c| c.name == case).expect("a case");
@@ -238,15 +212,16 @@ fn only(call: &str, case: &str, times: usize) {
     let (number, plan, pattern) = c.rules.last().unwrap();
     let mut space = vec![0; 32768];
     let mut witness = vec![0; 4096];
-    let tree = if call == "run" { compiled(&c) } else { vec![] };
+    let tree = if call.ends_with("run") { compiled(&c) } else { vec![] };
+    let mut next = turning(&c);
     for _ in 0..times {
         match call {
-            "run" => drop(black_box(raw::run(sig, &tree, &c.bookings[0]))),
-            "decide" => drop(black_box(raw::decide(sig, &table, &c.bookings[0]))),
+            "run" => drop(black_box(raw::run(sig, &tree, next()))),
+            "decide" => drop(black_box(raw::decide(sig, &table, next()))),
             "enter" => drop(black_box(raw::enter(sig, *number, *plan, pattern, &mut c.table(n - 1), &mut witness))),
             "withdraw" => drop(black_box(raw::withdraw(sig, *number, &mut table.clone()))),
             "compile" => drop(black_box(raw::compile(sig, &table, &mut space))),
-            "prototype-run" => drop(black_box(prototype::run::run(sig, &tree, &c.bookings[0]))),
+            "prototype-run" => drop(black_box(prototype::run::run(sig, &tree, next()))),
             _ => panic!("run, decide, enter, withdraw or compile"),
         }
     }
@@ -258,11 +233,6 @@ fn main() {
         return only(&arguments[2], &arguments[3], arguments[4].parse().unwrap());
     }
     let rounds = arguments.get(1).map_or(150, |r| r.parse().unwrap());
-    let work = move || {
-        times(rounds);
-        println!();
-        stacks();
-    };
     // the calls' own stack, and the prototype's
-    std::thread::Builder::new().stack_size(64 << 20).spawn(work).unwrap().join().unwrap();
+    std::thread::Builder::new().stack_size(64 << 20).spawn(move || times(rounds)).unwrap().join().unwrap();
 }

@@ -1,5 +1,5 @@
 //! How deep a call goes: the stack of a thread is painted, and what was painted over is counted.
-const STACK: usize = 8 << 20;
+const STACK: usize = 4 << 20;
 const PAINTED: usize = STACK - (256 << 10);
 const PAINT: u64 = 0x5EED_0FC0_FFEE_BE11;
 

@@ -19,6 +19,9 @@ struct Depot {
     compiled_variables: Variables,
 }
 
+/// Bytes of stack for the thread itself.
+const THREAD: usize = 64 << 10;
+
 type Variables = BTreeMap<u16, Vec<String>>;
 
 type Compiling = (u32, Variables, JoinHandle<Result<Tree, Refusal>>);
@@ -43,10 +46,10 @@ impl Depot {
                 self.variables.insert(number.get(), written.variables);
                 println!("    entered");
             }
-            Err(NotEntered::Refused(r)) => println!("    refused: {r}"),
             Err(NotEntered::Shares { rule, booking }) => {
-                println!("    refused: rule {} takes it too, for instance {}", rule.get(), self.names.show(&booking));
+                println!("    refused: rule {rule} takes it too, for instance {}", self.names.show(&booking));
             }
+            Err(e) => println!("    refused: {e}"),
         }
     }
 
@@ -65,7 +68,7 @@ impl Depot {
     fn compile(&self) -> Compiling {
         println!("-- compiling begins; bookings go on by the tree of change {}", self.compiled);
         let table = self.table.clone();
-        (self.change, self.variables.clone(), Builder::new().stack_size(COMPILE_STACK).spawn(move || table.compile()).unwrap())
+        (self.change, self.variables.clone(), Builder::new().stack_size(stack::COMPILE + THREAD).spawn(move || table.compile()).unwrap())
     }
 
     fn adopt(&mut self, (change, variables, handle): Compiling) {
@@ -85,7 +88,7 @@ impl Depot {
         };
         match self.tree.run(&words) {
             Err(r) => println!("{text}: {r}"),
-            Ok(Answer::Default) => println!("{text}: no rule, the default plan"),
+            Ok(Answer::Default { plan }) => println!("{text}: no rule, the default plan {plan}"),
             Ok(Answer::Rule { number, plan, places }) => {
                 let booking = self.table.signature().booking(&words).unwrap();
                 let bound: Vec<String> = places
@@ -95,7 +98,7 @@ impl Depot {
                         format!(", {} is {}", self.compiled_variables[&number.get()][x as usize], self.names.show(part))
                     })
                     .collect();
-                println!("{text}: rule {}, plan {plan}{}", number.get(), bound.concat());
+                println!("{text}: rule {number}, plan {plan}{}", bound.concat());
             }
         }
         if self.compiled == self.change {
@@ -143,7 +146,8 @@ fn main() -> Result<(), Refusal> {
 
     println!("-- rules in force:");
     for (number, plan, pattern) in depot.table.rules() {
-        println!("    rule {}, plan {plan}: {} words", number.get(), pattern.len());
+        let shown = depot.names.show_pattern(pattern, &depot.variables[&number.get()]);
+        println!("    rule {number}, plan {plan}: {shown}");
     }
     let stored = depot.table.words().to_vec();
     let again = Table::from_words(depot.table.signature(), &stored)?;

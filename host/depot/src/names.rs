@@ -61,19 +61,46 @@ impl Names {
 
     /// The words of a value by names.
     pub fn show(&self, words: &[u16]) -> String {
-        let mut at = 0;
-        self.show_from(words, &mut at)
+        self.show_pattern(words, &[])
     }
 
-    fn show_from(&self, words: &[u16], at: &mut usize) -> String {
-        let (name, arguments) = &self.constructors[words[*at] as usize];
-        *at += 1;
-        if arguments.is_empty() {
-            return name.clone();
-        }
-        let shown: Vec<String> = arguments.iter().map(|_| self.show_from(words, at)).collect();
-        format!("{name}({})", shown.join(", "))
+    /// The words of a pattern as a planner writes them.
+    pub fn show_pattern(&self, words: &[u16], variables: &[String]) -> String {
+        self.show_from(words, &mut 0, variables, Within::Anything)
     }
+
+    fn show_from(&self, words: &[u16], at: &mut usize, variables: &[String], within: Within) -> String {
+        let w = words[*at];
+        *at += 1;
+        let mut part = |within| self.show_from(words, at, variables, within);
+        match w {
+            256 => {
+                let shown = format!("{} & {}", part(Within::And), part(Within::Not));
+                if within > Within::And { format!("({shown})") } else { shown }
+            }
+            257 => {
+                let shown = format!("{} | {}", part(Within::Anything), part(Within::And));
+                if within > Within::Anything { format!("({shown})") } else { shown }
+            }
+            258 => "_".into(),
+            259 => "never".into(),
+            260 => format!("!{}", part(Within::Not)),
+            261.. => format!("?{}", variables[w as usize - 261]),
+            _ => {
+                let (name, arguments) = &self.constructors[w as usize];
+                let shown: Vec<String> = arguments.iter().map(|_| part(Within::Anything)).collect();
+                if shown.is_empty() { name.clone() } else { format!("{name}({})", shown.join(", ")) }
+            }
+        }
+    }
+}
+
+/// What stands around a part: the later, the tighter it binds.
+#[derive(Clone, Copy, PartialEq, PartialOrd)]
+enum Within {
+    Anything,
+    And,
+    Not,
 }
 
 struct Reader<'a> {
@@ -142,5 +169,21 @@ impl<'a> Reader<'a> {
             words.extend(self.either()?);
         }
         if self.names.constructors[c].1.is_empty() || self.next_is(")") { Ok(words) } else { Err("')' is missing".into()) }
+    }
+}
+
+#[cfg(test)]
+mod tests {
+    use super::*;
+
+    #[test]
+    fn shown_as_written() {
+        let names = Names::new(&["all: pair(all,all) left right"]);
+        for text in ["pair(left | right, _)", "!(left | right) & ?x", "(left | right) & !(left & never)", "left & (right & _)", "left | (right | _)"] {
+            let written = names.pattern(text).unwrap();
+            let shown = names.show_pattern(&written.words, &written.variables);
+            assert_eq!(shown, text);
+            assert_eq!(names.pattern(&shown).unwrap().words, written.words);
+        }
     }
 }

@@ -1,4 +1,5 @@
 //! An independent implementation of document 01: trees on the heap, the relations as recursive functions, everything by its definition.
+pub mod by_hand;
 pub mod calls;
 pub mod compare;
 pub mod json;
@@ -6,4 +7,6 @@ pub mod pattern;
 pub mod random;
 pub mod rows;
 pub mod signature;
+pub mod stored;
+pub mod text;
 pub mod tree;

@@ -626,6 +626,7 @@ fn case_t(c: &mut Compare) {
 
 fn vectors(c: &mut Compare, folder: &str) {
     let mut files: Vec<_> = std::fs::read_dir(folder).unwrap().map(|f| f.unwrap().path()).collect();
+    files.retain(|f| f.extension().is_some_and(|e| e == "json"));
     files.sort();
     for f in &files {
         let v = Json::read(&std::fs::read_to_string(f).unwrap());

@@ -1,0 +1,162 @@
+//! Where the calls go deepest: patterns of 64 words that nest in every way, entered and held; and words that are not lawful.
+use crate::calls::{Lent, Row};
+use crate::cases::{cases, Case};
+use bellgantlet::{raw, TABLE, TREE, WITNESS};
+
+/// One kind: 0 has no argument, 1 one, 2 two, 3 four.
+pub const ONE_KIND: [u16; 16] = [4, 0, 0, 0, 1, 0, 0, 2, 0, 0, 0, 4, 0, 0, 0, 0];
+/// 0 and 1 have one argument, 2 has none.
+const TWO_LETTERS: [u16; 9] = [3, 0, 1, 0, 0, 1, 0, 0, 0];
+
+pub fn rows() -> Vec<Row> {
+    let mut all: Vec<Row> = cases().iter().map(of_case).collect();
+    all.push(of_patterns("63 nested", nested(&[1])));
+    all.push(of_patterns("63 nots", nested(&[260])));
+    all.push(of_patterns("nested nots", [nested(&[260, 1]), nested(&[1, 260]), nested(&[1, 260, 260])].concat()));
+    all.push(of_patterns("nested and, or", connectives()));
+    all.push(of_patterns("nested wide", wide()));
+    all.push(of_patterns("variables under or", variables()));
+    all.push(of_case(&letters()));
+    all.push(not_lawful());
+    all
+}
+
+fn of_case(c: &Case) -> Row {
+    let all = Lent::new(&c.signature, &c.table(c.rules.len()));
+    let (number, _, pattern) = c.rules.last().unwrap().clone();
+    let fewer = Lent { number, pattern, ..Lent::new(&c.signature, &c.table(c.rules.len() - 1)) };
+    let mut inputs = vec![("enter", fewer)];
+    // the deepest table is measured with a booking that no rule takes
+    let bookings = if c.bookings.is_empty() { &vec![vec![0, 2, 11]] } else { &c.bookings };
+    inputs.extend(asked(&Lent { number, ..all }, bookings));
+    Row { name: c.name, inputs }
+}
+
+/// The calls on a table that holds rules, with bookings.
+fn asked(l: &Lent, bookings: &[Vec<u16>]) -> Vec<(&'static str, Lent)> {
+    let mut tree = vec![0; TREE];
+    let n = raw::compile(&l.signature, &l.table, &mut tree).length;
+    tree.truncate(n);
+    let mut all: Vec<_> = ["empty", "withdraw", "compile"].into_iter().map(|c| (c, l.clone())).collect();
+    for b in bookings {
+        let l = Lent { booking: b.clone(), tree: tree.clone(), place: b.len() - 1, ..l.clone() };
+        all.extend(["decide", "run", "part"].into_iter().map(|c| (c, l.clone())));
+    }
+    all
+}
+
+/// Each pattern into an empty table; and, where it is entered, once more (12), which shows a booking that it takes.
+fn of_patterns(name: &'static str, patterns: Vec<Vec<u16>>) -> Row {
+    let mut inputs = vec![];
+    for pattern in patterns {
+        assert!(pattern.len() <= 64);
+        let first = Lent { number: 1, pattern: pattern.clone(), ..Lent::empty(&ONE_KIND) };
+        let mut held = first.clone();
+        inputs.push(("enter", first));
+        if held.make("enter") != 0 {
+            continue;
+        }
+        inputs.push(("enter", Lent { number: 2, ..held.clone() }));
+        let mut witness = vec![0; WITNESS];
+        let e = raw::enter(&ONE_KIND, 2, 1, &pattern, &mut held.table.clone(), &mut witness);
+        let shown = witness[..e.length.max(1)].to_vec();
+        let deep = [vec![1; 255], vec![0]].concat();
+        inputs.extend(asked(&held, &[shown, deep]));
+    }
+    Row { name, inputs }
+}
+
+/// These words again and again, up to 63, and a last one.
+fn nested(words: &[u16]) -> Vec<Vec<u16>> {
+    let chain: Vec<u16> = words.iter().copied().cycle().take(63).collect();
+    [0, 258, 259, 261].map(|last| [&chain[..], &[last]].concat()).to_vec()
+}
+
+/// So many levels of a word with `parts` parts, of which that number nests and the others are `other`.
+fn levels(word: u16, parts: usize, nests: usize, other: u16, n: usize, inner: &[u16]) -> Vec<u16> {
+    let before = [vec![word], vec![other; nests]].concat().repeat(n);
+    [before, inner.to_vec(), vec![other; (parts - 1 - nests) * n]].concat()
+}
+
+fn connectives() -> Vec<Vec<u16>> {
+    let mut all = vec![];
+    for word in [256, 257] {
+        for nests in [0, 1] {
+            for other in [0, 258, 259, 261] {
+                for n in [5, 16, 31] {
+                    for nots in [0, 1] {
+                        for last in [0, 258, 261] {
+                            let inner = [vec![1; 62 - 2 * n], vec![last]].concat();
+                            all.push([vec![260; nots], levels(word, 2, nests, other, n, &inner)].concat());
+                        }
+                    }
+                }
+            }
+        }
+    }
+    all
+}
+
+fn wide() -> Vec<Vec<u16>> {
+    let mut all = vec![];
+    for (word, parts) in [(2, 2), (3, 4)] {
+        for nests in 0..parts {
+            for other in [0, 258] {
+                for n in [1, 5, 63 / parts - 1] {
+                    let inner = [vec![1; 63 - n * parts], vec![258]].concat();
+                    all.push(levels(word, parts, nests, other, n, &inner));
+                    all.push([vec![260], levels(word, parts, nests, other, n, &inner[1..])].concat());
+                }
+            }
+        }
+    }
+    all
+}
+
+/// Ambiguity is asked so many levels deep, of parts that nest further.
+fn variables() -> Vec<Vec<u16>> {
+    let mut all = vec![];
+    for n in 0..60 {
+        for split in [1, (61 - n) / 2, 60 - n] {
+            let side = |words: usize| [vec![1; words.max(1) - 1], vec![261]].concat();
+            all.push([vec![1; n], vec![257], side(split), side(62 - n - split)].concat());
+            all.push([vec![260; n / 2 * 2], vec![257], side(split), side(62 - n - split)].concat());
+        }
+        // apart, so that the rule is admitted
+        for around in [1, 260] {
+            let n = n / 2 * 2;
+            all.push([vec![around; n], vec![257, 256, 261, 0], vec![1; 59 - n], vec![261]].concat());
+        }
+    }
+    all
+}
+
+/// 64 rules that are one chain of 63 letters each.
+fn letters() -> Case {
+    let chain = |i: u16| [(0..63).map(|j| if j < 6 { i >> j & 1 } else { 0 }).collect(), vec![2]].concat();
+    let rules: Vec<(u16, u16, Vec<u16>)> = (0..64).map(|i| (1 + i, i, chain(i))).collect();
+    let bookings = vec![chain(0), chain(63), [vec![0; 255], vec![2]].concat()];
+    Case { name: "64 rules, 63 nested", signature: TWO_LETTERS.to_vec(), rules, bookings }
+}
+
+/// Words beyond every limit.
+fn not_lawful() -> Row {
+    let mut inputs = vec![];
+    for n in [65, 4096, 65536] {
+        for word in [1, 2, 256, 257, 260] {
+            inputs.push(("enter", Lent { number: 1, pattern: vec![word; n], ..Lent::empty(&ONE_KIND) }));
+            let mut table = [vec![1, 1, 1, n as u16], vec![word; n]].concat();
+            table.resize(TABLE, word);
+            for call in ["enter", "withdraw", "compile", "decide"] {
+                inputs.push((call, Lent { number: 2, pattern: vec![258], booking: vec![0], ..Lent::new(&ONE_KIND, &table) }));
+            }
+        }
+        for word in [0, 1, 2, 3] {
+            let l = Lent { booking: vec![word; n], tree: vec![3; n], ..Lent::empty(&ONE_KIND) };
+            inputs.extend(["part", "run", "decide"].map(|c| (c, l.clone())));
+            let l = Lent { booking: vec![0], number: 1, pattern: vec![258], ..Lent::empty(&vec![word; n]) };
+            inputs.extend(["part", "run", "decide", "enter", "withdraw", "compile"].map(|c| (c, l.clone())));
+        }
+    }
+    Row { name: "not lawful", inputs }
+}

@@ -1,0 +1,91 @@
+//! The gate's test data and stored outputs, made again by the reference; host/vectors/README.md says how they hang together.
+//!
+//!     vectors make calls|runs                             the data file, to standard output
+//!     vectors show calls|runs                             the data file of the repository as text
+//!     vectors answer calls|runs|texts|parts|patterns      what the program must print
+//!     vectors text                                        what the text program prints for standard input
+use reference::json::Json;
+use reference::stored::{played, ran, run_text, run_words, runs_in, runs_of, steps_of, to_bytes, to_words, Step};
+use reference::{by_hand, text};
+use std::fs::{read, read_dir, read_to_string};
+use std::io::{Read, Write};
+
+/// A file or folder of the repository.
+fn at(path: &str) -> String {
+    format!("{}/../../{path}", env!("CARGO_MANIFEST_DIR"))
+}
+
+fn vectors() -> Vec<Json> {
+    let mut files: Vec<_> = read_dir(at("host/vectors")).unwrap().map(|f| f.unwrap().path()).collect();
+    files.retain(|f| f.extension().is_some_and(|e| e == "json"));
+    files.sort();
+    files.iter().map(|f| Json::read(&read_to_string(f).unwrap())).collect()
+}
+
+fn make(what: &str) -> Vec<u8> {
+    let words: Vec<u16> = match what {
+        "calls" => {
+            let by_hand = read_to_string(at("host/vectors/calls.txt")).unwrap();
+            let mut steps: Vec<Step> = by_hand.lines().flat_map(Step::read).collect();
+            steps.extend(vectors().iter().flat_map(steps_of));
+            steps.iter().flat_map(Step::words).collect()
+        }
+        "runs" => vectors().iter().flat_map(runs_in).flat_map(|r| run_words(&r)).collect(),
+        _ => panic!("calls or runs"),
+    };
+    to_bytes(&words)
+}
+
+fn data(what: &str) -> Vec<u16> {
+    to_words(&read(at(&format!("crates/{what}/data/{what}.bin"))).unwrap())
+}
+
+fn show(what: &str) -> String {
+    let lines: Vec<String> = match what {
+        "calls" => Step::lines(&Step::all(&data(what))),
+        "runs" => runs_of(&data(what)).iter().map(run_text).collect(),
+        _ => panic!("calls or runs"),
+    };
+    lines.iter().map(|l| format!("{l}\n")).collect()
+}
+
+fn answer(what: &str) -> String {
+    match what {
+        "calls" => played(&Step::all(&data(what))),
+        "runs" => ran(&runs_of(&data(what))),
+        "texts" => {
+            let names = read_to_string(at("crates/texts/data/list.txt")).unwrap();
+            let line = |n: &str| format!("{n}\n{}", text::printed(&read(at(&format!("crates/texts/data/{n}"))).unwrap()));
+            names.lines().map(line).collect()
+        }
+        "parts" => by_hand::part_lines(),
+        "patterns" => by_hand::pattern_lines(),
+        _ => panic!("calls, runs, texts, parts or patterns"),
+    }
+}
+
+fn work() {
+    let arguments: Vec<String> = std::env::args().skip(1).collect();
+    let words: Vec<&str> = arguments.iter().map(|a| &a[..]).collect();
+    let out = match words[..] {
+        ["make", what] => make(what),
+        ["show", what] => show(what).into(),
+        ["answer", what] => answer(what).into(),
+        ["text"] => {
+            let mut bytes = vec![];
+            std::io::stdin().read_to_end(&mut bytes).unwrap();
+            text::printed(&bytes).into()
+        }
+        _ => panic!("vectors make|show|answer WHAT, or vectors text"),
+    };
+    // a reader may stop early
+    std::io::stdout().write_all(&out).ok();
+}
+
+fn main() {
+    // the reference recurses over trees as deep as a tree may be
+    let work = std::thread::Builder::new().stack_size(512 << 20).spawn(work).unwrap();
+    if work.join().is_err() {
+        std::process::exit(1);
+    }
+}

@@ -1,0 +1,300 @@
+//! The test data of the gate's programs `calls` and `runs`: words of 16 bits, the lower byte first. Here as text, as words,
+//! and with the lines that the programs must print.
+use crate::calls::{Answer, Model, TABLE};
+use crate::json::Json;
+use crate::pattern::admitted;
+use crate::rows::{rows_of, shared_value, Side};
+use crate::signature::Signature;
+
+/// A step of `calls`, each with its number in the file.
+#[derive(Clone, Debug, PartialEq)]
+pub enum Step {
+    /// 0: a new list of calls; a table of so many words is emptied.
+    Table { words: u16, signature: Vec<u16> },
+    /// 1, or 8 where the line shows what 12 gives.
+    Enter { in_full: bool, number: u16, plan: u16, witness: u16, pattern: Vec<u16> },
+    /// 2
+    Withdraw { number: u16 },
+    /// 3
+    Compile { space: u16 },
+    /// 4
+    Decide { booking: Vec<u16> },
+    /// 5
+    Run { tree: Vec<u16>, booking: Vec<u16> },
+    /// 6: the table's words.
+    Show,
+    /// 7: a word of the table is changed by hand.
+    Change { index: u16, word: u16 },
+}
+use Step::*;
+
+pub fn to_words(bytes: &[u8]) -> Vec<u16> {
+    bytes.chunks_exact(2).map(|b| u16::from_le_bytes([b[0], b[1]])).collect()
+}
+
+pub fn to_bytes(words: &[u16]) -> Vec<u8> {
+    words.iter().flat_map(|w| w.to_le_bytes()).collect()
+}
+
+fn spaced(words: &[u16]) -> String {
+    words.iter().map(|w| format!(" {w}")).collect()
+}
+
+/// Reads words from the front.
+struct Words<'a>(&'a [u16]);
+
+impl Words<'_> {
+    fn one(&mut self) -> u16 {
+        let w = self.0[0];
+        self.0 = &self.0[1..];
+        w
+    }
+
+    fn list(&mut self) -> Vec<u16> {
+        let n = self.one() as usize;
+        self.some(n)
+    }
+
+    fn some(&mut self, n: usize) -> Vec<u16> {
+        let (l, rest) = self.0.split_at(n);
+        self.0 = rest;
+        l.to_vec()
+    }
+}
+
+impl Step {
+    pub fn all(words: &[u16]) -> Vec<Step> {
+        let mut w = Words(words);
+        let mut all = vec![];
+        while !w.0.is_empty() {
+            all.push(Step::first(&mut w));
+        }
+        all
+    }
+
+    fn first(w: &mut Words) -> Step {
+        match w.one() {
+            0 => Table { words: w.one(), signature: w.list() },
+            k @ (1 | 8) => Enter { in_full: k == 8, number: w.one(), plan: w.one(), witness: w.one(), pattern: w.list() },
+            2 => Withdraw { number: w.one() },
+            3 => Compile { space: w.one() },
+            4 => Decide { booking: w.list() },
+            5 => Run { tree: w.list(), booking: w.list() },
+            6 => Show,
+            7 => Change { index: w.one(), word: w.one() },
+            k => panic!("no step {k}"),
+        }
+    }
+
+    pub fn words(&self) -> Vec<u16> {
+        let list = |l: &[u16]| [&[l.len() as u16], l].concat();
+        match self {
+            Table { words, signature } => [vec![0, *words], list(signature)].concat(),
+            Enter { in_full, number, plan, witness, pattern } => {
+                [vec![if *in_full { 8 } else { 1 }, *number, *plan, *witness], list(pattern)].concat()
+            }
+            Withdraw { number } => vec![2, *number],
+            Compile { space } => vec![3, *space],
+            Decide { booking } => [vec![4], list(booking)].concat(),
+            Run { tree, booking } => [vec![5], list(tree), list(booking)].concat(),
+            Show => vec![6],
+            Change { index, word } => vec![7, *index, *word],
+        }
+    }
+
+    pub fn text(&self) -> String {
+        match self {
+            Table { words, signature } => format!("table {words} signature{}", spaced(signature)),
+            Enter { in_full, number, plan, witness, pattern } => {
+                let full = if *in_full { " in-full" } else { "" };
+                format!("enter {number} plan {plan} witness {witness}{full} pattern{}", spaced(pattern))
+            }
+            Withdraw { number } => format!("withdraw {number}"),
+            Compile { space } => format!("compile {space}"),
+            Decide { booking } => format!("decide{}", spaced(booking)),
+            Run { tree, booking } => format!("run{} booking{}", spaced(tree), spaced(booking)),
+            Show => "show".into(),
+            Change { index, word } => format!("change {index} {word}"),
+        }
+    }
+
+    /// All as text, a line each; words that are changed one behind the other stand in one line.
+    pub fn lines(all: &[Step]) -> Vec<String> {
+        let mut out: Vec<String> = vec![];
+        let mut next = None;
+        for step in all {
+            match step {
+                Change { index, word } if next == Some(*index) => *out.last_mut().unwrap() += &format!(" {word}"),
+                step => out.push(step.text()),
+            }
+            next = if let Change { index, .. } = step { Some(index + 1) } else { None };
+        }
+        out
+    }
+
+    /// The steps of a line as `lines` writes it; none for an empty line and one that begins with `#`.
+    pub fn read(line: &str) -> Vec<Step> {
+        if line.trim().is_empty() || line.starts_with('#') {
+            return vec![];
+        }
+        let mut names: Vec<&str> = vec![];
+        let mut lists: Vec<Vec<u16>> = vec![];
+        for token in line.split_whitespace() {
+            match token.parse() {
+                Ok(n) => lists.last_mut().unwrap().push(n),
+                Err(_) => {
+                    names.push(token);
+                    lists.push(vec![]);
+                }
+            }
+        }
+        let one = |i: usize| lists[i][0];
+        let step = match names[..] {
+            ["table", "signature"] => Table { words: one(0), signature: lists[1].clone() },
+            ["enter", "plan", "witness", "pattern"] => {
+                Enter { in_full: false, number: one(0), plan: one(1), witness: one(2), pattern: lists[3].clone() }
+            }
+            ["enter", "plan", "witness", "in-full", "pattern"] => {
+                Enter { in_full: true, number: one(0), plan: one(1), witness: one(2), pattern: lists[4].clone() }
+            }
+            ["withdraw"] => Withdraw { number: one(0) },
+            ["compile"] => Compile { space: one(0) },
+            ["decide"] => Decide { booking: lists[0].clone() },
+            ["run", "booking"] => Run { tree: lists[0].clone(), booking: lists[1].clone() },
+            ["show"] => Show,
+            ["change"] => return lists[0][1..].iter().zip(one(0)..).map(|(w, index)| Change { index, word: *w }).collect(),
+            _ => panic!("not understood: {line}"),
+        };
+        vec![step]
+    }
+}
+
+/// A run of `runs`: signature, tree, booking.
+pub type Run3 = (Vec<u16>, Vec<u16>, Vec<u16>);
+
+pub fn runs_of(words: &[u16]) -> Vec<Run3> {
+    let mut w = Words(words);
+    let mut all = vec![];
+    while !w.0.is_empty() {
+        let n = [w.one(), w.one(), w.one()].map(usize::from);
+        all.push((w.some(n[0]), w.some(n[1]), w.some(n[2])));
+    }
+    all
+}
+
+pub fn run_words((s, t, b): &Run3) -> Vec<u16> {
+    [&[s.len() as u16, t.len() as u16, b.len() as u16], &s[..], t, b].concat()
+}
+
+pub fn run_text((s, t, b): &Run3) -> String {
+    format!("signature{} tree{} booking{}", spaced(s), spaced(t), spaced(b))
+}
+
+// ---- from the vectors
+
+/// The steps of a list of calls: the calls, the table where the signature is lawful, compile, the bookings decided and the first eight runs.
+pub fn steps_of(v: &Json) -> Vec<Step> {
+    let mut all = vec![Table { words: v.get("table_words").number() as u16, signature: v.get("sig").words() }];
+    for call in v.get("calls").list() {
+        let call = call.list();
+        let number = call[1].number() as u16;
+        all.push(match call[0].text() {
+            "enter" => Enter {
+                in_full: false,
+                number,
+                plan: call[2].number() as u16,
+                witness: call[4].number() as u16,
+                pattern: call[3].words(),
+            },
+            _ => Withdraw { number },
+        });
+    }
+    if v.get("compile").words()[0] != 1 {
+        all.push(Show);
+    }
+    all.push(Compile { space: v.get("space").number() as u16 });
+    all.extend(v.get("decide").list().iter().map(|d| Decide { booking: d.get("booking").words() }));
+    all.extend(v.get("run").list().iter().take(8).map(|d| Run { tree: d.get("tree").words(), booking: d.get("booking").words() }));
+    all
+}
+
+/// The runs of a list of calls; under an unlawful signature one over the least tree.
+pub fn runs_in(v: &Json) -> Vec<Run3> {
+    let sig = v.get("sig").words();
+    if v.get("compile").words()[0] == 1 {
+        return vec![(sig, vec![0], v.get("decide").list()[0].get("booking").words())];
+    }
+    v.get("run").list().iter().map(|d| (sig.clone(), d.get("tree").words(), d.get("booking").words())).collect()
+}
+
+// ---- what the programs print
+
+pub fn answer_line((number, rule, plan, places): Answer) -> String {
+    let bound: String = (0..16).filter(|x| places[*x] != 65535 && number == 0).map(|x| format!(" {x}:{}", places[x])).collect();
+    format!("{number} {rule} {plan}{bound}\n")
+}
+
+/// The lines of `calls`.
+pub fn played(steps: &[Step]) -> String {
+    let mut model = Model::default();
+    let mut sig: Vec<u16> = vec![];
+    let mut lent = 0;
+    // the program's own table, of which a list is lent the front
+    let mut whole = vec![0u16; 4400];
+    let mut out = String::new();
+    for step in steps {
+        let table = whole[..lent].to_vec();
+        let mut write = |after: Vec<u16>| whole[..after.len()].copy_from_slice(&after);
+        match step {
+            Table { words, signature } => {
+                lent = *words as usize;
+                sig = signature.clone();
+                let (n, after) = model.empty(&whole[..lent]);
+                whole[..lent].copy_from_slice(&after);
+                out += &format!("{n}\n");
+            }
+            Enter { in_full, number, plan, witness, pattern } => {
+                let (n, rule, after) = model.enter(&sig, *number, *plan, pattern, &table, *witness as usize);
+                out += &n.to_string();
+                if n == 12 && *in_full {
+                    let shown = shown(&sig, &table, rule, pattern);
+                    out += &format!(" {rule} {}{}", shown.len(), spaced(&shown));
+                }
+                out += "\n";
+                write(after);
+            }
+            Withdraw { number } => {
+                let (n, after) = model.withdraw(&sig, *number, &table);
+                out += &format!("{n}\n");
+                write(after);
+            }
+            Compile { space } => {
+                let (n, length, words) = model.compile(&sig, &table, &vec![0; *space as usize]);
+                out += &format!("{n} {length}{}\n", spaced(&words[..length]));
+            }
+            Decide { booking } => out += &answer_line(model.decide(&sig, &table, booking)),
+            Run { tree, booking } => out += &answer_line(model.run(&sig, tree, booking)),
+            Show => {
+                let used = table.iter().rposition(|w| *w != 0).map_or(0, |i| i + 1);
+                out += &format!("table{}\n", spaced(&table[..used]));
+            }
+            Change { index, word } => whole[*index as usize] = *word,
+        }
+    }
+    out
+}
+
+/// A booking that a held rule and a pattern share. 01 leaves open which; the data asks only where there is one.
+fn shown(sig: &[u16], table: &[u16], rule: u16, pattern: &[u16]) -> Vec<u16> {
+    let sig = Signature::read(sig).unwrap();
+    let rules = crate::calls::sound(&sig, &table[..TABLE]).unwrap();
+    let held = rules.iter().find(|r| r.number == rule).unwrap();
+    let rows = rows_of(&sig, &admitted(&sig, pattern).unwrap(), 0, Side::Plus);
+    shared_value(&sig, 0, &held.rows, &rows).unwrap().words()
+}
+
+/// The lines of `runs`.
+pub fn ran(runs: &[Run3]) -> String {
+    let mut model = Model::default();
+    runs.iter().map(|(s, t, b)| answer_line(model.run(s, t, b))).collect()
+}
