@@ -5,6 +5,7 @@ use run::Ran;
 use run::leaf::no_rule;
 use store::layout::LENGTH;
 use store::layout::PLAN;
+use store::layout::RULES_AT;
 use store::layout::RULE_HEAD;
 ghost use mathlib.Core.Path.{_≡_};
 ghost use Rattle.tree.specs.Limits.{default-plan};
@@ -30,7 +31,7 @@ pub fn by_rules(t: &[u16], table: &[u16], b: &[u16]) -> Ran
     ensures { λ r. ⌜ ((g : Judging (now (t .entry)) (now (table .entry)) (now (b .entry))) → outcome r ≡ (0, direct default-plan (g .force .known .sig) (g .force .rs) (g .value))) ⌝ }
 {
     let n = table[0];
-    let mut at = 1;
+    let mut at = RULES_AT;
     let mut i = 0;
     while i < n {
         let from = at + RULE_HEAD;
