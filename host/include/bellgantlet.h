@@ -10,8 +10,8 @@
  * Every answer has a number: 0, or that of the first refusal that applies, in the order given. On a refusal all other
  * results are 0 and nothing is written, except on 12.
  *
- * Stack: a call takes up to BELLGANTLET_STACK_ENTER bytes and its like. What a thread itself needs comes on top. A stack
- * that is too small ends the program: nothing else is written.
+ * Stack: a call takes up to BELLGANTLET_STACK_ENTER bytes and its like. What a thread itself needs comes on top:
+ * PTHREAD_STACK_MIN and the host's own functions. A stack that is too small ends the program: nothing else is written.
  */
 #ifndef BELLGANTLET_H
 #define BELLGANTLET_H

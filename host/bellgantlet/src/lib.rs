@@ -156,7 +156,7 @@ impl Table {
         })
     }
 
-    /// Enters a rule; on an error the table is as it was.
+    /// Enters a rule; on an error the table is as it was. Takes up to [`stack::ENTER`] bytes.
     pub fn enter(&mut self, number: RuleNumber, plan: u16, pattern: &[u16]) -> Result<(), NotEntered> {
         let mut witness = vec![0; WITNESS];
         let e = raw::enter(&self.signature.0, number.get(), plan, pattern, &mut self.words, &mut witness);
@@ -167,7 +167,7 @@ impl Table {
         Err(NotEntered::of(e.number, NonZeroU16::new(e.rule).map(RuleNumber), witness))
     }
 
-    /// Withdraws a rule; refused with [`Refusal::NotHeld`] alone.
+    /// Withdraws a rule; refused with [`Refusal::NotHeld`] alone. Takes up to [`stack::WITHDRAW`] bytes.
     pub fn withdraw(&mut self, number: RuleNumber) -> Result<(), Refusal> {
         match raw::withdraw(&self.signature.0, number.get(), &mut self.words) {
             0 => Ok(()),
@@ -186,7 +186,7 @@ impl Table {
         Ok(Tree { signature: self.signature.clone(), words: space.into() })
     }
 
-    /// The answer directly from the table; refused with [`Refusal::BookingUnlawful`] alone.
+    /// The answer directly from the table; refused with [`Refusal::BookingUnlawful`] alone. Takes up to [`stack::DECIDE`] bytes.
     pub fn decide(&self, booking: &[u16]) -> Result<Answer, Refusal> {
         Answer::of(raw::decide(&self.signature.0, &self.words, booking))
     }

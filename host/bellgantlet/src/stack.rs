@@ -1,7 +1,7 @@
 //! Bytes of stack that each call takes at most: the worst that was measured, with a margin of at least 15 % (docs/PERFORMANCE.md).
 //!
-//! What a thread itself needs comes on top: its start, its thread-local data, and the host's own functions. A stack that is
-//! too small ends the program; nothing else is written.
+//! What a thread itself needs comes on top: its start, its thread-local data, and the host's own functions; 64 KB are ample
+//! where these are small. A stack that is too small ends the program; nothing else is written.
 
 pub const EMPTY: usize = 4 << 10;
 pub const ENTER: usize = 840 << 10;
