@@ -1,5 +1,5 @@
 -- The part at a place, from what was decoded and read on the way.
-use mathlib.Core.Path.{_≡_, refl, sym, ap, _∙_}
+use mathlib.Core.Path.{_≡_, refl, sym, ap, subst, _∙_}
 use mathlib.Core.List.{List, []}
 use mathlib.Core.Option.{Option, some, none}
 use mathlib.Core.Bool.{true, false}
@@ -10,6 +10,9 @@ use lib.Seq.{take-all}
 use Rattle.signature.specs.Decoded.{Decoded, Known, Starts}
 use Rattle.signature.specs.Lawful.{OfKind, of-kind, OfKinds, of-kinds-cons}
 use Rattle.signature.specs.Lists.{is-some}
+use Rattle.booking.specs.Found.{FoundAs}
+use Rattle.booking.specs.declared.part.Found.{Found}
+use Rattle.booking.specs.declared.part.Found.the-variants.{Part, Refused}
 use Rattle.signature.specs.Part.{part-call, Begins, begins-here, begins-in, BeginsIn, in-first, in-later}
 use Rattle.signature.specs.Read.{read-signature, read-booking}
 use Rattle.signature.specs.Signature.{Signature}
@@ -77,3 +80,22 @@ module _ {ss t : List ℕ} (o : Of ss t) (bs : List ℕ) (place : ℕ) where
         number = ap (λ z. z .0) call;
         words = ap (λ z. z .1) call ∙ words;
       }
+
+-- what is found, by its words
+pub found-here : {ss t : List ℕ} {o : Of ss t} {bs : List ℕ} {place : ℕ} (h : Here o bs place) (n : ℕ) → n ≡ size (h .starts .value) → FoundAs ss bs place (Part n)
+found-here {bs = bs} {place = place} h n e = (omega (arith, h .fits, e), h .number, h .words ∙ ap (λ k. take k (drop place bs)) (sym e))
+
+module _ (ss bs : List ℕ) (place : ℕ) (r : Found) (f : FoundAs ss bs place r) where
+  pub found-part : (n : ℕ) → r ≡ Part n → FoundAs ss bs place (Part n)
+  found-part n e = subst (FoundAs ss bs place) e f
+
+  pub found-refused : (q : ℕ) → r ≡ Refused q → FoundAs ss bs place (Refused q)
+  found-refused q e = subst (FoundAs ss bs place) e f
+
+  -- where it is no part, it is empty
+  pub found-none : ((n : ℕ) → r ≡ Part n → ⊥) → part-call ss bs place .1 ≡ []
+  found-none g = go r refl f
+    where
+      go : (x : Found) → r ≡ x → FoundAs ss bs place x → part-call ss bs place .1 ≡ []
+      go (Part n) e h = absurd (g n e)
+      go (Refused q) e h = h .1

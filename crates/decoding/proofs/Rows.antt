@@ -16,6 +16,7 @@ use Rattle.signature.specs.Read.{read-constructors}
 use Rattle.signature.specs.Signature.{Signature, Constructor}
 use Rattle.signature.specs.Decoded.{decoded-length, stride, kind-of, arity-of}
 use Rattle.decoding.specs.Decoding.{words-from, row, rows, SameBelow, read-constructor, Copied, RowRead, Arities, RowsRead}
+use Rattle.signature.proofs.ListFacts.{split-none, split-some}
 use Rattle.signature.proofs.Tests.{leb-yes, leb-no, true≢false, eqb-eq, eqb-ne}
 use Rattle.signature.proofs.Counting.{counted-same, counted-more, set-is, set-apart}
 
@@ -66,20 +67,10 @@ row-short w p l = few-words (drop p w) (omega (arith, length-drop p w))
 pub row-wide : (w : List ℕ) (p : ℕ) → p + 2 ≤ length w → argument-limit < getD w (p + 1) 0 → read-constructor (drop p w) ≡ none
 row-wide w p l m = rw (two-words w p l, leb-no (getD w (p + 1) 0) argument-limit m)
 
-split-none : (m : ℕ) (ws : List ℕ) → length ws < m → split m ws ≡ none
-split-none zero ws l = absurd (omega arith)
-split-none (suc m) [] l = refl
-split-none (suc m) (w ∷ ws) l = rw (split-none m ws (omega arith))
-
 pub row-cut : (w : List ℕ) (p : ℕ) → p + 2 ≤ length w → getD w (p + 1) 0 ≤ argument-limit → length w - p - 2 < getD w (p + 1) 0 → read-constructor (drop p w) ≡ none
 row-cut w p l m n =
     let s : split (getD w (p + 1) 0) (drop (p + 2) w) ≡ none = split-none (getD w (p + 1) 0) (drop (p + 2) w) (omega (arith, length-drop (p + 2) w)) in
     rw (two-words w p l, leb-yes (getD w (p + 1) 0) argument-limit m, s)
-
-split-some : (m : ℕ) (ws : List ℕ) → m ≤ length ws → split m ws ≡ some (take m ws, drop m ws)
-split-some zero ws l = refl
-split-some (suc m) [] l = absurd (omega arith)
-split-some (suc m) (w ∷ ws) l = rw (split-some m ws (omega arith))
 
 words-taken : (u w : List ℕ) (b a m : ℕ) → a + m ≤ length w → ((j : ℕ) → j < m → getD u (b + j) 0 ≡ getD w (a + j) 0) → take m (drop a w) ≡ words-from u b m
 words-taken u w b a zero l h = refl

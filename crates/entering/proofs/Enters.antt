@@ -20,6 +20,7 @@ use Rattle.loading.specs.Add.{rows-room}
 use Rattle.opening.specs.Open.{GivenOpen, Started, OpenedAs}
 use Rattle.opening.specs.declared.open.Opened.{Opened}
 use Rattle.opening.specs.declared.open.Opened.the-variants.{Begun, Refused as Closed}
+use Rattle.table.proofs.Outcomes.{begin-inj, refused-begin}
 use Rattle.entry.specs.Check.{GivenCheck}
 use Rattle.entry.specs.Entry.{entry-answer, Numbered}
 use Rattle.entry.specs.Settle.{EntryOf}
@@ -38,13 +39,6 @@ module _ (table witness : List ℕ) (b : Bool) (b-is : b ≡ (long-table limits 
 
   pub witness-long : witness-length ≤ length witness
   witness-long = le-of witness-length (length witness) (and-right (long-table limits table) (long-witness witness) (sym b-is ∙ e))
-
--- ---- from 1 on
-begin-inj : (sig sig′ : Signature) (rs rs′ : List Rule) → begin sig rs ≡ begin sig′ rs′ → (sig ≡ sig′) × (rs ≡ rs′)
-begin-inj sig sig′ rs rs′ p = (cc, cc)
-
-refused-begin : {A : Type 0} (q : ℕ) (sig : Signature) (rs : List Rule) → refused q ≡ begin sig rs → A
-refused-begin q sig rs p = absurd (let z : _≡_ {A = ℕ} 0 1 = cc in omega arith)
 
 -- 1, 2 and 3
 refused-some : (ss : List ℕ) (long : Bool) (table : List ℕ) (q : ℕ) → start limits ss long table ≡ refused q → 1 ≤ q

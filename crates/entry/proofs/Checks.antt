@@ -133,7 +133,7 @@ module _ {t table : List ℕ} {used total : ℕ} {rows : List ℕ} {m : ℕ} (g 
       pub bad-number : (q : ℕ) → s ≡ Refused q → CheckedAs (g .force .known .sig) (g .force .rs) n ws used total (Refused q) rows
       bad-number q e = let f = subst (FreeFor n (g .force .rs)) e (said (g .force .rs) holds) in (f .0, f .1, f .2 after-number)
 
-    module _ (s : Checked) (said : (rs : List Rule) → Holds limits table rs → FreeFor n rs s) (at : ℕ) (s-is : s ≡ Free at) (n' m' : ℕ) (n'-is : n' ≡ length rows - used) (m'-is : m' ≡ m) (r : Admission) (gave : (q : GivenWords t n' m') → r ≡ admission-of (q .force .known .sig) ws) where
+    module _ (s : Checked) (said : (rs : List Rule) → Holds limits table rs → FreeFor n rs s) (at : ℕ) (s-is : s ≡ Free at) (n' m' : ℕ) (n'-is : n' ≡ length rows - used) (m'-is : m' ≡ m) (r : Admission) (gave : (q : GivenWords t n' m') → r ≡ admission-of (q .known .sig) ws) where
       told : Tells (g .force .known .sig) ws r
       unfolding words-given
       told = subst (Tells (g .force .known .sig) ws) (sym (gave (words-given n' m' n'-is m'-is))) (tells (g .force .known .sig) ws)

@@ -50,7 +50,7 @@ module _ {t table : List ℕ} {n : ℕ} {ws : List ℕ} {at used : ℕ} {rows : 
   pub put-given : GivenPut table at n ws
   put-given = record { rs = g .force .rs; holds = sound-holds (g .force .known .sig) table (g .force .rs) (g .force .is-sound); free = g .cleared .free; few = g .cleared .few; short = valid .short; short-new = short-of (g .force .known .sig) ws (g .cleared .passed) }
 
-  module _ (r : ℕ) (o : List ℕ) (put : (q : GivenPlace t ws used (length rows) m) → ListPlaced (q .force .known .sig) (q .p) used r rows o) where
+  module _ (r : ℕ) (o : List ℕ) (put : (q : GivenPlace t ws used (length rows) m) → ListPlaced (q .known .sig) (q .p) used r rows o) where
     placed : ListPlaced (g .force .known .sig) (passed .pat) used r rows o
     unfolding place-given
     placed = put place-given
@@ -118,7 +118,7 @@ module _ {t table : List ℕ} {n : ℕ} {ws : List ℕ} {at used : ℕ} {rows : 
             on-12 = λ x. w;
           }
 
-      pub entered : s .length ≤ 0 → (after : List ℕ) → ((q : GivenPut table at n ws) → after ≡ stored limits (add-rule (record { number = n; plan = plan; pattern = ws }) (q .force .rs)) table) → EntryOf (g .force .known .sig) (g .force .rs) n plan ws table witness (entry-answer Entered) after witness′
+      pub entered : s .length ≤ 0 → (after : List ℕ) → ((q : GivenPut table at n ws) → after ≡ stored limits (add-rule (record { number = n; plan = plan; pattern = ws }) (q .rs)) table) → EntryOf (g .force .known .sig) (g .force .rs) n plan ws table witness (entry-answer Entered) after witness′
       unfolding put-given
       entered h after did =
           let (e, u, w) = said .none-shares (omega (arith, h)) in

@@ -267,3 +267,14 @@ in-any f (s ∷ rs) r (in-there i) e = rw (in-any f rs r i e) (go (f s))
     go : (b : Bool) → (b || true) ≡ true
     go true = refl
     go false = refl
+
+-- the first n of a list, where there are n
+pub split-some : (m : ℕ) (ws : List ℕ) → m ≤ length ws → split m ws ≡ some (take m ws, drop m ws)
+split-some zero ws l = refl
+split-some (suc m) [] l = absurd (omega arith)
+split-some (suc m) (w ∷ ws) l = rw (split-some m ws (omega arith))
+
+pub split-none : (m : ℕ) (ws : List ℕ) → length ws < m → split m ws ≡ none
+split-none zero ws l = absurd (omega arith)
+split-none (suc m) [] l = refl
+split-none (suc m) (w ∷ ws) l = rw (split-none m ws (omega arith))

@@ -48,11 +48,6 @@ abbrev pub is-empty : {A : Type 0} → List A → Bool
 is-empty [] = true
 is-empty (x ∷ xs) = false
 
--- one list of many
-abbrev pub concat : {A : Type 0} → List (List A) → List A
-concat [] = []
-concat (xs ∷ xss) = xs ++ concat xss
-
 -- those that are there
 abbrev pub somes : {A : Type 0} → List (Option A) → List A
 somes [] = []

@@ -3,7 +3,7 @@ ghost use mathlib.Core.Path.{_≡_};
 ghost use Prim.Native.Nat.{_<_};
 ghost use lib.ListN.{length};
 ghost use Rattle.signature.specs.Limits.{argument-limit, constructor-limit, kind-limit};
-ghost use Rattle.signature.specs.Decoded.{decoded-length, kind-of, arity-of, argument-of, first-of, count-of, least-head-of, least-size-of, kinds-of, constructors-of};
+ghost use Rattle.signature.specs.Decoded.{decoded-length, kind-of, arity-of, argument-of, first-of, count-of, least-head-of, constructors-of};
 
 pub const STRIDE: usize = 6;
 
@@ -55,20 +55,6 @@ pub fn least_head_of(t: &[u16], k: usize) -> u16
     ensures { λ r. ⌜ r ≡ least-head-of (now (t .entry)) k ⌝ }
 {
     t[KINDS_AT + KIND_STRIDE * k + 2]
-}
-
-pub fn least_size_of(t: &[u16], k: usize) -> u16
-    requires { ⌜ (length (now t) ≡ decoded-length) × (k < kind-limit) ⌝ }
-    ensures { λ r. ⌜ r ≡ least-size-of (now (t .entry)) k ⌝ }
-{
-    t[KINDS_AT + KIND_STRIDE * k + 3]
-}
-
-pub fn kinds_of(t: &[u16]) -> u16
-    requires { ⌜ length (now t) ≡ decoded-length ⌝ }
-    ensures { λ r. ⌜ r ≡ kinds-of (now (t .entry)) ⌝ }
-{
-    t[COUNTS_AT]
 }
 
 pub fn constructors_of(t: &[u16]) -> u16

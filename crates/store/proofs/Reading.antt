@@ -9,6 +9,7 @@ use lib.Dec.{eqb, ltb, leb}
 use lib.ListN.{length, getD, take, drop, length-drop, drop-of-length-le}
 use lib.Seq.{length-take-le, drop-cons, getD-take, drop-drop}
 use Rattle.signature.specs.Lists.{all, require, split, is-some, _>>=_}
+use Rattle.signature.proofs.ListFacts.{split-none, split-some}
 use Rattle.signature.proofs.Booleans.{and-false}
 use Rattle.signature.proofs.Tests.{eqb-no, ltb-yes, ltb-no, leb-yes, leb-no}
 use Rattle.tree.specs.Limits.{last-number}
@@ -26,17 +27,7 @@ is-required : {A : Type 0} (b : Bool) (a : A) → is-some (require b >>= λ u. s
 is-required true a = refl
 is-required false a = refl
 
-split-in : (n : ℕ) (ws : List ℕ) → n ≤ length ws → split n ws ≡ some (take n ws, drop n ws)
-split-in zero ws l = refl
-split-in (suc n) [] l = absurd (omega arith)
-split-in (suc n) (w ∷ ws) l = rw (split-in n ws (omega arith))
-
-split-out : (n : ℕ) (ws : List ℕ) → length ws < n → split n ws ≡ none
-split-out zero ws l = absurd (omega arith)
-split-out (suc n) [] l = refl
-split-out (suc n) (w ∷ ws) l = rw (split-out n ws (omega arith))
-
--- ---- one rule
+-- one rule
 
 no-head : (n m : ℕ) (ws : List ℕ) → length ws < 3 → is-some (read-rules (suc n) m ws) ≡ false
 no-head n m [] l = refl
@@ -52,14 +43,14 @@ module _ (n m a b l : ℕ) (ws : List ℕ) where
   too-high h = rw (leb-no a last-number h, and-false (ltb m a))
 
   cut-short : length ws < l → is-some (read-rules (suc n) m (a ∷ (b ∷ (l ∷ ws)))) ≡ false
-  cut-short h = rw (split-out l ws h) (go (ltb m a && leb a last-number))
+  cut-short h = rw (split-none l ws h) (go (ltb m a && leb a last-number))
     where
       go : (t : Bool) → is-some {A = List Rule} (require t >>= λ u. none) ≡ false
       go true = refl
       go false = refl
 
   one-more : m < a → a ≤ last-number → l ≤ length ws → is-some (read-rules (suc n) m (a ∷ (b ∷ (l ∷ ws)))) ≡ is-some (read-rules n a (drop l ws))
-  one-more h k f = rw (ltb-yes m a h, leb-yes a last-number k, split-in l ws f) (is-some-on (read-rules n a (drop l ws)) _)
+  one-more h k f = rw (ltb-yes m a h, leb-yes a last-number k, split-some l ws f) (is-some-on (read-rules n a (drop l ws)) _)
 
 -- ---- the words of a table
 

@@ -70,10 +70,10 @@ pub record Outcome (ss : List ℕ) (n plan : ℕ) (ws before witness : List ℕ)
   pub witness′ : List ℕ
   pub meets : Enter limits ss n plan ws before witness e after witness′
 
-begin-inj : (sig sig′ : Signature) (rs rs′ : List Rule) → begin sig rs ≡ begin sig′ rs′ → (sig ≡ sig′) × (rs ≡ rs′)
+pub begin-inj : (sig sig′ : Signature) (rs rs′ : List Rule) → begin sig rs ≡ begin sig′ rs′ → (sig ≡ sig′) × (rs ≡ rs′)
 begin-inj sig sig′ rs rs′ p = (cc, cc)
 
-refused-begin : {A : Type 0} (m : ℕ) (sig : Signature) (rs : List Rule) → refused m ≡ begin sig rs → A
+pub refused-begin : {A : Type 0} (m : ℕ) (sig : Signature) (rs : List Rule) → refused m ≡ begin sig rs → A
 refused-begin m sig rs p = absurd (let z : _≡_ {A = ℕ} 0 1 = cc in omega arith)
 
 pub enter-outcome : (ss : List ℕ) (n plan : ℕ) (ws before witness : List ℕ) → Outcome ss n plan ws before witness
