@@ -32,7 +32,7 @@ pub fn answer(r: Ran) {
 // The first n words, where there are as many.
 fn front(w: &[u16], n: usize) {
     if n <= w.len() {
-        print::words(&w[..n]);
+        print::words(&w[0..n]);
     }
 }
 

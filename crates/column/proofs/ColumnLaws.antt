@@ -110,7 +110,7 @@ column-some sig a rows re cur n k r x l w m = go (member re r) refl w
     go true i v = record { plain = λ e. absurd (omega arith); kind = λ f. v .refines m .0; row = λ f. (r, l, i, v .refines m .1) }
     go false i v = absurd (omega (arith, v))
 
--- ---- the rows that stay alive
+-- the rows that stay alive
 
 module _ (s re : ℕ → Bool) (a rows : List ℕ) (q j r x : ℕ) (h : x ≡ start-of rows r) where
   abbrev word : ℕ

@@ -57,6 +57,13 @@ pub record Looking (t a rows : List ℕ) (n : ℕ) (re cur : List ℕ) : Type 0 
   pub cell : (r : ℕ) → r < n → member re r ≡ true → cell-of rows r (getD cur r 0) + 3 ≤ length a
   pub tags : (r : ℕ) → r < n → member re r ≡ true → (tag-at a rows cur r ≡ 256 + k) ⊎ (memb (tag-at a rows cur r) (heads (known .sig) k) ≡ true)
 
+-- whoever knows that learns what row r says, and what the column says
+abbrev pub KindOfRow : List ℕ → List ℕ → List ℕ → ℕ → List ℕ → List ℕ → ℕ → ℕ → Type 0
+KindOfRow t a rows n re cur r res = (g : Looking t a rows n re cur) → RowSaw (member re r) (g .known .sig) (g .k) (tag-at a rows cur r) (allowed-at a rows cur r) res
+
+abbrev pub KindOfColumn : List ℕ → List ℕ → List ℕ → ℕ → List ℕ → List ℕ → ℕ → Type 0
+KindOfColumn t a rows n re cur res = (g : Looking t a rows n re cur) → Column (g .known .sig) a rows n re cur (g .k) res
+
 -- what is given to find the rows that allow head number j: the cursors are raised
 pub record Keeping (a rows : List ℕ) (n : ℕ) (re cur : List ℕ) (j : ℕ) : Type 0 where
   pub few : n ≤ row-limit
@@ -64,3 +71,7 @@ pub record Keeping (a rows : List ℕ) (n : ℕ) (re cur : List ℕ) (j : ℕ) :
   pub long : row-stride * n ≤ length rows
   pub bit-small : j < set-limit
   pub cell : (r : ℕ) → r < n → member re r ≡ true → (0 < getD cur r 0) × (cell-of rows r (getD cur r 0 - 1) + 3 ≤ length a)
+
+-- the same of one row
+abbrev pub KeepingRow : List ℕ → List ℕ → List ℕ → List ℕ → ℕ → ℕ → Type 0
+KeepingRow a rows re cur j r = (r < row-limit) × (r < length cur) × (row-stride * r + row-stride ≤ length rows) × (j < set-limit) × (member re r ≡ true → (0 < getD cur r 0) × (cell-of rows r (getD cur r 0 - 1) + 3 ≤ length a))

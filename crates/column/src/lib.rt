@@ -9,15 +9,12 @@ use sets::set::has as has_bit;
 use signature::decoded::count_of;
 use signature::decoded::kind_of;
 ghost use mathlib.Core.Path.{_≡_};
-ghost use mathlib.Core.Bool.{true};
-ghost use Prim.Native.Nat.{ℕ, _+_, _*_, _-_, _≤_, _<_};
-ghost use lib.ListN.{length, getD};
-ghost use Rattle.signature.specs.Set.{set-limit};
-ghost use Rattle.tree.specs.Limits.{row-limit};
+ghost use Prim.Native.Nat.{ℕ, _<_};
+ghost use lib.ListN.{length};
 ghost use Rattle.path.specs.Alive.{member, set-words};
-ghost use Rattle.path.specs.State.{row-stride, cell-of, kept-of};
+ghost use Rattle.path.specs.State.{kept-of};
 ghost use Rattle.path.specs.Standing.{refined-cell};
-ghost use Rattle.column.specs.Column.{Seen, Looking, Column, Keeping, RowKind, RowSaw, tag-at, allowed-at};
+ghost use Rattle.column.specs.Column.{Seen, Looking, Keeping, KeepingRow, KindOfColumn, KindOfRow, RowKind};
 
 // What stands for no kind.
 pub const NO_KIND: usize = 32;
@@ -69,7 +66,7 @@ fn row_kind(
     r: usize,
 ) -> usize
     requires { ⌜ Looking (now t) (now a) (now rows) n (now re) (now cur) × (r < n) ⌝ }
-    ensures { λ x. ⌜ ((g : Looking (now (t .entry)) (now (a .entry)) (now (rows .entry)) n (now (re .entry)) (now (cur .entry))) → RowSaw (member (now (re .entry)) r) (g .known .sig) (g .k) (tag-at (now (a .entry)) (now (rows .entry)) (now (cur .entry)) r) (allowed-at (now (a .entry)) (now (rows .entry)) (now (cur .entry)) r) x) ⌝ }
+    ensures { λ x. ⌜ KindOfRow (now (t .entry)) (now (a .entry)) (now (rows .entry)) n (now (re .entry)) (now (cur .entry)) r x ⌝ }
 {
     if has(re, r) {
         let at = start_of(rows, r) as usize + CELL * cur[r] as usize;
@@ -88,7 +85,7 @@ pub fn column(
     cur: &[u8],
 ) -> usize
     requires { ⌜ Looking (now t) (now a) (now rows) n (now re) (now cur) ⌝ }
-    ensures { λ x. ⌜ ((g : Looking (now (t .entry)) (now (a .entry)) (now (rows .entry)) n (now (re .entry)) (now (cur .entry))) → Column (g .known .sig) (now (a .entry)) (now (rows .entry)) n (now (re .entry)) (now (cur .entry)) (g .k) x) ⌝ }
+    ensures { λ x. ⌜ KindOfColumn (now (t .entry)) (now (a .entry)) (now (rows .entry)) n (now (re .entry)) (now (cur .entry)) x ⌝ }
 {
     let mut r = 0;
     while r < n {
@@ -111,7 +108,7 @@ fn stays(
     j: usize,
     r: usize,
 ) -> bool
-    requires { ⌜ (r < row-limit) × (r < length (now cur)) × (row-stride * r + row-stride ≤ length (now rows)) × (j < set-limit) × (member (now re) r ≡ true → (0 < getD (now cur) r 0) × (cell-of (now rows) r (getD (now cur) r 0 - 1) + 3 ≤ length (now a))) ⌝ }
+    requires { ⌜ KeepingRow (now a) (now rows) (now re) (now cur) j r ⌝ }
     ensures { λ b. ⌜ b ≡ kept-of (now (a .entry)) (now (rows .entry)) (member (now (s .entry))) (member (now (re .entry))) (now (cur .entry)) j r ⌝ }
 {
     if has(re, r) {

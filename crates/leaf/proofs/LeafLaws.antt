@@ -78,7 +78,7 @@ module _ (a rows vis : List ℕ) (r q rule plan : ℕ) where
             let d : 2 * length (bound a rows vis r q) ≡ n = omega (arith, many, rising) in
             rw (e, half, d) (ap (λ (l : List ℕ). 1 ∷ (rule ∷ (plan ∷ (length (bound a rows vis r q) ∷ (pairs (bound a rows vis r q) ++ l))))) (drop-drop n 4 (x ∷ (y ∷ (z ∷ (u ∷ o))))))
 
--- ---- the loops over the cells and over the variables
+-- the loops over the cells and over the variables
 
 module _ (a rows vis : List ℕ) (r x p : ℕ) where
   cells-next : 0 < p → cell-pairs a rows vis r x p ≡ cell-pair a rows vis r x (p - 1) ++ cell-pairs a rows vis r x (p - 1)
@@ -119,7 +119,7 @@ module _ (a rows vis : List ℕ) (r q x : ℕ) where
   pub variable-end : (bs : List (ℕ × ℕ)) (to : ℕ) (o₀ o : List ℕ) → variable-count ≤ x → Sofar bs (later x) 0 to o₀ o → Paired bs 0 to o₀ o
   variable-end bs to o₀ o l s = sofar-end bs 0 to o₀ o (subst (λ (cs : List (ℕ × ℕ)). Sofar bs cs 0 to o₀ o) (later-end l) s)
 
--- ---- variables that no cell binds
+-- variables that no cell binds
 
 pub used-more : (a rows : List ℕ) (r p u u′ s : ℕ) → Used a rows r p u → s ≡ start-of rows r → ((x : ℕ) → bit u′ x ≡ max (bit u x) (bit (getD a (s + 3 * p + 1) 0) x)) → Used a rows r (p + 1) u′
 used-more a rows r p u u′ s h e j x q z l = go (eqb q p) refl

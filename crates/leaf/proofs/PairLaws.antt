@@ -18,7 +18,7 @@ use Rattle.path.specs.State.{bound, cell-of, start-of, visit-of}
 use Rattle.path.specs.Variables.{variables, variables-from}
 use Rattle.path.specs.Wrote.{Wrote}
 
--- ---- the pairs of each variable, instead of those of each cell
+-- the pairs of each variable, instead of those of each cell
 
 variables-are : (m : ℕ) → variables m ≡ variables-from m 0 variable-count
 unfolding variables
@@ -87,7 +87,7 @@ module _ (a rows vis : List ℕ) (r : ℕ) where
   bound-rising zero = sym (none-from 0 variable-count)
   bound-rising (suc q) = ap₂ (λ (ws : List ℕ) (bs : List (ℕ × ℕ)). inserts (visit-of vis r q) ws bs) (variables-are (getD a (cell-of rows r q + 1) 0)) (bound-rising q) ∙ more-from q 0 variable-count
 
--- ---- pairs written
+-- pairs written
 
 pairs-append : (bs cs : List (ℕ × ℕ)) → pairs (bs ++ cs) ≡ pairs bs ++ pairs cs
 pairs-append [] cs = refl

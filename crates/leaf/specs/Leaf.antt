@@ -1,4 +1,4 @@
--- The pairs of a leaf, variables rising.
+-- A leaf, and its pairs, variables rising.
 use mathlib.Core.Path.{_≡_}
 use mathlib.Core.List.{List, [], _∷_, _++_}
 use mathlib.Core.Bool.{cond}
@@ -7,8 +7,9 @@ use lib.Dec.{eqb}
 use lib.ListN.{length, getD, take, drop}
 use Rattle.signature.specs.Set.{bit}
 use Rattle.pattern.specs.Limits.{pattern-limit, variable-count}
+use Rattle.tree.specs.Tree.{Tree, hit}
 use Rattle.tree.specs.Words.{pairs}
-use Rattle.path.specs.State.{row-stride, cell-of, visit-of}
+use Rattle.path.specs.State.{row-stride, cell-of, visit-of, rule-of, plan-of, bound}
 
 module _ (a rows vis : List ℕ) (r : ℕ) where
   -- what cell p of row r binds of variable x
@@ -51,3 +52,7 @@ pub record Leaving (a rows : List ℕ) (r : ℕ) (cur vis : List ℕ) : Type 0 w
   pub visits : pattern-limit * r + pattern-limit ≤ length vis
   pub small : getD cur r 0 ≤ pattern-limit
   pub cells : cell-of rows r (getD cur r 0) ≤ length a
+
+-- the leaf of row r whose cursor is at its cell q
+abbrev pub leaf-of : List ℕ → List ℕ → List ℕ → ℕ → ℕ → Tree
+leaf-of a rows vis r q = hit (rule-of rows r) (plan-of rows r) (bound a rows vis r q)

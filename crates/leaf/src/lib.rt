@@ -11,10 +11,8 @@ ghost use mathlib.Core.Path.{_≡_};
 ghost use Prim.Native.Nat.{ℕ, _+_, _*_, _≤_, _<_};
 ghost use lib.ListN.{length, getD};
 ghost use Rattle.signature.specs.Set.{set-limit};
-ghost use Rattle.tree.specs.Tree.{hit};
-ghost use Rattle.leaf.specs.Leaf.{cell-pair, cell-pairs, all-pairs, Pairing, Paired, Used};
-ghost use Rattle.path.specs.State.{rule-of, plan-of, bound as bound-by, row-stride, cell-of};
-ghost use Rattle.leaf.specs.Leaf.{Leaving};
+ghost use Rattle.path.specs.State.{rule-of, plan-of, row-stride, cell-of};
+ghost use Rattle.leaf.specs.Leaf.{Leaving, Pairing, Paired, Used, all-pairs, cell-pair, cell-pairs, leaf-of};
 ghost use Rattle.path.specs.Wrote.{Wrote, word-limit};
 
 const VARIABLE_COUNT: u16 = VARIABLES as u16;
@@ -146,7 +144,7 @@ fn pairs(a: &[u64], rows: &[u16], vis: &[u16], r: usize, q: usize, out: &mut [u1
 // The leaf of row r: how long it is, or one more than there is room.
 pub fn leaf(a: &[u64], rows: &[u16], r: usize, cur: &[u8], vis: &[u16], out: &mut [u16]) -> usize
     requires { ⌜ Leaving (now a) (now rows) r (now cur) (now vis) × (length (now out) ≤ word-limit) ⌝ }
-    ensures { λ x. ⌜ Wrote (hit (rule-of (now (rows .entry)) r) (plan-of (now (rows .entry)) r) (bound-by (now (a .entry)) (now (rows .entry)) (now (vis .entry)) r (getD (now (cur .entry)) r 0))) 0 x (now (out .entry)) (now (out .exit)) ⌝ }
+    ensures { λ x. ⌜ Wrote (leaf-of (now (a .entry)) (now (rows .entry)) (now (vis .entry)) r (getD (now (cur .entry)) r 0)) 0 x (now (out .entry)) (now (out .exit)) ⌝ }
 {
     if out.len() < HIT_WORDS {
         return out.len() + 1;

@@ -104,7 +104,7 @@ own-on {t} {a} {start} {len} g i left x w l e =
     let z : start + 3 * (i + 1) ≡ start + 3 * i + 3 = omega arith in
     rw (z, e) (own-next (g .known .sig) t a (start + len) (start + 3 * i) left w l)
 
--- ---- the counts so far
+-- the counts so far
 
 pub record Counting (t a rows : List ℕ) (r start i left : ℕ) : Type 0 where
   pub zero : i ≡ 0 → left ≡ 1

@@ -19,7 +19,7 @@ abbrev pub options : {A : Type 0} → (ℕ → Option A) → ℕ → ℕ → Lis
 options f i zero = []
 options f i (suc n) = f i ∷ options f (suc i) n
 
--- ---- the table of the rows: where a row's words begin and end, its rule, its plan, and how many columns it has of its own at each cell
+-- the table of the rows: where a row's words begin and end, its rule, its plan, and how many columns it has of its own at each cell
 
 -- the words of a row before those numbers
 abbrev pub row-head : ℕ
@@ -53,7 +53,7 @@ pub record Indexed (t a rows : List ℕ) (n : ℕ) : Type 0 where
   pub counts : (r q : ℕ) → r < n → cell-of rows r q + 3 ≤ stop-of rows r → own-of rows r (q + 1) ≡ own-of rows r q - 1 + opensOf t (getD a (cell-of rows r q) 0)
   pub within : (r : ℕ) → r < n → (stop-of rows r ≤ length a) × (stop-of rows r ≤ start-of rows r + 3 * pattern-limit)
 
--- ---- visits: a word for each cell of each row
+-- visits: a word for each cell of each row
 
 abbrev pub visit-of : List ℕ → ℕ → ℕ → ℕ
 visit-of vis r q = getD vis (pattern-limit * r + q) 0
@@ -63,7 +63,7 @@ abbrev pub bound : List ℕ → List ℕ → List ℕ → ℕ → ℕ → List (
 bound a rows vis r zero = []
 bound a rows vis r (suc q) = inserts (visit-of vis r q) (variables (getD a (cell-of rows r q + 1) 0)) (bound a rows vis r q)
 
--- ---- sets of rows, by the test of a row
+-- sets of rows, by the test of a row
 
 abbrev pub one-if : Bool → ℕ
 one-if true = 1

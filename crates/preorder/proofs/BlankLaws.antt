@@ -24,7 +24,7 @@ use Rattle.path.proofs.AliveLaws.{member-is}
 use Rattle.preorder.proofs.CallLaws.{cols}
 use Rattle.preorder.proofs.NodeLaws.{skip-given, tree-skip}
 
--- ---- words
+-- words
 
 abbrev pub skipped : ℕ → Tree → Tree
 skipped zero T = T
@@ -62,7 +62,7 @@ skip-long i o l = simp (length-append, length-replicate, length-drop) (omega ari
 pub skipped-set : (i : ℕ) (o o1 : List ℕ) → i < length o → o1 ≡ replicate i 3 ++ drop i o → set o1 i 3 ≡ replicate (i + 1) 3 ++ drop (i + 1) o
 skipped-set i o o1 l e = ap (λ (z : List ℕ). set z i 3) e ∙ skip-more i o l
 
--- ---- the tree
+-- the tree
 
 no-row : (r : ℕ) → member [] r ≡ false
 no-row r = sym (member-is [] r) ∙ (rw (bit-zero (r % 64)))
@@ -137,7 +137,7 @@ behind (suc b) {len = len} g nc v′ base′ len2 e f h l w =
     let r = behind b g1 nc v′ base′ len2 (omega arith) (omega arith) (omega arith) (omega arith) (next-blank g b w) in
     record { given = r .given; tree = λ dft fuel. ap (tree-of g dft) (suc-add b fuel) ∙ next-tree g b w (len - 1) (omega arith) dft (b + fuel) ∙ ap skip (r .tree dft fuel) }
 
--- ---- what the node has written
+-- what the node has written
 
 -- a part of such columns
 fewer : {rows : List ℕ} {n : ℕ} {s cur : List ℕ} {ncols b : ℕ} (c : ℕ) → Blank rows n s cur ncols b → c ≤ b → Blank rows n s cur ncols c

@@ -70,7 +70,7 @@ module _ {t a rows : List ℕ} {n : ℕ} {s cur vis : List ℕ} {ncols vn base l
     tags = λ r l i. real-cell g re k ks e h r l i .2;
   }
 
--- ---- the results
+-- the results
 
 part-one : (o : List ℕ) → 0 < length o → take (length (set o 0 3) - 1) (drop 1 (set o 0 3)) ≡ drop 1 o
 part-one [] h = absurd (omega arith)

@@ -78,7 +78,7 @@ module _ {t a rows : List ℕ} {n : ℕ} {s re cur vis : List ℕ} {ncols vn bas
       let v = child-wrote x curj visj (take (length o - at) (drop at o)) ys j at u 0 len wc ew e h m kv lv l1 (omega arith) (omega arith) call in
       omega (arith, v .much, some-word (child-of b 0 len (first-of t k + j)))
 
--- ---- the node's own words, with the kind's heads as the code has read them
+-- the node's own words, with the kind's heads as the code has read them
 
 pub node-start : (b f m fr mr : ℕ) (child : ℕ → Tree) (e : List ℕ) → fr ≡ f → mr ≡ m → 3 + mr ≤ length e → Part b f m child (set (set (set e 0 2) 1 fr) 2 mr) (set (set (set e 0 2) 1 fr) 2 mr) (3 + mr) 0
 node-start b f m fr mr child e x y l = rw (x, y) (part-none b f m child e (omega arith))

@@ -126,7 +126,7 @@ module _ (re : ℕ → Bool) (n v : ℕ) (cur₀ vis₀ cur vis cur′ vis′ : 
 pub high-all : {re : ℕ → Bool} {n v : ℕ} {cur₀ vis₀ cur vis : List ℕ} {r : ℕ} → High re n v cur₀ vis₀ cur vis r → n ≤ r → r ≤ n → Raised n re v cur₀ vis₀ cur vis
 high-all w l m = record { cursor = λ q h. w .done q (omega arith); beyond = λ q h. w .todo q (omega arith); visit = λ q h e. w .visit q (omega arith) e; others = w .others }
 
--- ---- what one row's step says, by whether it is in the set
+-- what one row's step says, by whether it is in the set
 
 pub dropped-in : (b : Bool) (r : ℕ) (cur : List ℕ) → b ≡ true → Dropped b r cur (set cur r (getD cur r 0 - 1))
 dropped-in b r cur e = rw e
@@ -152,7 +152,7 @@ real-in b m o n e h = rw (e, h)
 pub real-out : (b z : Bool) → b ≡ false → false ≡ (b && z)
 real-out b z e = rw e
 
--- ---- the columns before the first cell
+-- the columns before the first cell
 
 -- m is the most columns of the rows before r
 pub record Top (rows s cur : List ℕ) (n ncols m r : ℕ) : Type 0 where

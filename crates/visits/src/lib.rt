@@ -12,10 +12,10 @@ ghost use Prim.Native.Nat.{ℕ, _+_, _*_, _≤_, _<_, max};
 ghost use lib.ListN.{length, getD};
 ghost use Rattle.pattern.specs.Limits.{pattern-limit};
 ghost use Rattle.tree.specs.Limits.{row-limit};
-ghost use Rattle.path.specs.Alive.{member, set-words};
+ghost use Rattle.path.specs.Alive.{member};
 ghost use Rattle.path.specs.State.{real-of, Raised, Lowered, row-stride, own-if, own-of, Lifted, Dropped};
+ghost use Rattle.visits.specs.Asked.{RowThere, RowsThere, RowsWithin, RowRises, RowsRise};
 ghost use Rattle.visits.specs.Blank.{Blank};
-ghost use Rattle.path.specs.Wrote.{word-limit};
 
 fn own_of(rows: &[u16], r: usize, q: usize) -> u16
     requires { ⌜ (row-stride * r + row-stride ≤ length (now rows)) × (q ≤ pattern-limit) ⌝ }
@@ -26,7 +26,7 @@ fn own_of(rows: &[u16], r: usize, q: usize) -> u16
 
 // How many columns are row r's own, 0 where it is not alive.
 fn own(rows: &[u16], s: &[u64; SET_WORDS], cur: &[u8], r: usize) -> usize
-    requires { ⌜ (r < row-limit) × (r < length (now cur)) × (row-stride * r + row-stride ≤ length (now rows)) × (member (now s) r ≡ true → getD (now cur) r 0 ≤ pattern-limit) ⌝ }
+    requires { ⌜ RowThere (now rows) (now s) (now cur) r ⌝ }
     ensures { λ m. ⌜ m ≡ own-if (now (rows .entry)) (member (now (s .entry)) r) r (getD (now (cur .entry)) r 0) ⌝ }
 {
     if has(s, r) {
@@ -37,7 +37,7 @@ fn own(rows: &[u16], s: &[u64; SET_WORDS], cur: &[u8], r: usize) -> usize
 }
 
 fn is_real(rows: &[u16], s: &[u64; SET_WORDS], cur: &[u8], ncols: usize, r: usize) -> bool
-    requires { ⌜ (r < row-limit) × (r < length (now cur)) × (row-stride * r + row-stride ≤ length (now rows)) × (member (now s) r ≡ true → getD (now cur) r 0 ≤ pattern-limit) ⌝ }
+    requires { ⌜ RowThere (now rows) (now s) (now cur) r ⌝ }
     ensures { λ b. ⌜ b ≡ real-of (now (rows .entry)) (member (now (s .entry))) (now (cur .entry)) ncols r ⌝ }
 {
     if has(s, r) {
@@ -49,7 +49,7 @@ fn is_real(rows: &[u16], s: &[u64; SET_WORDS], cur: &[u8], ncols: usize, r: usiz
 
 // In re from now on: the rows alive whose own cell stands in the first of ncols columns.
 pub fn real(rows: &[u16], n: usize, s: &[u64; SET_WORDS], cur: &[u8], ncols: usize, re: &mut [u64])
-    requires { ⌜ (n ≤ row-limit) × (n ≤ length (now cur)) × (row-stride * n ≤ length (now rows)) × ((r : ℕ) → r < n → member (now s) r ≡ true → getD (now cur) r 0 ≤ pattern-limit) × (length (now re) ≡ set-words) ⌝ }
+    requires { ⌜ RowsThere (now rows) n (now s) (now cur) (now re) ⌝ }
     ensures { λ _. ⌜ ((r : ℕ) → r < n → member (now (re .exit)) r ≡ real-of (now (rows .entry)) (member (now (s .entry))) (now (cur .entry)) ncols r) ⌝ }
 {
     let mut r = 0;
@@ -71,7 +71,7 @@ fn larger(a: usize, b: usize) -> usize
 
 // How many columns come before the first in which some row alive has a cell; none where no row is alive.
 pub fn blank(rows: &[u16], n: usize, s: &[u64; SET_WORDS], cur: &[u8], ncols: usize) -> usize
-    requires { ⌜ (n ≤ row-limit) × (n ≤ length (now cur)) × (row-stride * n ≤ length (now rows)) × ((r : ℕ) → r < n → member (now s) r ≡ true → (getD (now cur) r 0 ≤ pattern-limit) × (own-of (now rows) r (getD (now cur) r 0) ≤ ncols)) ⌝ }
+    requires { ⌜ RowsWithin (now rows) n (now s) (now cur) ncols ⌝ }
     ensures { λ b. ⌜ Blank (now (rows .entry)) n (now (s .entry)) (now (cur .entry)) ncols b ⌝ }
 {
     let mut r = first_alive(s, n);
@@ -89,7 +89,7 @@ pub fn blank(rows: &[u16], n: usize, s: &[u64; SET_WORDS], cur: &[u8], ncols: us
 
 // Row r past its cell, at visit v, where it is in the set.
 fn lift(cur: &mut [u8], vis: &mut [u16], re: &[u64; SET_WORDS], v: usize, r: usize)
-    requires { ⌜ (r < row-limit) × (r < length (now cur)) × (pattern-limit * r + pattern-limit ≤ length (now vis)) × (v < word-limit) × (member (now re) r ≡ true → getD (now cur) r 0 < pattern-limit) ⌝ }
+    requires { ⌜ RowRises (now cur) (now vis) (now re) v r ⌝ }
     ensures { λ _. ⌜ Lifted (member (now (re .entry)) r) v r (now (cur .entry)) (now (vis .entry)) (now (cur .exit)) (now (vis .exit)) ⌝ }
 {
     if has(re, r) {
@@ -101,7 +101,7 @@ fn lift(cur: &mut [u8], vis: &mut [u16], re: &[u64; SET_WORDS], v: usize, r: usi
 
 // The rows of the set past their cells, at visit v.
 pub fn raise(cur: &mut [u8], vis: &mut [u16], n: usize, re: &[u64; SET_WORDS], v: usize)
-    requires { ⌜ (n ≤ row-limit) × (n ≤ length (now cur)) × (pattern-limit * n ≤ length (now vis)) × (v < word-limit) × ((r : ℕ) → r < n → getD (now cur) r 0 ≤ pattern-limit) × ((r : ℕ) → r < n → member (now re) r ≡ true → getD (now cur) r 0 < pattern-limit) ⌝ }
+    requires { ⌜ RowsRise (now cur) (now vis) n (now re) v ⌝ }
     ensures { λ _. ⌜ Raised n (member (now (re .entry))) v (now (cur .entry)) (now (vis .entry)) (now (cur .exit)) (now (vis .exit)) ⌝ }
 {
     let mut r = 0;

@@ -2,7 +2,7 @@
 use mathlib.Core.Path.{_≡_}
 use mathlib.Core.List.{List, [], _∷_, _++_, map}
 use mathlib.Core.Bool.{Bool, _&&_, cond}
-use Prim.Native.Nat.{ℕ, _≤_}
+use Prim.Native.Nat.{ℕ, _≤_, _<_}
 use lib.Dec.{leb}
 use lib.ListN.{length, drop}
 use Rattle.signature.specs.Decoded.{Known}
@@ -38,3 +38,7 @@ answer T space = cond (fits T space) (Done (words T)) TooLarge
 -- the tree "from index 0 of the lent space, whose other words stay untouched"; nothing where it is too large
 abbrev pub space-after : Tree → List ℕ → List ℕ
 space-after T space = cond (fits T space) (layout T 0 ++ drop (words T) space) space
+
+-- what is answered and written, for every default's plan and every bound above the most words of a tree
+abbrev pub TreeWritten : List ℕ → List ℕ → List ℕ → ℕ → List ℕ → Written → List ℕ → Type 0
+TreeWritten t a tab n space w space′ = (g : GivenRows t a tab n) (dft fuel : ℕ) → tree-limit < fuel → (w ≡ answer (tree-of-rows g dft fuel) space) × (space′ ≡ space-after (tree-of-rows g dft fuel) space)

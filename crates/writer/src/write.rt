@@ -16,7 +16,7 @@ ghost use Rattle.pattern.specs.Limits.{pattern-limit};
 ghost use Rattle.tree.specs.Limits.{row-limit, tree-limit};
 ghost use Rattle.path.specs.Alive.{member};
 ghost use Rattle.path.specs.State.{row-stride};
-ghost use Rattle.writer.specs.Write.{GivenRows, tree-of-rows, answer, space-after};
+ghost use Rattle.writer.specs.Write.{GivenRows, TreeWritten};
 
 pub enum Written {
     Done(usize),
@@ -83,7 +83,7 @@ pub fn write(
     out: &mut [u16],
 ) -> Written
     requires { ⌜ GivenRows (now t) (now a) (now rows) n × (row-stride * n ≤ length (now rows)) × (n ≤ length (now cur)) × (pattern-limit * n ≤ length (now vis)) × (tree-limit ≤ length (now tree)) ⌝ }
-    ensures { λ w. ⌜ ((g : GivenRows (now (t .entry)) (now (a .entry)) (now (rows .entry)) n) (dft fuel : ℕ) → tree-limit < fuel → (w ≡ answer (tree-of-rows g dft fuel) (now (out .entry))) × (now (out .exit) ≡ space-after (tree-of-rows g dft fuel) (now (out .entry)))) ⌝ }
+    ensures { λ w. ⌜ TreeWritten (now (t .entry)) (now (a .entry)) (now (rows .entry)) n (now (out .entry)) w (now (out .exit)) ⌝ }
 {
     clear(cur, n);
     let s = all_rows(n);

@@ -18,4 +18,5 @@ compilation-spec =
     (λ c. sym (length-take-le (c .before .before .size .result) (c .before .before .before .before .before .before .before .before .before .args .space .now) (omega arith)))
     (λ c κs. search needs)
     (λ c κs. search needs)
+    (λ c. search needs)
     (λ c. search needs))

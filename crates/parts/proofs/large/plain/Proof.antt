@@ -4,8 +4,8 @@ use Prim.Native.Nat.{_≤_, _-_}
 use native.Mathlib.Omega.{arith}
 use lib.ListN.{length, length-set}
 use borrow.Author.Needs.{needs}
-use Rattle.parts.proofs.plain.Statement.{statement}
-use Rattle.parts.proofs.plain.Tie as tie
+use Rattle.parts.proofs.large.plain.Statement.{statement}
+use Rattle.parts.proofs.large.plain.Tie as tie
 
 abbrev Inv-loop : tie.InvT-loop
 Inv-loop out₀ count each c₀ out c = (c ≤ count) × (length out ≡ length out₀)

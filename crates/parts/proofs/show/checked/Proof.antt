@@ -3,8 +3,8 @@ use mathlib.Core.Path.{sym, _∙_}
 use borrow.Author.Needs.{needs}
 use borrow.Author.Tests.{not-false}
 use Rattle.booking.proofs.PartLaws.{decoded-of}
-use Rattle.parts.proofs.checked.Statement.{statement}
-use Rattle.parts.proofs.checked.Tie as tie
+use Rattle.parts.proofs.show.checked.Statement.{statement}
+use Rattle.parts.proofs.show.checked.Tie as tie
 
 pub checked-spec : {M : Type 1} → statement M
 checked-spec =

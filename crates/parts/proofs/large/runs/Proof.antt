@@ -4,8 +4,8 @@ use Prim.Native.Nat.{_≤_, _-_}
 use native.Mathlib.Omega.{arith}
 use lib.ListN.{length, length-set}
 use borrow.Author.Needs.{needs}
-use Rattle.parts.proofs.runs.Statement.{statement}
-use Rattle.parts.proofs.runs.Tie as tie
+use Rattle.parts.proofs.large.runs.Statement.{statement}
+use Rattle.parts.proofs.large.runs.Tie as tie
 
 abbrev Inv-loop : tie.InvT-loop
 Inv-loop out₀ i₀ out i = (i ≤ length out₀) × (length out ≡ length out₀)

@@ -4,8 +4,8 @@ use Prim.Native.Nat.{_≤_, _-_}
 use native.Mathlib.Omega.{arith}
 use lib.ListN.{length, length-set}
 use borrow.Author.Needs.{needs}
-use Rattle.parts.proofs.fill.Statement.{statement}
-use Rattle.parts.proofs.fill.Tie as tie
+use Rattle.parts.proofs.large.fill.Statement.{statement}
+use Rattle.parts.proofs.large.fill.Tie as tie
 
 abbrev Inv-loop : tie.InvT-loop
 Inv-loop out₀ from to w i₀ out i = (i ≤ to) × (length out ≡ length out₀)

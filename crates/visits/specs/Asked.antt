@@ -1,0 +1,30 @@
+-- What is asked of the rows whose cursors are read or moved.
+use mathlib.Core.Path.{_≡_}
+use mathlib.Core.List.{List}
+use mathlib.Core.Bool.{true}
+use Prim.Native.Nat.{ℕ, _+_, _*_, _≤_, _<_}
+use lib.ListN.{length, getD}
+use Rattle.pattern.specs.Limits.{pattern-limit}
+use Rattle.tree.specs.Limits.{row-limit}
+use Rattle.path.specs.Alive.{member, set-words}
+use Rattle.path.specs.State.{row-stride, own-of}
+use Rattle.path.specs.Wrote.{word-limit}
+
+-- row r stands in the table of rows, and where it is in the set its cursor is at one of its cells or behind the last
+abbrev pub RowThere : List ℕ → List ℕ → List ℕ → ℕ → Type 0
+RowThere rows s cur r = (r < row-limit) × (r < length cur) × (row-stride * r + row-stride ≤ length rows) × (member s r ≡ true → getD cur r 0 ≤ pattern-limit)
+
+-- each of n rows, and room for a set of them
+abbrev pub RowsThere : List ℕ → ℕ → List ℕ → List ℕ → List ℕ → Type 0
+RowsThere rows n s cur re = (n ≤ row-limit) × (n ≤ length cur) × (row-stride * n ≤ length rows) × ((r : ℕ) → r < n → member s r ≡ true → getD cur r 0 ≤ pattern-limit) × (length re ≡ set-words)
+
+-- the same where each row of the set has at most ncols columns of its own
+abbrev pub RowsWithin : List ℕ → ℕ → List ℕ → List ℕ → ℕ → Type 0
+RowsWithin rows n s cur ncols = (n ≤ row-limit) × (n ≤ length cur) × (row-stride * n ≤ length rows) × ((r : ℕ) → r < n → member s r ≡ true → (getD cur r 0 ≤ pattern-limit) × (own-of rows r (getD cur r 0) ≤ ncols))
+
+-- row r can be raised at visit v where it is in the set
+abbrev pub RowRises : List ℕ → List ℕ → List ℕ → ℕ → ℕ → Type 0
+RowRises cur vis re v r = (r < row-limit) × (r < length cur) × (pattern-limit * r + pattern-limit ≤ length vis) × (v < word-limit) × (member re r ≡ true → getD cur r 0 < pattern-limit)
+
+abbrev pub RowsRise : List ℕ → List ℕ → ℕ → List ℕ → ℕ → Type 0
+RowsRise cur vis n re v = (n ≤ row-limit) × (n ≤ length cur) × (pattern-limit * n ≤ length vis) × (v < word-limit) × ((r : ℕ) → r < n → getD cur r 0 ≤ pattern-limit) × ((r : ℕ) → r < n → member re r ≡ true → getD cur r 0 < pattern-limit)
