@@ -1,4 +1,5 @@
 // The call that enters a rule.
+use booking::walk::BOOKING_LIMIT;
 use builder::build::ROW_ROOM;
 use entry::sound::Entry;
 use entry::sound::enter_sound;
@@ -14,7 +15,7 @@ ghost use Rattle.table.specs.Calls.{Enter, long-table, long-witness};
 ghost use Rattle.entry.specs.Entry.{entry-answer, Numbered};
 
 // The words of a witness buffer.
-pub const WITNESS: usize = 4096;
+pub const WITNESS: usize = BOOKING_LIMIT;
 
 // Whether refusal 2 does not apply.
 fn long_enough(table: &[u16], witness: &[u16]) -> bool

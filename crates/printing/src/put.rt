@@ -1,9 +1,8 @@
 // Bytes and numbers put into a lent space from an index on; each function gives the index behind them.
+use numbers::number::FIRST_DIGIT;
 ghost use Prim.Native.Nat.{_+_, _≤_};
 ghost use lib.ListN.{length};
 ghost use Rattle.printing.specs.Put.{Put, in-decimal};
-
-pub const FIRST_DIGIT: u8 = 48;
 
 pub fn put(out: &mut [u8], at: usize, s: &[u8]) -> usize
     requires { ⌜ at + length (now s) ≤ length (now out) ⌝ }
