@@ -1,6 +1,7 @@
 // Whether a pattern is linear-plus (refusal 8). A set of variables is a u64 with bit x for variable x.
 use pattern::token::Word;
 use pattern::token::classify;
+use pattern::token::own_words;
 use pattern::token::parts;
 use pattern::token::side_behind;
 ghost use mathlib.Core.Path.{_≡_};
@@ -110,7 +111,7 @@ fn linear_at(t: &[u16], p: &[u16], plus: bool) -> Part
     let side = side_behind(w, plus);
     let joint = joint_of(w, plus);
     let mut set = own_set(w, plus);
-    let mut at = 1;
+    let mut at = own_words(w);
     let mut i = 0;
     while i < count {
         let Part::Is(m, used) = linear_at(t, &p[at..], side) else {

@@ -2,6 +2,8 @@
 use crate::span::span;
 use crate::takes::all_fit;
 use crate::takes::fits;
+use pattern::limits::UNBOUND;
+use pattern::limits::VARIABLES;
 use pattern::token::Word;
 use pattern::token::classify;
 use signature::decoded::arity_of;
@@ -17,10 +19,6 @@ ghost use Rattle.pattern.specs.Places.{bind-all, unbound};
 ghost use Rattle.matching.specs.Asked.{Asked};
 ghost use Rattle.matching.specs.Bound.{bound, join};
 ghost use Rattle.matching.specs.Given.{Given, GivenTwo, GivenAll};
-
-pub const VARIABLES: usize = 16;
-
-pub const UNBOUND: u16 = 65535;
 
 // The 16 places of the rule with the pattern p, which takes the booking b.
 pub fn places(t: &[u16], p: &[u16], b: &[u16]) -> [u16; VARIABLES]

@@ -17,6 +17,10 @@ form-of Not = is-not
 form-of (Var x) = is-var x
 form-of Other = is-other
 
+-- how many words of its own a pattern has before its parts
+abbrev pub own-words : Form → ℕ
+own-words f = 1
+
 -- t is the table of a signature
 abbrev pub part-count : List ℕ → Form → ℕ
 part-count t (is-head c) = arity-of t c

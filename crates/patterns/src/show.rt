@@ -1,7 +1,7 @@
 // A line for a pattern.
 use libc::STDOUT_FILENO;
-use matching::places::UNBOUND;
-use matching::places::VARIABLES;
+use pattern::limits::UNBOUND;
+use pattern::limits::VARIABLES;
 use matching::places::places;
 use matching::takes::takes;
 use weighing::weight::Weighed;

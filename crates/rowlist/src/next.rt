@@ -3,6 +3,7 @@ use crate::grow::append_all;
 use crate::grow::append_each;
 use crate::grow::copy;
 use crate::grow::count;
+use pattern::limits::PART_WEIGHT;
 ghost use mathlib.Core.List.{[], _∷_, _++_};
 ghost use mathlib.Core.Bool.{true, false};
 ghost use Prim.Native.Nat.{_≤_};
@@ -12,8 +13,6 @@ ghost use Rattle.rowlist.specs.Next.{GivenNext, GivenNextMinus, GivenNex
 ghost use Rattle.rowlist.specs.Grow.{words-list};
 ghost use Rattle.rowlist.specs.Product.{Product};
 
-pub const PART_WEIGHT: usize = 64;
-
 // Each row with each row of the argument behind it; none where there would be more than a part may weigh, for then an argument that is still to come has none.
 fn next_plus(lists: &[u64], at: usize, out: &mut [u64]) -> usize
     requires { ⌜ GivenNext (now lists) at (length (now out)) ⌝ }
@@ -21,7 +20,7 @@ fn next_plus(lists: &[u64], at: usize, out: &mut [u64]) -> usize
 {
     let m = count(lists);
     let n = count(&lists[at..]);
-    if m * n > PART_WEIGHT {
+    if m * n > PART_WEIGHT as usize {
         out[0] = 0;
         return 0;
     }
