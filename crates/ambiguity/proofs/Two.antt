@@ -10,7 +10,7 @@ use lib.Seq.{drop-at, length-take-le}
 use Rattle.signature.specs.Decoded.{count-of}
 use Rattle.signature.specs.Limits.{kind-limit}
 use Rattle.signature.specs.Lists.{is-empty, somes}
-use Rattle.signature.specs.Set.{bit}
+use Rattle.sets.specs.Set.{bit}
 use Rattle.signature.specs.Signature.{Signature}
 use Rattle.signature.proofs.KnownFacts.{words-of}
 use Rattle.pattern.specs.Pattern.{Pattern, pattern-code}

@@ -10,7 +10,7 @@ use lib.ListN.{length, take, drop, length-append}
 use lib.Seq.{drop-at, length-take-le}
 use Rattle.signature.specs.Decoded.{arity-of, argument-of, count-of}
 use Rattle.signature.specs.Limits.{kind-limit}
-use Rattle.signature.specs.Set.{bit}
+use Rattle.sets.specs.Set.{bit}
 use Rattle.signature.specs.Signature.{Signature, arguments}
 use Rattle.signature.proofs.KnownFacts.{argument-is, argument-small}
 use Rattle.signature.proofs.Tests.{true≢false}
@@ -27,7 +27,7 @@ use Rattle.cell.specs.RowList.{from}
 use Rattle.builder.proofs.ArgSteps.{NextArg, next-arg, drop-next, begun-small, args-count}
 use Rattle.builder.proofs.Behind.{list-words}
 use Rattle.rowlist.proofs.Kinded.{few-heads, full-set, open-kind}
-use Rattle.cell.proofs.Masks.{mask-nil}
+use Rattle.sets.proofs.ListSets.{set-nil}
 use Rattle.builder.proofs.NextLists.{words-filled, words-short, words-count}
 use Rattle.builder.proofs.Parts.{in-front, code-some}
 use Rattle.builder.proofs.Rooms.{rows-few, rows-places}
@@ -62,7 +62,7 @@ module _ {t : List ℕ} {c j : ℕ} {w : List ℕ} {b : Bool} {used : ℕ} {o : 
       opened = let q = open-kind (g .known) arg (view .there) in record { kind = q .kind; some = q .some; within = q .within; tag-is = refl; full-is = full-set (g .known) arg (view .there) full f }
 
       pub wild-is : _≡_ {A = List ℕ} ((256 + arg) ∷ (0 ∷ (full ∷ []))) (code (kinds-of (g .known .sig)) (open-row (g .known .sig) arg) arg)
-      wild-is = ap₂ (λ (x y : ℕ). (256 + arg) ∷ (x ∷ (y ∷ []))) (sym (mask-nil 0)) (opened .full-is)
+      wild-is = ap₂ (λ (x y : ℕ). (256 + arg) ∷ (x ∷ (y ∷ []))) (sym (set-nil 0)) (opened .full-is)
 
       pub arg-given : (k k' : ℕ) → k ≡ m - (used + 1) → k' ≡ length o → GivenPat t (256 + arg) full w b k k'
       arg-given k k' e e' = record {

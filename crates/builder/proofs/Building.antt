@@ -18,11 +18,11 @@ use Rattle.pattern.specs.WellFormed.{WellFormed, well-head, well-and, well-or, 
 use Rattle.rowlist.specs.Sides.{rows-of, Open}
 use Rattle.builder.specs.Build.{vars-of, leaf-entries, light-of, multiplies}
 use Rattle.cell.specs.Cell.{Kinds}
-use Rattle.cell.specs.Mask.{mask}
+use Rattle.sets.specs.Set.{set-of}
 use Rattle.rowlist.specs.Product.{Product}
 use Rattle.row.specs.Row.{combine, each, rows-plus, rows-minus}
 use Rattle.cell.specs.RowList.{entries}
-use Rattle.cell.proofs.Masks.{mask-one, mask-nil}
+use Rattle.sets.proofs.ListSets.{set-one, set-nil}
 use Rattle.row.proofs.RowCount.{plus-count, minus-count}
 
 -- ---- the leaves, as they are written
@@ -133,11 +133,11 @@ module _ (K : Kinds) (sig : Signature) (k : ℕ) where
 
 module _ (K : Kinds) (sig : Signature) (k : ℕ) where
   module _ (tag full : ℕ) (o : Open K sig k tag full) where
-    one-row : (v : ℕ) (xs : List ℕ) → v ≡ mask 0 xs → _≡_ {A = List ℕ} (3 ∷ (tag ∷ (v ∷ (full ∷ [])))) (3 ∷ ((256 + k) ∷ (mask 0 xs ∷ (mask (K .first k) (heads sig k) ∷ []))))
+    one-row : (v : ℕ) (xs : List ℕ) → v ≡ set-of 0 xs → _≡_ {A = List ℕ} (3 ∷ (tag ∷ (v ∷ (full ∷ [])))) (3 ∷ ((256 + k) ∷ (set-of 0 xs ∷ (set-of (K .first k) (heads sig k) ∷ []))))
     one-row v xs e = rw (e, o .tag-is, o .full-is)
 
-var-row : (x : ℕ) → x < 16 → vars-of (261 + x) ≡ mask 0 (x ∷ [])
-var-row x h = let e : 261 + x - 261 ≡ x - 0 = omega arith in rw (le-ltb (261 + x) 261 (omega arith), e) (sym (mask-one 0 x))
+var-row : (x : ℕ) → x < 16 → vars-of (261 + x) ≡ set-of 0 (x ∷ [])
+var-row x h = let e : 261 + x - 261 ≡ x - 0 = omega arith in rw (le-ltb (261 + x) 261 (omega arith), e) (sym (set-one 0 x))
 
 module _ (K : Kinds) (sig : Signature) (k : ℕ) where
   module _ (tag full : ℕ) (o : Open K sig k tag full) where
@@ -146,10 +146,10 @@ module _ (K : Kinds) (sig : Signature) (k : ℕ) where
     leaf-of (head c ps) b rest (well-head i e h) w l = absurd (omega (arith, l, i))
     leaf-of (and p q) b rest h w l = absurd (omega (arith, l))
     leaf-of (or p q) b rest h w l = absurd (omega (arith, l))
-    leaf-of wild true rest h w l = record { code-is = refl; word = omega arith; rows-is = one-row K sig k tag full o 0 [] (sym (mask-nil 0)) }
+    leaf-of wild true rest h w l = record { code-is = refl; word = omega arith; rows-is = one-row K sig k tag full o 0 [] (sym (set-nil 0)) }
     leaf-of wild false rest h w l = record { code-is = refl; word = omega arith; rows-is = refl }
     leaf-of absurd-pat true rest h w l = record { code-is = refl; word = omega arith; rows-is = refl }
-    leaf-of absurd-pat false rest h w l = record { code-is = refl; word = omega arith; rows-is = one-row K sig k tag full o 0 [] (sym (mask-nil 0)) }
+    leaf-of absurd-pat false rest h w l = record { code-is = refl; word = omega arith; rows-is = one-row K sig k tag full o 0 [] (sym (set-nil 0)) }
     leaf-of (neg p) b rest h w l = absurd (w refl)
     leaf-of (var x) true rest (well-var h) w l = record { code-is = refl; word = omega (arith, h); rows-is = rw (ne-eqb (261 + x) 259 (λ z. omega (arith, z))) (one-row K sig k tag full o (vars-of (261 + x)) (x ∷ []) (var-row x h)) }
     leaf-of (var x) false rest (well-var h) w l = record { code-is = refl; word = omega (arith, h); rows-is = rw (ne-eqb (261 + x) 259 (λ z. omega (arith, z))) }

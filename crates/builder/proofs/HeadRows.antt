@@ -11,7 +11,7 @@ use lib.ListN.{length, length-append, getD}
 use Rattle.signature.specs.Decoded.{first-of, decoded-length}
 use Rattle.signature.specs.Limits.{kind-limit}
 use Rattle.signature.specs.Lists.{memb, keep, is-empty}
-use Rattle.signature.specs.Set.{set-limit, bit}
+use Rattle.sets.specs.Set.{set-limit, bit, set-of, Within}
 use Rattle.signature.specs.Signature.{Signature, heads, arguments, arguments-at}
 use Rattle.signature.proofs.Booleans.{and-left, and-right}
 use Rattle.signature.proofs.Heads.{args-same}
@@ -22,9 +22,8 @@ use Rattle.pattern.specs.Pattern.{Pattern, head, and, or, wild, absurd-pat, neg
 use Rattle.pattern.specs.Weight.{product-plus, sum-minus, light-all-plus, light-all-minus}
 use Rattle.pattern.specs.WellFormed.{WellFormed, AllWellFormed, well-head}
 use Rattle.cell.specs.Coded.{kinds-of, code}
-use Rattle.cell.specs.Mask.{mask, Within}
 use Rattle.cell.specs.RowList.{from, entries}
-use Rattle.cell.proofs.Masks.{bit-ext, bit-mask, mask-nil, mask-one, mask-some, one-if, within-keep}
+use Rattle.sets.proofs.ListSets.{same-bits, bit-set-of, set-nil, set-one, set-some, one-if, within-keep}
 use Rattle.cell.proofs.Walk.{each-append}
 use Rattle.row.specs.Row.{Rows, named, free, other-than, args-plus, args-minus}
 use Rattle.rowlist.specs.Grow.{words-list, appends}
@@ -70,7 +69,7 @@ has-first false v vs = tt
 -- ---- the words of its rows
 module _ (sig : Signature) (k c : ℕ) where
   abbrev pub begin : List ℕ
-  begin = c ∷ (mask 0 [] ∷ (mask (kinds-of sig .first k) (c ∷ []) ∷ []))
+  begin = c ∷ (set-of 0 [] ∷ (set-of (kinds-of sig .first k) (c ∷ []) ∷ []))
 
   named-words : (rss : List Rows) → appends begin (arg-words sig (arguments sig c) rss) ≡ row-words sig k (map (named [] c) rss)
   named-words [] = refl
@@ -79,37 +78,12 @@ module _ (sig : Signature) (k c : ℕ) where
   pub named-list : (rss : List Rows) → words-list (appends begin (arg-words sig (arguments sig c) rss)) ≡ entries (kinds-of sig) k (map (named [] c) rss)
   named-list rss = ap words-list (named-words rss) ∙ list-words (kinds-of sig) k (map (named [] c) rss)
 
--- the set of all heads but one
-not-here : (f c i : ℕ) → f ≤ c → (b : Bool) → cond (eqb i (c - f)) 0 (one-if b) ≡ one-if (b && not (eqb c (f + i)))
-not-here f c i l b = go (eqb c (f + i)) refl
-  where
-    keeps : (b : Bool) → one-if b ≡ one-if (b && true)
-    keeps true = refl
-    keeps false = refl
-
-    drops : (b : Bool) → 0 ≡ one-if (b && false)
-    drops true = refl
-    drops false = refl
-
-    go : (d : Bool) → eqb c (f + i) ≡ d → cond (eqb i (c - f)) 0 (one-if b) ≡ one-if (b && not d)
-    go true e = let z : c - f ≡ i = omega (arith, eqb-eq c (f + i) e) in rw (z, eqb-self i) (drops b)
-    go false e = rw (ne-eqb i (c - f) (λ z. eqb-ne c (f + i) e (omega (arith, z, l)))) (keeps b)
-
-pub all-but : (f c : ℕ) (hs : List ℕ) (full rest : ℕ) → Within f hs → f ≤ c → full ≡ mask f hs → ((i : ℕ) → bit rest i ≡ cond (eqb i (c - f)) 0 (bit full i)) → rest ≡ mask f (keep (λ d. not (eqb c d)) hs)
-all-but f c hs full rest w l e h = bit-ext _ _ (λ i.
-    h i
-    ∙ ap (λ (n : ℕ). cond (eqb i (c - f)) 0 (bit n i)) e
-    ∙ ap (λ (n : ℕ). cond (eqb i (c - f)) 0 n) (bit-mask f i hs w)
-    ∙ not-here f c i l (memb (f + i) hs)
-    ∙ ap one-if (sym (memb-keep (λ d. not (eqb c d)) (f + i) hs))
-    ∙ sym (bit-mask f i (keep (λ d. not (eqb c d)) hs) (within-keep f (λ d. not (eqb c d)) hs w)))
-
-pub other-list : (sig : Signature) (k c rest : ℕ) → Within (kinds-of sig .first k) (heads sig k) → rest ≡ mask (kinds-of sig .first k) (keep (λ d. not (eqb c d)) (heads sig k)) → others-code (256 + k) rest ≡ entries (kinds-of sig) k (other-than sig k c)
+pub other-list : (sig : Signature) (k c rest : ℕ) → Within (kinds-of sig .first k) (heads sig k) → rest ≡ set-of (kinds-of sig .first k) (keep (λ d. not (eqb c d)) (heads sig k)) → others-code (256 + k) rest ≡ entries (kinds-of sig) k (other-than sig k c)
 other-list sig k c rest w e = rw e (go (keep (λ d. not (eqb c d)) (heads sig k)) (within-keep _ (λ d. not (eqb c d)) (heads sig k) w))
   where
-    go : (cs : List ℕ) → Within (kinds-of sig .first k) cs → others-code (256 + k) (mask (kinds-of sig .first k) cs) ≡ entries (kinds-of sig) k (cond (is-empty cs) [] (free [] cs ∷ []))
-    go [] w = rw (mask-nil (kinds-of sig .first k))
-    go (d ∷ ds) w = rw (ne-eqb _ 0 (mask-some (kinds-of sig .first k) d ds w), mask-nil 0)
+    go : (cs : List ℕ) → Within (kinds-of sig .first k) cs → others-code (256 + k) (set-of (kinds-of sig .first k) cs) ≡ entries (kinds-of sig) k (cond (is-empty cs) [] (free [] cs ∷ []))
+    go [] w = rw (set-nil (kinds-of sig .first k))
+    go (d ∷ ds) w = rw (ne-eqb _ 0 (set-some (kinds-of sig .first k) d ds w), set-nil 0)
 
 -- ---- what the calls ask and give
 module _ {t : List ℕ} {tag full : ℕ} {w : List ℕ} {b : Bool} {n m : ℕ} (g : GivenHead t tag full w b n m) where
@@ -143,7 +117,7 @@ module _ {t : List ℕ} {tag full : ℕ} {w : List ℕ} {b : Bool} {n m : ℕ} (
 
   module _ (i x used : ℕ) (o : List ℕ) (at : i ≡ getD w 0 0 - first-of t (tag - 256)) (e : x ≡ 2 ^ i) (l : Product (3 ∷ (getD w 0 0 ∷ (0 ∷ (x ∷ [])))) used o) (same : length o ≡ n) where
     begin-is : begin sig (g .pat .k) c ≡ c ∷ (0 ∷ (x ∷ []))
-    begin-is = ap₂ (λ (a d : ℕ). c ∷ (a ∷ (d ∷ []))) (mask-nil 0) (mask-one (kinds-of sig .first (g .pat .k)) c ∙ ap (λ (j : ℕ). 2 ^ (c - j)) (sym first-is) ∙ ap (λ (j : ℕ). 2 ^ j) (sym at) ∙ sym e)
+    begin-is = ap₂ (λ (a d : ℕ). c ∷ (a ∷ (d ∷ []))) (set-nil 0) (set-one (kinds-of sig .first (g .pat .k)) c ∙ ap (λ (j : ℕ). 2 ^ (c - j)) (sym first-is) ∙ ap (λ (j : ℕ). 2 ^ j) (sym at) ∙ sym e)
 
     pub args-given : (m' : ℕ) → m' ≡ m → GivenArgs t (getD w 0 0) 0 (from w 1) b used o m'
     args-given m' q = record {
@@ -219,7 +193,7 @@ module _ {t : List ℕ} {tag full : ℕ} {w : List ℕ} {b : Bool} {n m : ℕ} (
           let R = map (named [] c) (args-minus sig (arguments sig c) (view .ps)) in
           let d : i ≡ c - K .first k = at ∙ ap (λ (j : ℕ). c - j) first-is in
           let low : K .first k ≤ c = known-head (g .pat .known) k c _ (view .inside) .low in
-          let set : rest ≡ mask (K .first k) (keep (λ d. not (eqb c d)) (heads sig k)) = all-but (K .first k) c (heads sig k) full rest (g .pat .opened .within) low (g .pat .opened .full-is) (λ j. h j ∙ ap (λ (i : ℕ). cond (eqb j i) 0 (bit full j)) d) in
+          let set : rest ≡ set-of (K .first k) (keep (λ d. not (eqb c d)) (heads sig k)) = all-but (K .first k) c (heads sig k) full rest (g .pat .opened .within) low (g .pat .opened .full-is) (λ j. h j ∙ ap (λ (i : ℕ). cond (eqb j i) 0 (bit full j)) d) in
           let one : others-code tag rest ≡ entries K k (other-than sig k c) = ap (λ (a : ℕ). others-code a rest) (g .pat .opened .tag-is) ∙ other-list sig k c rest (g .pat .opened .within) set in
           let all : others-code tag rest ++ words-list (others-given z m'' y .vs) ≡ entries K k (rows-of sig k b (g .pat .p)) =
           ap₂ (λ (a b : List ℕ). a ++ b) one (named-list sig k c (args-minus sig (arguments sig c) (view .ps)))

@@ -8,7 +8,7 @@ use lib.Dec.{ltb}
 use lib.ListN.{length, drop, length-append}
 use Rattle.signature.specs.Decoded.{count-of, decoded-length}
 use Rattle.signature.specs.Limits.{kind-limit}
-use Rattle.signature.specs.Set.{set-limit, bit}
+use Rattle.sets.specs.Set.{set-limit, bit}
 use Rattle.signature.proofs.KnownFacts.{long, words-of}
 use Rattle.signature.proofs.Tests.{times-less}
 use Rattle.pattern.specs.Pattern.{pattern-code}

@@ -19,7 +19,7 @@ ghost use lib.Dec.{ltb};
 ghost use lib.ListN.{length};
 ghost use Rattle.signature.specs.Decoded.{decoded-length, count-of, first-of};
 ghost use Rattle.signature.specs.Limits.{kind-limit};
-ghost use Rattle.signature.specs.Set.{set-limit, bit};
+ghost use Rattle.sets.specs.Set.{set-limit, bit};
 ghost use Rattle.pattern.specs.Pattern.{patterns-code};
 ghost use Rattle.cell.specs.Coded.{kinds-of};
 ghost use Rattle.cell.specs.RowList.{entries, from};

@@ -9,7 +9,7 @@ use lib.Dec.{eqb}
 use lib.ListN.{length, replicate}
 use Rattle.cell.specs.declared.cell.Cell.{Cell}
 use Rattle.signature.specs.Decoded.{decoded-length, arity-of}
-use Rattle.pattern.specs.Limits.{pattern-limit}
+use Rattle.signature.specs.Limits.{heads-limit}
 use Rattle.cell.specs.Cell.{CRows, cnil, ccons, CRow, cn, cf, wordss, Kinds, words}
 use Rattle.cell.specs.Cursor.{wildCell}
 
@@ -48,13 +48,13 @@ pub record Head (K : Kinds) (ar : List ℕ) (k c m : ℕ) : Type 0 where
   pub known : length ar ≡ decoded-length
   pub arity : arity-of ar c ≡ length (K .args c)
   pub set : m ≡ 2 ^ (c - K .first k)
-  pub fits : m < 2 ^ pattern-limit
+  pub fits : m < 2 ^ heads-limit
 
 pub record Free (k t m : ℕ) : Type 0 where
   pub kind : k < 256
   pub tag : t ≡ 256 + k
   pub some : 0 < m
-  pub fits : m < 2 ^ pattern-limit
+  pub fits : m < 2 ^ heads-limit
 
 module _ (K : Kinds) (ar : List ℕ) where
   -- a row of kind k

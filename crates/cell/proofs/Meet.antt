@@ -14,7 +14,8 @@ use Rattle.cell.specs.Cursor.{opensOf, joinOf}
 use Rattle.cell.proofs.CellFacts.{Col, wild, real, then, both, Of, Head, Ofs, reals, boths, enter, cellOf, Free, flat}
 use Rattle.cell.proofs.Columns.{wide, Tagged}
 use Rattle.cell.proofs.CursorFacts.{cellWords}
-use Rattle.cell.proofs.Gates.{then-assoc, gate-some, and-all, powers-meet, three-words, pos-zero}
+use Rattle.cell.proofs.Gates.{then-assoc, gate-some, three-words, pos-zero}
+use Rattle.sets.proofs.ListSets.{among-all, powers-meet}
 
 -- the words of the columns as one; where a side has no cell, the other's
 abbrev pub meet : List Col → List Col → Option (List ℕ)
@@ -151,7 +152,7 @@ module _ (K : Kinds) (ar : List ℕ) where
       let i = kids-left K ar rs (K .args c) xs ys o r in
       record {
         pair = rw l (i .0);
-        same = rw (l, q, or-zero-r v, and-all m (h .fits)) (one-side c v m (wordss rs) (meet xs ys) _ (i .1));
+        same = rw (l, q, or-zero-r v, among-all m (h .fits)) (one-side c v m (wordss rs) (meet xs ys) _ (i .1));
       }
 
   turn-fw : (k t v m n : ℕ) (xs ys : List Col) → Free k t m → Pair K ar xs ys → n ≡ opensOf ar (min t 512) → Turn K ar (real (cf t v m)) wild xs ys n
@@ -160,7 +161,7 @@ module _ (K : Kinds) (ar : List ℕ) where
       let l : n ≡ 0 = e ∙ ap (opensOf ar) q ∙ opens-free K ar t (omega (arith, f .tag)) in
       record {
         pair = rw l r;
-        same = rw l (ap (λ (z : List ℕ). then (some z) (meet xs ys)) (sym (three-words q (or-zero-r v) (and-all m (f .fits)))));
+        same = rw l (ap (λ (z : List ℕ). then (some z) (meet xs ys)) (sym (three-words q (or-zero-r v) (among-all m (f .fits)))));
       }
 
   -- no cell on the left
@@ -172,7 +173,7 @@ module _ (K : Kinds) (ar : List ℕ) where
       let i = kids-right K ar ss (K .args d) xs ys o r in
       record {
         pair = rw l (i .0);
-        same = rw (l, q, or-zero-l w, and-comm 18446744073709551615 p, and-all p (h .fits)) (one-side d w p (wordss ss) (meet xs ys) _ (i .1));
+        same = rw (l, q, or-zero-l w, and-comm 18446744073709551615 p, among-all p (h .fits)) (one-side d w p (wordss ss) (meet xs ys) _ (i .1));
       }
 
   turn-wf : (k u w p n : ℕ) (xs ys : List Col) → Free k u p → Pair K ar xs ys → n ≡ opensOf ar (min 512 u) → Turn K ar wild (real (cf u w p)) xs ys n
@@ -181,7 +182,7 @@ module _ (K : Kinds) (ar : List ℕ) where
       let l : n ≡ 0 = e ∙ ap (opensOf ar) q ∙ opens-free K ar u (omega (arith, f .tag)) in
       record {
         pair = rw l r;
-        same = rw l (ap (λ (z : List ℕ). then (some z) (meet xs ys)) (sym (three-words q (or-zero-l w) (and-comm 18446744073709551615 p ∙ and-all p (f .fits)))));
+        same = rw l (ap (λ (z : List ℕ). then (some z) (meet xs ys)) (sym (three-words q (or-zero-l w) (and-comm 18446744073709551615 p ∙ among-all p (f .fits)))));
       }
 
   pub turn : (x y : Col) (xs ys : List Col) (n : ℕ) → Pair K ar (x ∷ xs) (y ∷ ys) → n ≡ opensOf ar (joinOf (cellOf x) (cellOf y) .tag)
@@ -206,10 +207,10 @@ module _ (K : Kinds) (ar : List ℕ) where
 
   pub dropped : (x y : Col) (xs ys : List Col) → Pair K ar (x ∷ xs) (y ∷ ys) → joinOf (cellOf x) (cellOf y) .allowed ≡ 0 → meet (x ∷ xs) (y ∷ ys) ≡ none
   dropped wild wild xs ys p a = absurd p
-  dropped wild (real (cn d w q ss)) xs ys p a = absurd (pos-zero q (pos-pow (p .0) d q (p .1 .0)) (sym (and-all q (p .1 .0 .fits)) ∙ and-comm q 18446744073709551615 ∙ a))
-  dropped wild (real (cf u w q)) xs ys p a = absurd (pos-zero q (p .1 .some) (sym (and-all q (p .1 .fits)) ∙ and-comm q 18446744073709551615 ∙ a))
-  dropped (real (cn c v m rs)) wild xs ys p a = absurd (pos-zero m (pos-pow (p .0) c m (p .1 .0)) (sym (and-all m (p .1 .0 .fits)) ∙ a))
-  dropped (real (cf t v m)) wild xs ys p a = absurd (pos-zero m (p .1 .some) (sym (and-all m (p .1 .fits)) ∙ a))
+  dropped wild (real (cn d w q ss)) xs ys p a = absurd (pos-zero q (pos-pow (p .0) d q (p .1 .0)) (sym (among-all q (p .1 .0 .fits)) ∙ and-comm q 18446744073709551615 ∙ a))
+  dropped wild (real (cf u w q)) xs ys p a = absurd (pos-zero q (p .1 .some) (sym (among-all q (p .1 .fits)) ∙ and-comm q 18446744073709551615 ∙ a))
+  dropped (real (cn c v m rs)) wild xs ys p a = absurd (pos-zero m (pos-pow (p .0) c m (p .1 .0)) (sym (among-all m (p .1 .0 .fits)) ∙ a))
+  dropped (real (cf t v m)) wild xs ys p a = absurd (pos-zero m (p .1 .some) (sym (among-all m (p .1 .fits)) ∙ a))
   dropped (real (cn c v m rs)) (real (cn d w q ss)) xs ys p a = rw (eq-eqb (bitAnd m q) 0 a)
   dropped (real (cn c v m rs)) (real (cf u w q)) xs ys p a = rw (eq-eqb (bitAnd m q) 0 a)
   dropped (real (cf t v m)) (real (cn d w q ss)) xs ys p a = rw (eq-eqb (bitAnd m q) 0 a)

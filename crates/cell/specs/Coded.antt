@@ -6,11 +6,11 @@ use mathlib.Core.Bool.{false}
 use Prim.Native.Nat.{ℕ, _≤_, _<_, _+_}
 use lib.ListN.{length}
 use Rattle.signature.specs.Decoded.{decoded-length, arity-of}
+use Rattle.signature.specs.Limits.{heads-limit}
 use Rattle.signature.specs.Lists.{is-empty, first}
 use Rattle.signature.specs.Signature.{Signature, heads, arguments}
-use Rattle.pattern.specs.Limits.{pattern-limit}
 use Rattle.cell.specs.Cell.{Kinds, CRow, cn, cf, CRows, cnil, ccons, words}
-use Rattle.cell.specs.Mask.{mask, Within}
+use Rattle.sets.specs.Set.{set-of, Within}
 use Rattle.row.specs.Row.{Row, named, free, Rows, rnil, rcons}
 
 -- the kinds of a signature
@@ -20,7 +20,7 @@ kinds-of sig = record { first = λ k. first (heads sig k); args = λ c. argument
 -- constructor c of kind k
 pub record Known (K : Kinds) (ar : List ℕ) (k c : ℕ) : Type 0 where
   pub low : K .first k ≤ c
-  pub high : c < K .first k + pattern-limit
+  pub high : c < K .first k + heads-limit
   pub tag : c < 256
   pub known : length ar ≡ decoded-length
   pub arity : arity-of ar c ≡ length (K .args c)
@@ -29,8 +29,8 @@ module _ (K : Kinds) where
   -- a row of kind k, as cells
   abbrev mutual
     pub cells : Row → ℕ → CRow
-    cells (named xs c rs) k = cn c (mask 0 xs) (mask (K .first k) (c ∷ [])) (cellss rs (K .args c))
-    cells (free xs cs) k = cf (256 + k) (mask 0 xs) (mask (K .first k) cs)
+    cells (named xs c rs) k = cn c (set-of 0 xs) (set-of (K .first k) (c ∷ [])) (cellss rs (K .args c))
+    cells (free xs cs) k = cf (256 + k) (set-of 0 xs) (set-of (K .first k) cs)
 
     pub cellss : Rows → List ℕ → CRows
     cellss rnil ks = cnil

@@ -2,15 +2,15 @@
 use mathlib.Core.List.{List}
 use mathlib.Core.Bool.{cond}
 use Prim.Native.Nat.{ℕ, _+_, _≤_, _*_, _-_, min}
-use lib.Bits.{bitOr, bitAnd}
 use lib.Dec.{ltb}
 use lib.ListN.{getD, length, set}
 use Rattle.cell.specs.declared.cell.Cell.{Cell}
 use Rattle.cell.specs.declared.cell.Cursor.{Cursor}
+use Rattle.sets.specs.Set.{all-set, union, intersection}
 use Rattle.signature.specs.Decoded.{arity-of}
 
 abbrev pub wildCell : Cell
-wildCell = record { tag = 512; vars = 0; allowed = 18446744073709551615 }
+wildCell = record { tag = 512; vars = 0; allowed = all-set }
 
 abbrev pub cellAt : List ℕ → ℕ → Cell
 cellAt row at = record { tag = getD row at 0; vars = getD row (at + 1) 0; allowed = getD row (at + 2) 0 }
@@ -29,7 +29,7 @@ abbrev pub nextOf : Cursor → ℕ → ℕ → Cursor
 nextOf c tag n = stepOf c (cond (ltb tag 256) 0 n)
 
 abbrev pub joinOf : Cell → Cell → Cell
-joinOf a b = record { tag = min (a .tag) (b .tag); vars = bitOr (a .vars) (b .vars); allowed = bitAnd (a .allowed) (b .allowed) }
+joinOf a b = record { tag = min (a .tag) (b .tag); vars = union (a .vars) (b .vars); allowed = intersection (a .allowed) (b .allowed) }
 
 abbrev pub opensOf : List ℕ → ℕ → ℕ
 opensOf t tag = cond (ltb tag 256) (arity-of t tag) 0

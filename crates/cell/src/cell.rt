@@ -1,4 +1,7 @@
 // Rows as preorder cells of three words, a cursor over them, and two rows as one.
+use sets::set::ALL;
+use sets::set::meet;
+use sets::set::size;
 use signature::decoded::arity_of;
 ghost use mathlib.Core.Path.{_≡_};
 ghost use Prim.Native.Nat.{_+_, _≤_, _<_, _^_};
@@ -13,10 +16,11 @@ ghost use Rattle.signature.specs.Decoded.{decoded-length};
 // A tag below it names a constructor, any other is this and a kind.
 pub const KIND_TAG: u64 = 256;
 
-// The tag of a column that no cell stands for, and the set of all heads.
-const FREE: u64 = 512;
+// The tag of a column that no cell stands for: above each other, so that the other is kept.
+const FREE_TAG: u64 = 512;
 
-const ALL: u64 = 18446744073709551615;
+// The words of a cell.
+pub const CELL: usize = 3;
 
 // A cell: the constructor that is named, or 256 + the kind; the variables; the heads still allowed.
 pub struct Cell {
@@ -44,7 +48,7 @@ pub fn look(row: &[u64], c: Cursor) -> Cell
     let virt = c.virt;
     if virt > 0 {
         return Cell {
-            tag: FREE,
+            tag: FREE_TAG,
             vars: 0,
             allowed: ALL,
         };
@@ -70,7 +74,7 @@ fn step(c: Cursor, more: usize) -> Cursor
         };
     }
     Cursor {
-        at: c.at + 3,
+        at: c.at + CELL,
         virt: more,
     }
 }
@@ -90,17 +94,19 @@ pub fn next(c: Cursor, tag: u64, n: usize) -> Cursor
 pub fn join(a: Cell, b: Cell) -> Cell
     ensures { λ r. ⌜ r ≡ joinOf a b ⌝ }
 {
+    let vars = sets::set::join(a.vars, b.vars);
+    let allowed = meet(a.allowed, b.allowed);
     if a.tag <= b.tag {
         return Cell {
             tag: a.tag,
-            vars: a.vars | b.vars,
-            allowed: a.allowed & b.allowed,
+            vars,
+            allowed,
         };
     }
     Cell {
         tag: b.tag,
-        vars: a.vars | b.vars,
-        allowed: a.allowed & b.allowed,
+        vars,
+        allowed,
     }
 }
 
@@ -137,11 +143,11 @@ pub fn combine(t: &[u16], a: &[u64], b: &[u64], out: &mut [u64]) -> Out
         let p = look(a, x);
         let q = look(b, y);
         let c = join(p, q);
-        if c.allowed == 0 {
+        if size(c.allowed) == 0 {
             return Out::Dropped;
         }
         put(out, n, c);
-        n += 3;
+        n += CELL;
         let w = opens(t, c.tag);
         left = left - 1 + w;
         x = next(x, p.tag, w);

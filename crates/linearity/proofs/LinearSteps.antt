@@ -8,7 +8,7 @@ use native.Mathlib.Omega.{arith}
 use lib.ListN.{length, drop, getD, length-append, length-drop}
 use lib.Seq.{drop-drop}
 use Rattle.signature.specs.Lists.{memb, is-empty}
-use Rattle.signature.specs.Set.{bit}
+use Rattle.sets.specs.Set.{bit}
 use Rattle.signature.proofs.Booleans.{and-true}
 use Rattle.signature.proofs.Members.{memb-append}
 use Rattle.pattern.specs.Given.{Opens}

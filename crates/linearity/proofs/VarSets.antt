@@ -6,12 +6,12 @@ use Prim.Native.Nat.{ℕ, _<_, _^_, min, max}
 use native.Mathlib.Omega.{arith}
 use lib.Dec.{eqb}
 use Rattle.signature.specs.Lists.{memb, all, is-empty}
-use Rattle.signature.specs.Set.{bit}
+use Rattle.sets.specs.Set.{bit}
 use Rattle.signature.proofs.Booleans.{and-left, and-right, not-true}
 use Rattle.signature.proofs.ListFacts.{is-all}
 use Rattle.signature.proofs.Members.{memb-append, all-memb, all-of}
-use Rattle.signature.proofs.SetLaws.{bit-zero, no-member}
-use Rattle.signature.proofs.SetLaws as sets
+use Rattle.sets.proofs.SetLaws.{bit-zero, no-member}
+use Rattle.sets.proofs.SetLaws as sets
 use Rattle.signature.proofs.Tests.{eqb-self, eqb-no, true≢false}
 use Rattle.pattern.specs.Linear.{disjoint, same-set}
 use Rattle.linearity.specs.Linearity.{Holds, own-vars}

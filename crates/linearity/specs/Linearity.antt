@@ -6,7 +6,7 @@ use Prim.Native.Nat.{ℕ, _<_}
 use lib.Dec.{eqb}
 use lib.ListN.{length}
 use Rattle.signature.specs.Lists.{memb, is-empty}
-use Rattle.signature.specs.Set.{bit}
+use Rattle.sets.specs.Set.{bit}
 use Rattle.pattern.specs.Limits.{variable-count}
 use Rattle.pattern.specs.Linear.{linear-plus, linear-minus, disjoint, same-set}
 use Rattle.pattern.specs.Linearity.{vars-at}

@@ -11,11 +11,11 @@ use lib.ListN.{length, getD}
 use Rattle.signature.specs.Decoded.{Known, count-of, kind-of}
 use Rattle.signature.specs.Limits.{kind-limit}
 use Rattle.signature.specs.Lists.{memb}
-use Rattle.signature.specs.Set.{bit, set-limit}
+use Rattle.sets.specs.Set.{bit, set-limit}
 use Rattle.signature.specs.Signature.{Signature, heads, arguments-at}
 use Rattle.signature.proofs.Heads.{kind-of-head, constructor-of}
 use Rattle.signature.proofs.KnownFacts.{words-of, is-constructor, few-constructors}
-use Rattle.signature.proofs.SetLaws.{bit-lt}
+use Rattle.sets.proofs.SetLaws.{bit-lt}
 use Rattle.signature.proofs.Tests.{eqb-eq, eqb-ne, true≢false}
 use Rattle.rowlist.proofs.Kinded.{few-heads, full-set, kinds-same}
 use Rattle.path.specs.Alive.{member}

@@ -5,7 +5,7 @@ use mathlib.Core.Bool.{Bool, true, false}
 use Prim.Native.Nat.{ℕ, _/_, _%_, _≤_, _<_}
 use lib.Dec.{eqb}
 use lib.ListN.{getD}
-use Rattle.signature.specs.Set.{bit, set-limit}
+use Rattle.sets.specs.Set.{bit, set-limit}
 
 -- the rows of a table: "rules weighing at most 256 in all"
 abbrev pub row-limit : ℕ

@@ -8,7 +8,7 @@ use lib.ListN.{length, getD}
 use Rattle.signature.specs.Decoded.{Known}
 use Rattle.signature.specs.Limits.{kind-limit}
 use Rattle.signature.specs.Lists.{memb}
-use Rattle.signature.specs.Set.{set-limit}
+use Rattle.sets.specs.Set.{set-limit}
 use Rattle.signature.specs.Signature.{Signature, heads}
 use Rattle.pattern.specs.Limits.{pattern-limit}
 use Rattle.path.specs.Alive.{member, row-limit, FirstAlive}

@@ -12,7 +12,7 @@ ghost use mathlib.Core.Path.{_≡_};
 ghost use mathlib.Core.Bool.{true};
 ghost use Prim.Native.Nat.{ℕ, _+_, _*_, _-_, _≤_, _<_};
 ghost use lib.ListN.{length, getD};
-ghost use Rattle.signature.specs.Set.{set-limit};
+ghost use Rattle.sets.specs.Set.{set-limit};
 ghost use Rattle.path.specs.Alive.{member, row-limit, set-words};
 ghost use Rattle.path.specs.State.{row-stride, cell-of, kept-of};
 ghost use Rattle.path.specs.Standing.{refined-cell};

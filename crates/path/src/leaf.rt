@@ -8,7 +8,7 @@ use sets::set::join;
 ghost use mathlib.Core.Path.{_≡_};
 ghost use Prim.Native.Nat.{ℕ, _+_, _*_, _≤_, _<_};
 ghost use lib.ListN.{length, getD};
-ghost use Rattle.signature.specs.Set.{set-limit};
+ghost use Rattle.sets.specs.Set.{set-limit};
 ghost use Rattle.tree.specs.Tree.{hit};
 ghost use Rattle.path.specs.Leaf.{cell-pair, cell-pairs, all-pairs, Pairing, Paired, Used};
 ghost use Rattle.path.specs.State.{rule-of, plan-of, bound as bound-by, row-stride, cell-of};

@@ -12,7 +12,7 @@ use lib.ListN.{length}
 use Rattle.signature.specs.Decoded.{Known, count-of}
 use Rattle.signature.specs.Lawful.{KindsRise, rise-end, rise-same, rise-next, KindsStart, start-0}
 use Rattle.signature.specs.Lists.{memb, is-empty, first}
-use Rattle.signature.specs.Set.{bit}
+use Rattle.sets.specs.Set.{bit, set-of, Within}
 use Rattle.signature.specs.Signature.{Signature, heads, arguments-at}
 use Rattle.signature.proofs.Heads.{Consecutive, consecutive-nil, consecutive-cons, consecutive-of, has-head, has-kind, constructor-of}
 use Rattle.signature.proofs.KnownFacts.{words-of, arity-is, is-constructor, few-constructors, long}
@@ -21,8 +21,7 @@ use Rattle.signature.proofs.SignatureBack.{is-kinds}
 use Rattle.signature.proofs.Tests.{some-inj, eqb-self, eqb-no, eqb-eq, true≢false, ltb-yes, ltb-no}
 use Rattle.rowlist.specs.Sides.{Open}
 use Rattle.cell.specs.Coded.{kinds-of, Known as KnownHead}
-use Rattle.cell.specs.Mask.{mask, Within}
-use Rattle.cell.proofs.Masks.{bit-ext, bit-mask, one-if}
+use Rattle.sets.proofs.ListSets.{same-bits, bit-set-of, one-if}
 
 first-run : {f : ℕ} {xs : List ℕ} → Consecutive f xs → is-empty xs ≡ false → first xs ≡ f
 first-run consecutive-nil e = true≢false e
@@ -82,7 +81,7 @@ module _ {t : List ℕ} (g : Known t) where
     pub within-kind : Within (first (heads (g .sig) k)) (heads (g .sig) k)
     within-kind = within-run (first (heads (g .sig) k)) run-of (omega arith) (omega (arith, few-heads))
 
-    pub open-kind : Open (kinds-of (g .sig)) (g .sig) k (256 + k) (mask (first (heads (g .sig) k)) (heads (g .sig) k))
+    pub open-kind : Open (kinds-of (g .sig)) (g .sig) k (256 + k) (set-of (first (heads (g .sig) k)) (heads (g .sig) k))
     open-kind = record {
       kind = omega (arith, kinds-same, words-of g .few-kinds);
       some = some-head;
@@ -92,13 +91,13 @@ module _ {t : List ℕ} (g : Known t) where
     }
 
     -- the set of the numbers below the count of the kind's heads is that of the heads
-    pub full-set : (s : ℕ) → ((j : ℕ) → bit s j ≡ cond (ltb j (count-of t k)) 1 0) → s ≡ mask (first (heads (g .sig) k)) (heads (g .sig) k)
-    full-set s h = bit-ext _ _ (λ i.
+    pub full-set : (s : ℕ) → ((j : ℕ) → bit s j ≡ cond (ltb j (count-of t k)) 1 0) → s ≡ set-of (first (heads (g .sig) k)) (heads (g .sig) k)
+    full-set s h = same-bits _ _ (λ i.
         h i
         ∙ ap (λ (n : ℕ). cond (ltb i n) 1 0) (g .decoded .head-count k l)
         ∙ one-is (ltb i (length (heads (g .sig) k)))
         ∙ ap one-if (sym (memb-run i run-of))
-        ∙ sym (bit-mask (first (heads (g .sig) k)) i (heads (g .sig) k) within-kind))
+        ∙ sym (bit-set-of (first (heads (g .sig) k)) i (heads (g .sig) k) within-kind))
       where
         one-is : (b : Bool) → cond b 1 0 ≡ one-if b
         one-is true = refl

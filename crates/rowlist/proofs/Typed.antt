@@ -9,10 +9,10 @@ use Rattle.signature.specs.Lists.{require, _>>=_, is-empty, memb, keep, somes}
 use Rattle.signature.proofs.Tests.{eqb-eq}
 use Rattle.cell.specs.Cell.{Kinds}
 use Rattle.cell.specs.Coded.{Typed, Known, Typeds}
-use Rattle.cell.specs.Mask.{Within}
+use Rattle.sets.specs.Set.{Within}
 use Rattle.rowlist.specs.Product.{Typed-all}
 use Rattle.row.specs.Row.{Row, Rows, named, rcons, free, combines, combine, rnil, each}
-use Rattle.cell.proofs.Masks.{within-keep}
+use Rattle.sets.proofs.ListSets.{within-keep}
 
 -- each row that is there has it
 abbrev pub If-some : {A : Type 0} → (A → Type 0) → Option A → Type 0

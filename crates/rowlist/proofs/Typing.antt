@@ -15,13 +15,13 @@ use Rattle.pattern.specs.Pattern.{Pattern, head, and, or, wild, absurd-pat, neg
 use Rattle.pattern.specs.WellFormed.{WellFormed, well-head, well-and, well-or, well-not, AllWellFormed, well-nil, well-cons}
 use Rattle.rowlist.specs.Sides.{rows-of}
 use Rattle.cell.specs.Coded.{kinds-of, Typed, Typeds}
-use Rattle.cell.specs.Mask.{Within}
+use Rattle.sets.specs.Set.{Within}
 use Rattle.rowlist.specs.Product.{Typed-all}
 use Rattle.row.specs.Row.{named, free, rcons, each, other-than, open-row, open-rows, rows-plus, rows-minus, args-plus, args-minus}
 use Rattle.cell.specs.RowList.{Every}
 use Rattle.rowlist.proofs.Typed.{typed-each, typed-append}
 use Rattle.rowlist.proofs.Kinded.{known-head, open-kind, kinds-same}
-use Rattle.cell.proofs.Masks.{within-keep}
+use Rattle.sets.proofs.ListSets.{within-keep}
 
 pub every-append : {A : Type 0} (P : A → Type 0) (xs ys : List A) → Every P xs → Every P ys → Every P (xs ++ ys)
 every-append P [] ys h g = g

@@ -26,7 +26,7 @@ use Rattle.row.specs.RowFits.{good-named, good-free, Goods, goods-nil, goods-co
 use Rattle.cell.specs.Cell.{wordss}
 use Rattle.cell.specs.Coded.{kinds-of, cellss, code as row-code}
 use Rattle.cell.specs.Cursor.{opensOf}
-use Rattle.cell.specs.Mask.{mask, Within}
+use Rattle.sets.specs.Set.{set-of, Within}
 use Rattle.cell.specs.RowList.{from}
 use Rattle.cell.proofs.Columns.{three-at}
 use Rattle.cell.proofs.Walk.{from-is, back}
@@ -63,7 +63,7 @@ module _ {t : List ℕ} (g : Known t) (k d : ℕ) (cs : List ℕ) (h : All (λ c
   pub kind-here : k < g .decoded .n
   kind-here = let q = kind-of-head (g .sig) k d (first-of h) in kind-there g k d (q .0) (q .1)
 
-  unfoldable free-given : (kk al : ℕ) (p : List ℕ) → kk ≡ k → al ≡ mask (first (heads (g .sig) k)) (d ∷ cs) → place-words ≤ length p → GivenPlace t kk al p
+  unfoldable free-given : (kk al : ℕ) (p : List ℕ) → kk ≡ k → al ≡ set-of (first (heads (g .sig) k)) (d ∷ cs) → place-words ≤ length p → GivenPlace t kk al p
   free-given kk al p e f room = record {
     known = g;
     there = omega (arith, kind-here, e);
@@ -75,7 +75,7 @@ module _ {t : List ℕ} (g : Known t) (k d : ℕ) (cs : List ℕ) (h : All (λ c
     room = room;
   }
 
-  free-taken : (kk al m : ℕ) (xs p ys : List ℕ) (e : kk ≡ k) (f : al ≡ mask (first (heads (g .sig) k)) (d ∷ cs)) (room : place-words ≤ length p) → Placed (free-given kk al p e f room) m ys
+  free-taken : (kk al m : ℕ) (xs p ys : List ℕ) (e : kk ≡ k) (f : al ≡ set-of (first (heads (g .sig) k)) (d ∷ cs)) (room : place-words ≤ length p) → Placed (free-given kk al p e f room) m ys
       → (v : Value) × Taken (g .sig) k (free xs (d ∷ cs)) v × (m ≡ size v) × (ys ≡ code v ++ drop m p)
   unfolding free-given
   free-taken kk al m xs p ys e f room P =

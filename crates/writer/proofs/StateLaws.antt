@@ -9,13 +9,12 @@ use native.Mathlib.Omega.{arith}
 use lib.Dec.{eqb}
 use lib.ListN.{length, getD, length-append}
 use Rattle.signature.specs.Lists.{_>>=_, memb, first}
-use Rattle.signature.specs.Set.{bit}
+use Rattle.sets.specs.Set.{bit, Within, set-of}
 use Rattle.signature.specs.Signature.{Signature, heads, arguments}
-use Rattle.signature.proofs.SetLaws.{bit-lt}
+use Rattle.sets.proofs.SetLaws.{bit-lt}
 use Rattle.signature.proofs.Tests.{eqb-eq, eqb-ne, none≢some, some-inj}
 use Rattle.row.specs.Row.{Rows}
 use Rattle.cell.specs.Cursor.{opensOf}
-use Rattle.cell.specs.Mask.{Within, mask}
 use Rattle.tree.specs.Tree.{Line, inserts, after, taken, passed, refined}
 use Rattle.path.specs.Standing.{At, refined-cell}
 use Rattle.path.specs.State.{Indexed, LineAt, RowIs, State, Raised, real-of, keep-of, cell-of, own-of, stop-of, visit-of, bound, one-if}
