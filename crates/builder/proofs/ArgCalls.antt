@@ -29,7 +29,8 @@ use Rattle.builder.proofs.Behind.{list-words}
 use Rattle.rowlist.proofs.Kinded.{few-heads, full-set, open-kind}
 use Rattle.sets.proofs.ListSets.{set-nil}
 use Rattle.builder.proofs.NextLists.{words-filled, words-short, words-count}
-use Rattle.builder.proofs.Parts.{in-front, code-some}
+use Rattle.builder.proofs.Parts.{in-front}
+use Rattle.pattern.proofs.PatternBack.{some-pattern-word}
 use Rattle.builder.proofs.Rooms.{rows-few, rows-places}
 use Rattle.row.proofs.RowCount.{minus-count}
 use Rattle.cell.proofs.Walk.{from-is, back}
@@ -87,7 +88,7 @@ module _ {t : List ℕ} {c j : ℕ} {w : List ℕ} {b : Bool} {used : ℕ} {o : 
         pub arg-read : (read ≤ length w) × (1 ≤ read)
         arg-read = (
           omega (arith, arg-made .read-is, simp length-append at (ap length (g .code-is)), size-is),
-          omega (arith, arg-made .read-is, code-some (view .p)),
+          omega (arith, arg-made .read-is, some-pattern-word (view .p)),
         )
 
         abbrev pub L : List (List ℕ)

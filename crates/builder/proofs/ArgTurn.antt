@@ -26,7 +26,7 @@ use Rattle.cell.specs.RowList.{from}
 use Rattle.builder.proofs.ArgCalls.{view, size-is, arg-made, wild-is, next-core, first-of, minus-few}
 use Rattle.builder.proofs.Behind.{behind-plus, behind-minus}
 use Rattle.builder.proofs.NextLists.{next-filled, next-short, next-first, next-few, words-short, words-count}
-use Rattle.builder.proofs.Parts.{code-some}
+use Rattle.pattern.proofs.PatternBack.{some-pattern-word}
 use Rattle.builder.proofs.Rooms.{rows-places}
 use Rattle.row.proofs.RowCount.{plus-count, args-plus-count}
 use Rattle.cell.proofs.Walk.{from-is, back}
@@ -63,7 +63,7 @@ module _ {t : List ℕ} {c j : ℕ} {w : List ℕ} {b : Bool} {used : ℕ} {o : 
         v = q .0;
         vs = q .1;
         first = q .2;
-        cell = omega (arith, code-some (view g h arg arg-is .p));
+        cell = omega (arith, some-pattern-word (view g h arg arg-is .p));
         few = minus-few (g .known .sig) arg (view g h arg arg-is .p) (view g h arg arg-is .qs) (g .ps) (length (g .begun)) b z (view g h arg arg-is .parts-are) (g .few);
       }
 
@@ -109,7 +109,7 @@ module _ {t : List ℕ} {c j : ℕ} {w : List ℕ} {b : Bool} {used : ℕ} {o : 
       some-words = omega (arith, g .some-words);
       short =
           let x : 3 * (g .a + length (pattern-code (view g h arg arg-is .p))) ≡ 3 * g .a + 3 * length (pattern-code (view g h arg arg-is .p)) = omega arith in
-          rw x (next-short b (3 * g .a) (3 * length (pattern-code (view g h arg arg-is .p))) ((256 + arg) ∷ (0 ∷ (full ∷ []))) (g .begun) (row-words (g .known .sig) arg (rows-of (g .known .sig) arg b (view g h arg arg-is .p))) (omega (arith, code-some (view g h arg arg-is .p))) (g .short)
+          rw x (next-short b (3 * g .a) (3 * length (pattern-code (view g h arg arg-is .p))) ((256 + arg) ∷ (0 ∷ (full ∷ []))) (g .begun) (row-words (g .known .sig) arg (rows-of (g .known .sig) arg b (view g h arg arg-is .p))) (omega (arith, some-pattern-word (view g h arg arg-is .p))) (g .short)
           (words-short (g .known .sig) arg (length (pattern-code (view g h arg arg-is .p))) (rows-places (g .known .sig) arg (view g h arg arg-is .p) b (view g h arg arg-is .well))));
       few = few-next .0;
       count = few-next .1;

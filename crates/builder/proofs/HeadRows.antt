@@ -21,9 +21,10 @@ use Rattle.signature.proofs.Tests.{eqb-eq, eqb-ne, eqb-self, le-of, true≢fals
 use Rattle.pattern.specs.Pattern.{Pattern, head, and, or, wild, absurd-pat, neg, var, pattern-code, Patterns, patterns-code}
 use Rattle.pattern.specs.Weight.{product-plus, sum-minus, light-all-plus, light-all-minus}
 use Rattle.pattern.specs.WellFormed.{WellFormed, AllWellFormed, well-head}
+use Rattle.pattern.proofs.Opened.{shape}
 use Rattle.cell.specs.Coded.{kinds-of, code}
 use Rattle.cell.specs.RowList.{from, entries}
-use Rattle.sets.proofs.ListSets.{same-bits, bit-set-of, set-nil, set-one, set-some, one-if, within-keep}
+use Rattle.sets.proofs.ListSets.{all-but, only-one, set-nil, set-some, within-keep}
 use Rattle.cell.proofs.Walk.{each-append}
 use Rattle.row.specs.Row.{Rows, named, free, other-than, args-plus, args-minus}
 use Rattle.rowlist.specs.Grow.{words-list, appends}
@@ -33,11 +34,13 @@ use Rattle.rowlist.specs.Sides.{rows-of}
 use Rattle.rowlist.proofs.Kinded.{known-head, kinds-same}
 use Rattle.rowlist.proofs.Typing.{args-there}
 use Rattle.builder.specs.Arguments.{GivenArgs, MadeArgs, HasFirst, few-begun, lights-of, row-words, arg-words, open-words, behind}
-use Rattle.builder.specs.Build.{light-of, GivenHead, Made}
+use Rattle.builder.specs.Build.{light-of, step-of, GivenHead, Made}
+use Rattle.builder.specs.declared.build.Step.the-variants.{Head}
 use Rattle.builder.proofs.Behind.{list-words}
-use Rattle.builder.proofs.Parts.{first-part, word-is}
+use Rattle.builder.proofs.Building.{head-number, other-step}
+use Rattle.builder.proofs.Parts.{first-part, step-is}
 
--- ---- a pattern whose first word is a constructor
+-- a pattern whose first word is a constructor
 pub record HeadOf (sig : Signature) (k : ℕ) (p : Pattern) (b : Bool) (c : ℕ) : Type 0 where
   pub ps : Patterns
   pub p-is : p ≡ head c ps
@@ -50,23 +53,29 @@ light-head : (b : Bool) (c : ℕ) (ps : Patterns) → light-of b (head c ps) ≡
 light-head true c ps l = (and-right (leb (product-plus ps) 64) (light-all-plus ps) l, omega (arith, le-of (product-plus ps) 64 (and-left (leb (product-plus ps) 64) (light-all-plus ps) l)))
 light-head false c ps l = (and-right (leb (suc (sum-minus ps)) 64) (light-all-minus ps) l, omega (arith, le-of (suc (sum-minus ps)) 64 (and-left (leb (suc (sum-minus ps)) 64) (light-all-minus ps) l)))
 
-head-of : (sig : Signature) (k : ℕ) (p : Pattern) (b : Bool) (rest : List ℕ) → WellFormed sig k p → light-of b p ≡ true → getD (pattern-code p ++ rest) 0 0 < 256 → HeadOf sig k p b (getD (pattern-code p ++ rest) 0 0)
-head-of sig k (head c ps) b rest (well-head {ks = ks} i e h) l z =
-    let q = args-same sig k c ks e in
-    let y = light-head b c ps l in
-    record { ps = ps; p-is = refl; inside = e ∙ ap some (sym q); wells = subst (λ (js : List ℕ). AllWellFormed sig js ps) (sym q) h; light = y .0; few = y .1 }
-head-of sig k (and p q) b rest h l z = absurd (omega (arith, z))
-head-of sig k (or p q) b rest h l z = absurd (omega (arith, z))
-head-of sig k wild b rest h l z = absurd (omega (arith, z))
-head-of sig k absurd-pat b rest h l z = absurd (omega (arith, z))
-head-of sig k (neg p) b rest h l z = absurd (omega (arith, z))
-head-of sig k (var x) b rest h l z = absurd (omega (arith, z))
+head-of : (sig : Signature) (k : ℕ) (p : Pattern) (b : Bool) (c : ℕ) → WellFormed sig k p → light-of b p ≡ true → step-of (shape p) b ≡ Head c → HeadOf sig k p b c
+head-of sig k (head d ps) b c (well-head {ks = ks} i e h) l w =
+    subst (HeadOf sig k (head d ps) b) (ap head-number w) (
+      let q = args-same sig k d ks e in
+      let y = light-head b d ps l in
+      record { ps = ps; p-is = refl; inside = e ∙ ap some (sym q); wells = subst (λ (js : List ℕ). AllWellFormed sig js ps) (sym q) h; light = y .0; few = y .1 })
+head-of sig k (and p q) true c h l w = other-step w (λ z. omega (arith, z))
+head-of sig k (and p q) false c h l w = other-step w (λ z. omega (arith, z))
+head-of sig k (or p q) true c h l w = other-step w (λ z. omega (arith, z))
+head-of sig k (or p q) false c h l w = other-step w (λ z. omega (arith, z))
+head-of sig k wild true c h l w = other-step w (λ z. omega (arith, z))
+head-of sig k wild false c h l w = other-step w (λ z. omega (arith, z))
+head-of sig k absurd-pat true c h l w = other-step w (λ z. omega (arith, z))
+head-of sig k absurd-pat false c h l w = other-step w (λ z. omega (arith, z))
+head-of sig k (neg p) b c h l w = other-step w (λ z. omega (arith, z))
+head-of sig k (var x) true c h l w = other-step w (λ z. omega (arith, z))
+head-of sig k (var x) false c h l w = other-step w (λ z. omega (arith, z))
 
 has-first : (b : Bool) (v : List ℕ) (vs : List (List ℕ)) → HasFirst b (v ∷ vs)
 has-first true v vs = tt
 has-first false v vs = tt
 
--- ---- the words of its rows
+-- the words of its rows
 module _ (sig : Signature) (k c : ℕ) where
   abbrev pub begin : List ℕ
   begin = c ∷ (set-of 0 [] ∷ (set-of (kinds-of sig .first k) (c ∷ []) ∷ []))
@@ -85,16 +94,13 @@ other-list sig k c rest w e = rw e (go (keep (λ d. not (eqb c d)) (heads sig k)
     go [] w = rw (set-nil (kinds-of sig .first k))
     go (d ∷ ds) w = rw (ne-eqb _ 0 (set-some (kinds-of sig .first k) d ds w), set-nil 0)
 
--- ---- what the calls ask and give
-module _ {t : List ℕ} {tag full : ℕ} {w : List ℕ} {b : Bool} {n m : ℕ} (g : GivenHead t tag full w b n m) where
+-- what the calls ask and give
+module _ {t : List ℕ} {tag full c own : ℕ} {w : List ℕ} {b : Bool} {n m : ℕ} (g : GivenHead t tag full c own w b n m) where
   abbrev sig : Signature
   sig = g .pat .known .sig
 
-  abbrev c : ℕ
-  c = getD w 0 0
-
-  view : HeadOf (g .pat .known .sig) (g .pat .k) (g .pat .p) b (getD w 0 0)
-  view = rw (word-is (g .pat)) (head-of (g .pat .known .sig) (g .pat .k) (g .pat .p) b (g .pat .rest) (g .pat .well) (g .pat .light) (rw (word-is (g .pat)) at (g .small)))
+  view : HeadOf (g .pat .known .sig) (g .pat .k) (g .pat .p) b c
+  view = head-of (g .pat .known .sig) (g .pat .k) (g .pat .p) b c (g .pat .well) (g .pat .light) (step-is (g .pat) (g .word))
 
   first-is : first-of t (tag - 256) ≡ kinds-of sig .first (g .pat .k)
   first-is = let z : tag - 256 ≡ g .pat .k = omega (arith, g .pat .opened .tag-is) in ap (first-of t) z ∙ g .pat .known .decoded .first-head (g .pat .k) (g .pat .there)
@@ -102,7 +108,7 @@ module _ {t : List ℕ} {tag full : ℕ} {w : List ℕ} {b : Bool} {n m : ℕ} (
   size-is : length (pattern-code (g .pat .p)) ≡ 1 + length (patterns-code (view .ps))
   size-is = ap (λ (z : Pattern). length (pattern-code z)) (view .p-is) ∙ omega arith
 
-  pub head-place : (length t ≡ decoded-length) × (256 ≤ tag) × (tag < 256 + kind-limit) × (first-of t (tag - 256) ≤ getD w 0 0) × (getD w 0 0 < first-of t (tag - 256) + set-limit)
+  pub head-place : (length t ≡ decoded-length) × (256 ≤ tag) × (tag < 256 + kind-limit) × (first-of t (tag - 256) ≤ c) × (c < first-of t (tag - 256) + set-limit)
   head-place =
       let h = known-head (g .pat .known) (g .pat .k) c _ (view .inside) in (
         long (g .pat .known),
@@ -115,11 +121,11 @@ module _ {t : List ℕ} {tag full : ℕ} {w : List ℕ} {b : Bool} {n m : ℕ} (
   pub head-room : 5 ≤ n
   head-room = omega (arith, g .pat .room, size-is)
 
-  module _ (i x used : ℕ) (o : List ℕ) (at : i ≡ getD w 0 0 - first-of t (tag - 256)) (e : x ≡ 2 ^ i) (l : Product (3 ∷ (getD w 0 0 ∷ (0 ∷ (x ∷ [])))) used o) (same : length o ≡ n) where
+  module _ (i x used : ℕ) (o : List ℕ) (at : i ≡ c - first-of t (tag - 256)) (e : (j : ℕ) → bit x j ≡ cond (eqb j i) 1 0) (l : Product (3 ∷ (c ∷ (0 ∷ (x ∷ [])))) used o) (same : length o ≡ n) where
     begin-is : begin sig (g .pat .k) c ≡ c ∷ (0 ∷ (x ∷ []))
-    begin-is = ap₂ (λ (a d : ℕ). c ∷ (a ∷ (d ∷ []))) (set-nil 0) (set-one (kinds-of sig .first (g .pat .k)) c ∙ ap (λ (j : ℕ). 2 ^ (c - j)) (sym first-is) ∙ ap (λ (j : ℕ). 2 ^ j) (sym at) ∙ sym e)
+    begin-is = ap₂ (λ (a d : ℕ). c ∷ (a ∷ (d ∷ []))) (set-nil 0) (sym (only-one (kinds-of sig .first (g .pat .k)) c i x (at ∙ ap (λ (f : ℕ). c - f) first-is) e))
 
-    pub args-given : (m' : ℕ) → m' ≡ m → GivenArgs t (getD w 0 0) 0 (from w 1) b used o m'
+    pub args-given : (m' : ℕ) → m' ≡ m → GivenArgs t c 0 (from w own) b used o m'
     args-given m' q = record {
       known = g .pat .known;
       head = is-constructor (g .pat .known) (g .pat .k) c _ (view .inside);
@@ -127,7 +133,7 @@ module _ {t : List ℕ} {tag full : ℕ} {w : List ℕ} {b : Bool} {n m : ℕ} (
       kinds = refl;
       ps = view .ps;
       rest = g .pat .rest;
-      code-is = first-part w c (patterns-code (view .ps)) (g .pat .rest) (g .pat .code-is ∙ ap (λ (z : Pattern). pattern-code z ++ g .pat .rest) (view .p-is));
+      code-is = first-part w c (patterns-code (view .ps)) (g .pat .rest) own (g .own-is) (g .pat .code-is ∙ ap (λ (z : Pattern). pattern-code z ++ g .pat .rest) (view .p-is));
       well = view .wells;
       light = view .light;
       there = args-there (g .pat .known) (g .pat .k) c _ (view .inside);
@@ -144,13 +150,13 @@ module _ {t : List ℕ} {tag full : ℕ} {w : List ℕ} {b : Bool} {n m : ℕ} (
       work-room = omega (arith, size-is, g .pat .work-room, q);
     }
 
-    module _ (m' used' read : ℕ) (q : m' ≡ m) (o' : List ℕ) (f : (a : GivenArgs t (getD w 0 0) 0 (from w 1) b used o m') → MadeArgs (a .known .sig) b (a .ks) (a .ps) (a .begun) (a .a + length (patterns-code (a .ps))) used' read o') where
+    module _ (m' used' read : ℕ) (q : m' ≡ m) (o' : List ℕ) (f : (a : GivenArgs t c 0 (from w own) b used o m') → MadeArgs (a .known .sig) b (a .ks) (a .ps) (a .begun) (a .a + length (patterns-code (a .ps))) used' read o') where
       made-args : MadeArgs sig b (arguments sig c) (view .ps) (begin sig (g .pat .k) c ∷ []) (1 + length (patterns-code (view .ps))) used' read o'
       unfolding args-given
       made-args = f (args-given m' q)
 
-      pub head-read : read + 1 ≤ length w
-      head-read = omega (arith, made-args .read-is, size-is, simp length-append at (ap length (g .pat .code-is)))
+      pub head-read : read + own ≤ length w
+      head-read = omega (arith, g .own-is, made-args .read-is, size-is, simp length-append at (ap length (g .pat .code-is)))
 
       rows-are : (d : Bool) → rows-of sig (g .pat .k) d (g .pat .p) ≡ rows-of sig (g .pat .k) d (head c (view .ps))
       rows-are d = ap (rows-of sig (g .pat .k) d) (view .p-is)
@@ -160,9 +166,9 @@ module _ {t : List ℕ} {tag full : ℕ} {w : List ℕ} {b : Bool} {n m : ℕ} (
       plus-list true z = ap words-list (append-nil (appends (begin sig (g .pat .k) c) (arg-words sig (arguments sig c) (args-plus sig (arguments sig c) (view .ps))))) ∙ named-list sig (g .pat .k) c (args-plus sig (arguments sig c) (view .ps))
       plus-list false z = true≢false (sym z)
 
-      pub plus-made : b ≡ true → Made (kinds-of (g .pat .known .sig)) (g .pat .known .sig) (g .pat .k) b (g .pat .p) used' (read + 1) o'
+      pub plus-made : b ≡ true → Made (kinds-of (g .pat .known .sig)) (g .pat .known .sig) (g .pat .k) b (g .pat .p) used' (read + own) o'
       plus-made z = record {
-        read-is = omega (arith, made-args .read-is, size-is);
+        read-is = omega (arith, g .own-is, made-args .read-is, size-is);
         list = subst (λ (l : List ℕ). Product l used' o') (plus-list b z ∙ ap (entries (kinds-of sig) (g .pat .k)) (sym (rows-are b))) (made-args .list);
       }
 
@@ -185,7 +191,7 @@ module _ {t : List ℕ} {tag full : ℕ} {w : List ℕ} {b : Bool} {n m : ℕ} (
       minus-rows false z = refl
 
       pub minus-made : (z : b ≡ false) (rest r m'' : ℕ) (o'' : List ℕ) → m'' ≡ m → ((j : ℕ) → bit rest j ≡ cond (eqb j i) 0 (bit full j))
-          → ((y : GivenOthers used' o' m'') → Product (others-code tag rest ++ words-list (y .vs)) r o'') → Made (kinds-of (g .pat .known .sig)) (g .pat .known .sig) (g .pat .k) b (g .pat .p) r (read + 1) o''
+          → ((y : GivenOthers used' o' m'') → Product (others-code tag rest ++ words-list (y .vs)) r o'') → Made (kinds-of (g .pat .known .sig)) (g .pat .known .sig) (g .pat .k) b (g .pat .p) r (read + own) o''
       unfolding others-given
       minus-made z rest r m'' o'' y h p =
           let K = kinds-of sig in
@@ -200,6 +206,6 @@ module _ {t : List ℕ} {tag full : ℕ} {w : List ℕ} {b : Bool} {n m : ℕ} (
           ∙ sym (each-append (λ r. code K r k) (other-than sig k c) R)
           ∙ ap (entries K k) (sym (rows-are b ∙ minus-rows b z)) in
           record {
-            read-is = omega (arith, made-args .read-is, size-is);
+            read-is = omega (arith, g .own-is, made-args .read-is, size-is);
             list = subst (λ (l : List ℕ). Product l r o'') all (p (others-given z m'' y));
           }

@@ -11,8 +11,8 @@ ghost use Prim.Native.Nat.{ℕ};
 ghost use Rattle.pattern.specs.Given.{Patterned, Opens};
 ghost use Rattle.pattern.specs.Linear.{linear-plus};
 ghost use Rattle.pattern.specs.Linearity.{side-of};
-ghost use Rattle.linearity.specs.Linearity.{Holds, Judged, joint-at, joins, own-vars, var-small};
-ghost use Rattle.pattern.specs.Word.{form-of};
+ghost use Rattle.linearity.specs.Linearity.{Holds, Judged, joint-at, joins, own-vars};
+ghost use Rattle.pattern.specs.Word.{form-of, var-small};
 
 // The set of a part at a side, E or O, and how many words the part takes.
 pub enum Part {

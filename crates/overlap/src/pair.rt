@@ -4,6 +4,7 @@ use cell::cell::join;
 use cell::cell::look;
 use cell::cell::next;
 use cell::cell::opens;
+use sets::set::size;
 ghost use mathlib.Core.Path.{_≡_};
 ghost use Rattle.signature.specs.Lists.{is-some};
 ghost use Rattle.row.specs.Row.{combine};
@@ -21,7 +22,7 @@ pub fn rows_meet(t: &[u16], a: &[u64], b: &[u64]) -> bool
         let p = look(a, x);
         let q = look(b, y);
         let c = join(p, q);
-        if c.allowed == 0 {
+        if size(c.allowed) == 0 {
             return false;
         }
         let w = opens(t, c.tag);

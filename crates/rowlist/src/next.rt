@@ -3,7 +3,9 @@ use crate::grow::append_all;
 use crate::grow::append_each;
 use crate::grow::copy;
 use crate::grow::count;
+use cell::cell::CELL;
 use pattern::limits::PART_WEIGHT;
+use sets::set::size;
 ghost use mathlib.Core.List.{[], _∷_, _++_};
 ghost use mathlib.Core.Bool.{true, false};
 ghost use Prim.Native.Nat.{_≤_};
@@ -32,7 +34,7 @@ fn next_minus(tag: u64, full: u64, lists: &[u64], at: usize, out: &mut [u64]) ->
     requires { ⌜ GivenNextMinus (now lists) at (length (now out)) ⌝ }
     ensures { λ r. ⌜ ((g : GivenNextMinus (now (lists .entry)) at (length (now (out .entry)))) → Product (words-list (next-rows false (tag ∷ (0 ∷ (full ∷ []))) (g .next .left .rows) (g .next .right .rows))) r (now (out .exit))) ⌝ }
 {
-    let wild: [u64; 5] = [3, tag, 0, full, 0];
+    let wild: [u64; 5] = [CELL as u64, tag, 0, full, 0];
     let n = append_each(lists, &wild, out);
     let first = lists[0] as usize;
     let m = append_all(&lists[1..], first, &lists[at..], &mut out[n..]);
@@ -64,10 +66,10 @@ fn other_row(tag: u64, rest: u64, out: &mut [u64]) -> usize
     requires { ⌜ 4 ≤ length (now out) ⌝ }
     ensures { λ r. ⌜ Begins (others-code tag rest) r (now (out .exit)) ⌝ }
 {
-    if rest == 0 {
+    if size(rest) == 0 {
         return 0;
     }
-    out[0] = 3;
+    out[0] = CELL as u64;
     out[1] = tag;
     out[2] = 0;
     out[3] = rest;

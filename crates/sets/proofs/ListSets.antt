@@ -132,12 +132,12 @@ all-but f c hs full rest w l e h = same-bits _ _ (λ i.
     ∙ sym (bit-set-of f i (keep (λ d. not (eqb c d)) hs) (within-keep f (λ d. not (eqb c d)) hs w)))
 
 -- the set of one head
-pub only-one : (f c r : ℕ) → ((i : ℕ) → bit r i ≡ cond (eqb i (c - f)) 1 0) → r ≡ set-of f (c ∷ [])
-only-one f c r h = same-bits _ _ (λ i. h i ∙ go i (eqb i (c - f)) refl ∙ ap (λ (n : ℕ). bit n i) (sym (set-one f c)))
+pub only-one : (f c i r : ℕ) → i ≡ c - f → ((j : ℕ) → bit r j ≡ cond (eqb j i) 1 0) → r ≡ set-of f (c ∷ [])
+only-one f c i r q h = same-bits _ _ (λ j. h j ∙ go j (eqb j i) refl ∙ ap (λ (n : ℕ). bit n j) (ap (λ (n : ℕ). 2 ^ n) q ∙ sym (set-one f c)))
   where
-    go : (i : ℕ) (t : Bool) → eqb i (c - f) ≡ t → cond t 1 0 ≡ bit (2 ^ (c - f)) i
-    go i true e = rw (eqb-eq i (c - f) e) (sym (bit-one-same (c - f)))
-    go i false e = sym (bit-one-other (c - f) i (eqb-ne i (c - f) e))
+    go : (j : ℕ) (t : Bool) → eqb j i ≡ t → cond t 1 0 ≡ bit (2 ^ i) j
+    go j true e = rw (eqb-eq j i e) (sym (bit-one-same i))
+    go j false e = sym (bit-one-other i j (eqb-ne j i e))
 
 -- the members of a set among all
 pub among-all : (m : ℕ) → m < 2 ^ heads-limit → intersection m all-set ≡ m

@@ -7,9 +7,9 @@ use Rattle.signature.proofs.Booleans.{not-true, not-false}
 use Rattle.pattern.specs.Given.{Opens}
 use Rattle.pattern.specs.Linearity.{side-of}
 use Rattle.pattern.specs.Word.{form-of}
-use Rattle.linearity.proofs.LinearSteps.{Left, start, variable-small, part-open, part-le, turn, turn-not, turn-joint, ends-linear}
+use Rattle.linearity.proofs.LinearSteps.{Left, start, part-open, part-le, turn, turn-not, turn-joint, ends-linear}
 use Rattle.pattern.proofs.Opened.{word-there}
-use Rattle.pattern.proofs.ReadSteps.{small}
+use Rattle.pattern.proofs.ReadSteps.{small, variable-small}
 use borrow.Fn.Kinds.{In}
 use borrow.Fn.PlainCycle.{Measures, is, falls, and}
 use Rattle.linearity.proofs.linear.linear_at.Reads as linear-at
