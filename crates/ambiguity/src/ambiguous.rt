@@ -15,8 +15,7 @@ ghost use Rattle.signature.specs.Limits.{argument-limit};
 ghost use Rattle.pattern.specs.Word.{form-of, head-small};
 ghost use Rattle.row.specs.Overlap.{ambiguous-plus};
 ghost use Rattle.ambiguity.specs.Ambiguity.{doubles, taken-twice, kind-behind, own-variable, Judged};
-ghost use Rattle.ambiguity.specs.Parts.{GivenPart};
-ghost use Rattle.builder.specs.Build.{GivenWhole};
+ghost use Rattle.builder.specs.Build.{GivenPart, GivenWhole};
 
 // Whether a part has variables at its side, and how many words it takes; or that it, or a part of it, is ambiguous.
 pub enum Part {

@@ -91,13 +91,13 @@ pub record Made (K : Kinds) (sig : Signature) (k : ℕ) (b : Bool) (p : Pattern)
 pub record GivenPart (t : List ℕ) (k : ℕ) (w : List ℕ) (b : Bool) (n m : ℕ) : Type 0 where
   pub known : Known t
   pub there : k < known .decoded .n
-  pub p : Pattern
+  pub pattern : Pattern
   pub rest : List ℕ
-  pub code-is : w ≡ pattern-code p ++ rest
-  pub well : WellFormed (known .sig) k p
-  pub light : light-of b p ≡ true
-  pub room : room-unit * length (pattern-code p) ≤ n
-  pub work-room : room-unit * length (pattern-code p) ≤ m
+  pub words : w ≡ pattern-code pattern ++ rest
+  pub well : WellFormed (known .sig) k pattern
+  pub light : light-of b pattern ≡ true
+  pub room : room-unit * length (pattern-code pattern) ≤ n
+  pub work-room : room-unit * length (pattern-code pattern) ≤ m
 
 -- ---- a whole pattern, of kind 0, that passed 7 and 9
 -- words of each slice: for a pattern of 64 words

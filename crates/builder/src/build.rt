@@ -283,7 +283,7 @@ fn args(
 // The rows of the part in front of p, of kind k, on one side.
 fn part_rows(t: &[u16], k: usize, p: &[u16], plus: bool, out: &mut [u64], work: &mut [u64]) -> Built
     requires { ⌜ GivenPart (now t) k (now p) plus (length (now out)) (length (now work)) ⌝ }
-    ensures { λ r. ⌜ ((g : GivenPart (now (t .entry)) k (now (p .entry)) plus (length (now (out .entry))) (length (now (work .entry)))) → Made (kinds-of (g .known .sig)) (g .known .sig) k plus (g .p) (r .used) (r .read) (now (out .exit))) ⌝ }
+    ensures { λ r. ⌜ ((g : GivenPart (now (t .entry)) k (now (p .entry)) plus (length (now (out .entry))) (length (now (work .entry)))) → Made (kinds-of (g .known .sig)) (g .known .sig) k plus (g .pattern) (r .used) (r .read) (now (out .exit))) ⌝ }
 {
     let full = full_of(t, k);
     let tag = KIND_TAG + k as u64;

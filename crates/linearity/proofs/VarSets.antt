@@ -7,7 +7,7 @@ use native.Mathlib.Omega.{arith}
 use lib.Dec.{eqb}
 use Rattle.signature.specs.Lists.{memb, all, is-empty}
 use Rattle.sets.specs.Set.{bit}
-use Rattle.signature.proofs.Booleans.{and-left, and-right, not-true}
+use Rattle.signature.proofs.Booleans.{and-left, and-right, not-true, both-ways}
 use Rattle.signature.proofs.ListFacts.{is-all}
 use Rattle.signature.proofs.Members.{memb-append, all-memb, all-of}
 use Rattle.sets.proofs.SetLaws.{bit-zero, no-member}
@@ -79,16 +79,11 @@ apart-is v a b xs ys l h f g = decided (disjoint xs ys) v 0 to back
     back e = test-all (λ x. not (memb x ys)) xs (λ x m. bit-apart (memb x xs) (memb x ys) (sym (bits x) ∙ ap (λ z. bit z x) e ∙ bit-zero x) m)
 
 -- equal sets
-iff-same : (a b : Bool) → (a ≡ true → b ≡ true) → (b ≡ true → a ≡ true) → a ≡ b
-iff-same true b f g = sym (f refl)
-iff-same false true f g = g refl
-iff-same false false f g = refl
-
 pub alike-is : (a b : ℕ) (xs ys : List ℕ) → a < 2 ^ 64 → b < 2 ^ 64 → Holds a xs → Holds b ys → eqb a b ≡ same-set xs ys
 alike-is a b xs ys la lb f g = decided (same-set xs ys) a b to back
   where
     to : same-set xs ys ≡ true → a ≡ b
-    to d = sets.same-set a b la lb (λ x m. f x ∙ ap tick (iff-same (memb x xs) (memb x ys)
+    to d = sets.same-set a b la lb (λ x m. f x ∙ ap tick (both-ways (memb x xs) (memb x ys)
         (all-memb (λ y. memb y ys) x xs (and-left (all (λ y. memb y ys) xs) (all (λ y. memb y xs) ys) d))
         (all-memb (λ y. memb y xs) x ys (and-right (all (λ y. memb y ys) xs) (all (λ y. memb y xs) ys) d))) ∙ sym (g x))
 

@@ -22,7 +22,7 @@ use Rattle.cell.proofs.Walk.{from-is}
 use Rattle.rowlist.specs.Product.{Typed-all}
 use Rattle.rowlist.proofs.Typing.{typed-rows}
 use Rattle.overlap.specs.Lists.{TwoLists}
-use Rattle.overlap.proofs.Laws.{first-kind}
+use Rattle.rowlist.proofs.Kinded.{kind-zero}
 use Rattle.loading.specs.Lists.{rows-by, rows-for, list-for, lists-for, GivenLists}
 
 -- two patterns share a booking where their rows meet
@@ -43,7 +43,7 @@ typed-for {t} g ws = go (read-pattern (g .sig) ws) refl
   where
     go : (o : Option Pattern) → read-pattern (g .sig) ws ≡ o → Typed-all (kinds-of (g .sig)) t 0 (rows-by (g .sig) o)
     go none e = tt
-    go (some p) e = typed-rows g p true 0 (first-kind g) (pattern-words (g .sig) ws p e .well-formed)
+    go (some p) e = typed-rows g p true 0 (kind-zero g) (pattern-words (g .sig) ws p e .well-formed)
 
 module _ {t lists : List ℕ} {n at : ℕ} (g : GivenLists t lists n at) where
   -- j lists are past, the next begins behind the word at i

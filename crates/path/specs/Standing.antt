@@ -10,7 +10,7 @@ use Rattle.signature.specs.Signature.{Signature, heads, arguments}
 use Rattle.row.specs.Row.{Row, Rows, named, free, rnil, rcons, open-rows}
 use Rattle.cell.specs.Cell.{wordss}
 use Rattle.cell.specs.Coded.{Known, kinds-of, cellss}
-use Rattle.sets.specs.Set.{Within, set-of}
+use Rattle.sets.specs.Set.{Within, members}
 use Rattle.tree.specs.Tree.{rappend}
 use Rattle.path.specs.Variables.{Once}
 
@@ -18,9 +18,9 @@ use Rattle.path.specs.Variables.{Once}
 abbrev pub Among : List ℕ → List ℕ → Type 0
 Among cs ds = (c : ℕ) → memb c cs ≡ true → memb c ds ≡ true
 
--- a cell's test: it names a constructor, or excludes one of its kind
+-- a cell's test: it names a constructor, or excludes one of its kind, for its set has not as many members as the kind has heads
 abbrev pub refined-cell : Signature → ℕ → ℕ → ℕ → Bool
-refined-cell sig k tag allowed = ltb tag 256 || not (eqb allowed (set-of (first (heads sig k)) (heads sig k)))
+refined-cell sig k tag allowed = ltb tag 256 || not (eqb (length (members allowed)) (length (heads sig k)))
 
 module _ (sig : Signature) (t : List ℕ) where
   -- a row of kind k whose constructors are of the kinds of their places

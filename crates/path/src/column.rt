@@ -3,9 +3,10 @@ use crate::alive::SET_WORDS;
 use crate::alive::has;
 use crate::alive::put;
 use crate::rows::start_of;
+use cell::cell::CELL;
 use cell::cell::KIND_TAG;
-use sets::set::full;
 use sets::set::has as has_bit;
+use sets::set::size;
 use signature::decoded::count_of;
 use signature::decoded::kind_of;
 ghost use mathlib.Core.Path.{_≡_};
@@ -21,8 +22,6 @@ ghost use Rattle.path.specs.Column.{Seen, Looking, Column, Keeping, RowK
 // What stands for no kind.
 pub const NO_KIND: usize = 32;
 
-const CELL: usize = 3;
-
 // Whether a cell names or excludes a constructor of its kind.
 fn refined(t: &[u16], tag: u64, allowed: u64) -> bool
     requires { ⌜ Seen (now t) tag ⌝ }
@@ -32,7 +31,7 @@ fn refined(t: &[u16], tag: u64, allowed: u64) -> bool
         return true;
     }
     let k = (tag - KIND_TAG) as usize;
-    allowed != full(count_of(t, k) as u32)
+    size(allowed) != count_of(t, k) as u32
 }
 
 // The kind of a cell.

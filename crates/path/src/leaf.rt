@@ -3,6 +3,7 @@ use crate::cursor::CELLS;
 use crate::rows::plan_of;
 use crate::rows::rule_of;
 use crate::rows::start_of;
+use cell::cell::CELL;
 use sets::set::has as has_bit;
 use sets::set::join;
 ghost use mathlib.Core.Path.{_≡_};
@@ -20,8 +21,6 @@ const LEAF: u16 = 1;
 const LEAF_HEAD: usize = 4;
 
 const VARIABLES: u16 = 16;
-
-const CELL: usize = 3;
 
 // The pair of variable x in cell p of row r, where the cell binds it, from a word on: where it ends, or one more than there is room.
 fn one_pair(

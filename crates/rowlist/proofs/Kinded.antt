@@ -4,7 +4,7 @@ use mathlib.Core.Path.{_≡_, refl, ap, _∙_, sym, subst}
 use mathlib.Core.List.{List}
 use mathlib.Core.Option.{some}
 use mathlib.Core.Bool.{Bool, true, false, cond}
-use Prim.Native.Nat.{ℕ, zero, suc, _+_, _≤_, _<_}
+use Prim.Native.Nat.{ℕ, zero, suc, _+_, _-_, _^_, _≤_, _<_}
 use native.Mathlib.Nat.{add-zero}
 use native.Mathlib.Omega.{arith}
 use lib.Dec.{eqb, ltb}
@@ -12,7 +12,7 @@ use lib.ListN.{length}
 use Rattle.signature.specs.Decoded.{Known, count-of}
 use Rattle.signature.specs.Lawful.{KindsRise, rise-end, rise-same, rise-next, KindsStart, start-0}
 use Rattle.signature.specs.Lists.{memb, is-empty, first}
-use Rattle.sets.specs.Set.{bit, set-of, Within}
+use Rattle.sets.specs.Set.{bit, set-of, Within, members}
 use Rattle.signature.specs.Signature.{Signature, heads, arguments-at}
 use Rattle.signature.proofs.Heads.{Consecutive, consecutive-nil, consecutive-cons, consecutive-of, has-head, has-kind, constructor-of}
 use Rattle.signature.proofs.KnownFacts.{words-of, arity-is, is-constructor, few-constructors, long}
@@ -21,6 +21,7 @@ use Rattle.signature.proofs.SignatureBack.{is-kinds}
 use Rattle.signature.proofs.Tests.{some-inj, eqb-self, eqb-no, eqb-eq, true≢false, ltb-yes, ltb-no}
 use Rattle.rowlist.specs.Sides.{Open}
 use Rattle.cell.specs.Coded.{kinds-of, Known as KnownHead}
+use Rattle.sets.proofs.SetLaws.{bit-below, size-below}
 use Rattle.sets.proofs.ListSets.{same-bits, bit-set-of, one-if}
 
 first-run : {f : ℕ} {xs : List ℕ} → Consecutive f xs → is-empty xs ≡ false → first xs ≡ f
@@ -49,6 +50,10 @@ memb-run zero (consecutive-cons {f = f} {xs = xs} r) = rw (add-zero f, eqb-self 
 memb-run (suc i) (consecutive-cons {f = f} {xs = xs} r) =
     let z : f + suc i ≡ suc f + i = omega arith in
     rw (z, eqb-no (suc f + i) f (omega arith)) (memb-run i r ∙ sym (ltb-next i (length xs) (ltb i (length xs)) refl))
+
+-- the heads of a kind are counted by their set
+abbrev pub Sized : Signature → ℕ → Type 0
+Sized sig k = Within (first (heads sig k)) (heads sig k) × (length (members (set-of (first (heads sig k)) (heads sig k))) ≡ length (heads sig k))
 
 rise-some : {k n : ℕ} {cs : Signature} → KindsRise k cs n → 0 < n
 rise-some (rise-end e) = omega (arith, e)
@@ -102,6 +107,13 @@ module _ {t : List ℕ} (g : Known t) where
         one-is : (b : Bool) → cond b 1 0 ≡ one-if b
         one-is true = refl
         one-is false = refl
+
+    -- of which there are as many as heads
+    pub sized-kind : Sized (g .sig) k
+    sized-kind = (
+      within-kind,
+      ap (λ (s : ℕ). length (members s)) (sym (full-set (2 ^ count-of t k - 1) (bit-below (count-of t k)))) ∙ size-below (count-of t k) (omega (arith, g .decoded .head-count k l, few-heads)) ∙ g .decoded .head-count k l,
+    )
 
   pub kind-there : (k c : ℕ) (ks : List ℕ) → arguments-at (g .sig) k c ≡ some ks → k < g .decoded .n
   kind-there k c ks e =

@@ -12,7 +12,7 @@ use lib.Pow.{pow-mono, pow-lt}
 use Rattle.signature.specs.Limits.{heads-limit}
 use Rattle.signature.specs.Lists.{memb, keep}
 use Rattle.signature.proofs.Members.{memb-keep}
-use Rattle.signature.proofs.Tests.{eqb-eq, eqb-ne, eqb-self}
+use Rattle.signature.proofs.Tests.{eqb-eq, eqb-ne, eqb-self, true≢false}
 use Rattle.sets.specs.Set.{bit, all-set, union, intersection, set-of, Within}
 use Rattle.sets.proofs.SetLaws.{bit-zero, bit-and, bit-or, bit-one-same, bit-one-other, bit-ext}
 
@@ -76,6 +76,15 @@ within-keep f g (c ∷ cs) w = go (g c) (within-keep f g cs (w .2))
     go : (b : Bool) → Within f (keep g cs) → Within f (cond b (c ∷ keep g cs) (keep g cs))
     go true i = (w .0, w .1, i)
     go false i = i
+
+-- a head of the list is one of those
+pub within-one : (f d : ℕ) (hs : List ℕ) → Within f hs → memb d hs ≡ true → (f ≤ d) × (d < f + heads-limit)
+within-one f d [] w h = true≢false (sym h)
+within-one f d (c ∷ hs) w h = go (eqb d c) refl (λ q. within-one f d hs (w .2) q)
+  where
+    go : (b : Bool) → eqb d c ≡ b → (memb d hs ≡ true → (f ≤ d) × (d < f + heads-limit)) → (f ≤ d) × (d < f + heads-limit)
+    go true q r = let z = eqb-eq d c q in (omega (arith, z, w .0), omega (arith, z, w .1))
+    go false q r = r (rw q at h)
 
 min-one : (a b : Bool) → min (one-if a) (one-if b) ≡ one-if (a && b)
 min-one true true = refl

@@ -7,7 +7,7 @@ use native.Mathlib.Nat.{pow-suc, add-zero, zero-add, add-suc, suc-add, one-mul}
 use native.Mathlib.Numerals.{one-add}
 use native.Mathlib.Omega.{arith}
 use lib.Arith.{digits-mod, bin-ind}
-use lib.Pow.{pow-pos, pow-lt, shl-exact, shr-shr}
+use lib.Pow.{pow-pos, pow-lt, pow-mono, shl-exact, shr-shr}
 use lib.Bits.{bitAnd, bitOr, and-step, or-step, and-shr, or-shr}
 use lib.Count.{ones, ones-step, trailingZeros, under}
 use lib.Dec.{eqb, ltb}
@@ -254,3 +254,35 @@ size-empty = sym (size-members 0 (pow-pos 64)) ∙ ones-zero
 
 pub size-some : (s n : ℕ) → n ≡ length (members s) → (n ≡ 0 → ⊥) → s ≡ 0 → ⊥
 size-some s n e f z = f (e ∙ ap (λ (m : ℕ). length (members m)) z ∙ size-empty)
+
+-- a set whose members are among those of another has no more of them, and is the other where it has as many
+ones-among : (k a b : ℕ) → a < 2 ^ k → b < 2 ^ k → ((i : ℕ) → bit a i ≤ bit b i) → (ones a ≤ ones b) × (ones a ≡ ones b → a ≡ b)
+unfolding bit
+ones-among zero a b h g f =
+    let x : a ≡ 0 = omega arith in
+    let y : b ≡ 0 = omega arith in
+    rw (x, y) (omega arith, λ e. refl)
+ones-among (suc k) a b h g f =
+    let p : 2 ^ suc k ≡ 2 ^ k * 2 = pow-suc 2 k in
+    let low : a % 2 ≤ b % 2 = f 0 in
+    let rest = ones-among k (a / 2) (b / 2) (omega arith) (omega arith) (λ i. f (suc i)) in
+    let x = ones-step a in
+    let y = ones-step b in (
+      omega (arith, rest .0),
+      λ e. let z : a / 2 ≡ b / 2 = rest .1 (omega (arith, rest .0)) in omega (arith, rest .0, z, ap ones z),
+    )
+
+pub size-among : (a b : ℕ) → a < 2 ^ 64 → b < 2 ^ 64 → ((i : ℕ) → bit a i ≤ bit b i) → length (members a) ≡ length (members b) → a ≡ b
+size-among a b h g f e = ones-among 64 a b h g f .1 (size-members a h ∙ e ∙ sym (size-members b g))
+
+-- there are n numbers below n
+ones-below : (n : ℕ) → ones (2 ^ n - 1) ≡ n
+ones-below zero = ones-zero
+ones-below (suc n) =
+    let p : 2 ^ suc n ≡ 2 ^ n * 2 = pow-suc 2 n in
+    let half : (2 ^ suc n - 1) / 2 ≡ 2 ^ n - 1 = omega (arith, pow-pos n) in
+    let low : (2 ^ suc n - 1) % 2 ≡ 1 = omega (arith, pow-pos n) in
+    ones-step (2 ^ suc n - 1) ∙ rw (half, low, ones-below n)
+
+pub size-below : (n : ℕ) → n ≤ set-limit → length (members (2 ^ n - 1)) ≡ n
+size-below n h = sym (size-members (2 ^ n - 1) (omega (arith, pow-pos n, pow-mono {i = n} {j = 64} h))) ∙ ones-below n

@@ -19,7 +19,6 @@ use Rattle.signature.proofs.ListFacts.{first-of}
 use Rattle.signature.proofs.Members.{all-memb, all-self}
 use Rattle.signature.proofs.Tests.{eqb-self, eqb-eq, true≢false}
 use Rattle.signature.proofs.Values.{length-code, depth-size}
-use Rattle.pattern.specs.Limits.{pattern-limit}
 use Rattle.row.specs.Limits.{place-words}
 use Rattle.row.specs.Row.{Rows, named, free, rnil, rcons}
 use Rattle.row.specs.RowFits.{good-named, good-free, Goods, goods-nil, goods-cons, places-count}
@@ -27,6 +26,7 @@ use Rattle.cell.specs.Cell.{wordss}
 use Rattle.cell.specs.Coded.{kinds-of, cellss, code as row-code}
 use Rattle.cell.specs.Cursor.{opensOf}
 use Rattle.sets.specs.Set.{set-of, Within}
+use Rattle.sets.proofs.ListSets.{within-one}
 use Rattle.cell.specs.RowList.{from}
 use Rattle.cell.proofs.Columns.{three-at}
 use Rattle.cell.proofs.Walk.{from-is, back}
@@ -34,15 +34,6 @@ use Rattle.rowlist.proofs.Kinded.{known-head, kind-there, within-kind}
 use Rattle.overlap.specs.Least.{GivenPlace, Placed}
 use Rattle.witness.specs.Fill.{GivenRow, Taken, Filled}
 use Rattle.witness.proofs.Behind.{_behind_, count, count-places, places-behind, count-behind, goods-behind, count-goods, words-behind, Takens, takens-nil, takens-cons, together, split-values}
-
--- ---- the heads of a kind lie within a set
-within-one : (f d : ℕ) (hs : List ℕ) → Within f hs → memb d hs ≡ true → (f ≤ d) × (d < f + pattern-limit)
-within-one f d [] w h = true≢false (sym h)
-within-one f d (c ∷ hs) w h = go (eqb d c) refl (λ q. within-one f d hs (w .2) q)
-  where
-    go : (b : Bool) → eqb d c ≡ b → (memb d hs ≡ true → (f ≤ d) × (d < f + pattern-limit)) → (f ≤ d) × (d < f + pattern-limit)
-    go true q r = let z = eqb-eq d c q in (omega (arith, z, w .0), omega (arith, z, w .1))
-    go false q r = r (rw q at h)
 
 pub within-all : (f : ℕ) (hs : List ℕ) {cs : List ℕ} → Within f hs → All (λ d. memb d hs ≡ true) cs → Within f cs
 within-all f hs w none-left = tt

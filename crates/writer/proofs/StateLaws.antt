@@ -9,6 +9,7 @@ use native.Mathlib.Omega.{arith}
 use lib.Dec.{eqb}
 use lib.ListN.{length, getD, length-append}
 use Rattle.signature.specs.Lists.{_>>=_, memb, first}
+use Rattle.rowlist.proofs.Kinded.{Sized}
 use Rattle.sets.specs.Set.{bit, Within, set-of}
 use Rattle.signature.specs.Signature.{Signature, heads, arguments}
 use Rattle.sets.proofs.SetLaws.{bit-lt}
@@ -141,7 +142,7 @@ module _ (sig : Signature) (t a rows : List ℕ) (n : ℕ) where
       row-pass ok vis vis′ v r (getD cur r 0) (getD cur′ r 0) k ks l (alive r) (f r) _ (s r l) (λ x e. m r x l e) refl (g .cursor r l) (λ p x. g .others r p l x) (λ x. g .visit r l x)
 
   -- refined, by the cells of the real rows
-  pub row-refined : (vis : List ℕ) (r q k : ℕ) (ks : List ℕ) → Within (first (heads sig k)) (heads sig k) → (b : Bool) (o : Option Line) (e : Bool) (s : Line) → RowIs sig t a rows n b o vis r q (k ∷ ks) → o ≡ some s
+  pub row-refined : (vis : List ℕ) (r q k : ℕ) (ks : List ℕ) → Sized sig k → (b : Bool) (o : Option Line) (e : Bool) (s : Line) → RowIs sig t a rows n b o vis r q (k ∷ ks) → o ≡ some s
       → eqb (own-of rows r q) (suc (length ks)) ≡ e
       → refined sig k (s .cells) ≡ ((b && e) && refined-cell sig k (getD a (cell-of rows r q) 0) (getD a (cell-of rows r q + 2) 0))
   row-refined vis r q k ks z b none e s w i x = none≢some i

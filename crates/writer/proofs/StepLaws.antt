@@ -10,6 +10,7 @@ use borrow.Author.Tests.{lt-ltb, le-ltb}
 use lib.Dec.{eqb}
 use lib.ListN.{length, getD, drop}
 use Rattle.signature.specs.Lists.{memb, first, require, _>>=_}
+use Rattle.rowlist.proofs.Kinded.{Sized}
 use Rattle.sets.specs.Set.{bit, set-of, Within}
 use Rattle.signature.specs.Signature.{Signature, heads, arguments}
 use Rattle.signature.proofs.Heads.{open-refs}
@@ -130,9 +131,9 @@ module _ (sig : Signature) (t : List ℕ) where
   pass-cell a stop at own k ks (named vs d ps) qs rest f g h e s o = true≢false f
   pass-cell a stop at own k ks (free vs cs) qs rest f g h e s o = record { vs = vs; rs = qs; is = refl; vars-are = refl; once = g .3; here = after-free a stop at own k [] ks qs rest vs cs h e s o }
 
-  refined-is : (k : ℕ) (r : Row) (qs : Rows) → Within (first (heads sig k)) (heads sig k) → Good sig t r k → refined sig k (rcons r qs) ≡ refined-cell sig k (row-tag r k) (set-of (first (heads sig k)) (row-heads r))
+  refined-is : (k : ℕ) (r : Row) (qs : Rows) → Sized sig k → Good sig t r k → refined sig k (rcons r qs) ≡ refined-cell sig k (row-tag r k) (set-of (first (heads sig k)) (row-heads r))
   refined-is k (named vs d ps) qs w g = rw (lt-ltb d 256 (g .0 .tag))
-  refined-is k (free vs cs) qs w g = rw (le-ltb (256 + k) 256 (omega arith)) (ap not (sym (full-is (first (heads sig k)) cs (heads sig k) (g .1) w (g .2))))
+  refined-is k (free vs cs) qs w g = rw (le-ltb (256 + k) 256 (omega arith)) (ap not (sym (full-is (first (heads sig k)) cs (heads sig k) (g .1) (w .0) (g .2) (w .1))))
 
   tag-is : (k : ℕ) (r : Row) → Good sig t r k → (row-tag r k ≡ 256 + k) ⊎ (memb (row-tag r k) (heads sig k) ≡ true)
   tag-is k (named vs d ps) g = inr (g .1)
@@ -164,7 +165,7 @@ module _ (sig : Signature) (t : List ℕ) where
         let e = its-cell a stop at k ks rs w in
         rw (w .is, e .vars) (pass-cell a stop at own k ks (w .r) (w .qs) (w .rest) (ap (refined sig k) (sym (w .is)) ∙ f) (w .good) (w .goods) (w .code-is) (w .ends) o)
 
-    pub real-refined : Within (first (heads sig k)) (heads sig k) → refined sig k rs ≡ refined-cell sig k (getD a at 0) (getD a (at + 2) 0)
+    pub real-refined : Sized sig k → refined sig k rs ≡ refined-cell sig k (getD a at 0) (getD a (at + 2) 0)
     real-refined z =
         let w = real in
         let e = its-cell a stop at k ks rs w in
