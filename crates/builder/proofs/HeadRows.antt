@@ -22,7 +22,7 @@ use Rattle.pattern.specs.Pattern.{Pattern, head, and, or, wild, absurd-pat, neg
 use Rattle.pattern.specs.Weight.{product-plus, sum-minus, light-all-plus, light-all-minus}
 use Rattle.pattern.specs.WellFormed.{WellFormed, AllWellFormed, well-head}
 use Rattle.pattern.proofs.Opened.{shape}
-use Rattle.cell.specs.Coded.{kinds-of, code}
+use Rattle.cell.specs.Coded.{kinds-of, row-code}
 use Rattle.cell.specs.RowList.{from, entries}
 use Rattle.sets.proofs.ListSets.{all-but, only-one, set-nil, set-some, within-keep}
 use Rattle.cell.proofs.Walk.{each-append}
@@ -33,7 +33,7 @@ use Rattle.rowlist.specs.Product.{Product}
 use Rattle.rowlist.specs.Sides.{rows-of}
 use Rattle.rowlist.proofs.Kinded.{known-head, kinds-same}
 use Rattle.rowlist.proofs.Typing.{args-there}
-use Rattle.builder.specs.Arguments.{GivenArgs, MadeArgs, HasFirst, few-begun, lights-of, row-words, arg-words, open-words, behind}
+use Rattle.builder.specs.Arguments.{GivenArgs, MadeArgs, HasFirst, few-begun, lights-of, words-of-rows, arg-words, open-words, behind}
 use Rattle.builder.specs.Build.{light-of, step-of, GivenHead, Made}
 use Rattle.builder.specs.declared.build.Step.the-variants.{Head}
 use Rattle.builder.proofs.Behind.{list-words}
@@ -56,9 +56,9 @@ light-head false c ps l = (and-right (leb (suc (sum-minus ps)) 64) (light-all-mi
 head-of : (sig : Signature) (k : ℕ) (p : Pattern) (b : Bool) (c : ℕ) → WellFormed sig k p → light-of b p ≡ true → step-of (shape p) b ≡ Head c → HeadOf sig k p b c
 head-of sig k (head d ps) b c (well-head {ks = ks} i e h) l w =
     subst (HeadOf sig k (head d ps) b) (ap head-number w) (
-      let q = args-same sig k d ks e in
-      let y = light-head b d ps l in
-      record { ps = ps; p-is = refl; inside = e ∙ ap some (sym q); wells = subst (λ (js : List ℕ). AllWellFormed sig js ps) (sym q) h; light = y .0; few = y .1 })
+    let q = args-same sig k d ks e in
+    let y = light-head b d ps l in
+    record { ps = ps; p-is = refl; inside = e ∙ ap some (sym q); wells = subst (λ (js : List ℕ). AllWellFormed sig js ps) (sym q) h; light = y .0; few = y .1 })
 head-of sig k (and p q) true c h l w = other-step w (λ z. omega (arith, z))
 head-of sig k (and p q) false c h l w = other-step w (λ z. omega (arith, z))
 head-of sig k (or p q) true c h l w = other-step w (λ z. omega (arith, z))
@@ -80,9 +80,9 @@ module _ (sig : Signature) (k c : ℕ) where
   abbrev pub begin : List ℕ
   begin = c ∷ (set-of 0 [] ∷ (set-of (kinds-of sig .first k) (c ∷ []) ∷ []))
 
-  named-words : (rss : List Rows) → appends begin (arg-words sig (arguments sig c) rss) ≡ row-words sig k (map (named [] c) rss)
+  named-words : (rss : List Rows) → appends begin (arg-words sig (arguments sig c) rss) ≡ words-of-rows sig k (map (named [] c) rss)
   named-words [] = refl
-  named-words (rs ∷ rss) = ap (λ (l : List (List ℕ)). code (kinds-of sig) (named [] c rs) k ∷ l) (named-words rss)
+  named-words (rs ∷ rss) = ap (λ (l : List (List ℕ)). row-code (kinds-of sig) (named [] c rs) k ∷ l) (named-words rss)
 
   pub named-list : (rss : List Rows) → words-list (appends begin (arg-words sig (arguments sig c) rss)) ≡ entries (kinds-of sig) k (map (named [] c) rss)
   named-list rss = ap words-list (named-words rss) ∙ list-words (kinds-of sig) k (map (named [] c) rss)
@@ -203,7 +203,7 @@ module _ {t : List ℕ} {tag full c own : ℕ} {w : List ℕ} {b : Bool} {n m : 
           let one : others-code tag rest ≡ entries K k (other-than sig k c) = ap (λ (a : ℕ). others-code a rest) (g .pat .opened .tag-is) ∙ other-list sig k c rest (g .pat .opened .within) set in
           let all : others-code tag rest ++ words-list (others-given z m'' y .vs) ≡ entries K k (rows-of sig k b (g .pat .p)) =
           ap₂ (λ (a b : List ℕ). a ++ b) one (named-list sig k c (args-minus sig (arguments sig c) (view .ps)))
-          ∙ sym (each-append (λ r. code K r k) (other-than sig k c) R)
+          ∙ sym (each-append (λ r. row-code K r k) (other-than sig k c) R)
           ∙ ap (entries K k) (sym (rows-are b ∙ minus-rows b z)) in
           record {
             read-is = omega (arith, g .own-is, made-args .read-is, size-is);

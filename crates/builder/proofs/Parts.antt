@@ -15,10 +15,10 @@ use Rattle.builder.specs.Build.{GivenPat, Made, step-of}
 use Rattle.builder.specs.declared.build.Step.{Step}
 use Rattle.builder.specs.declared.build.Step.the-variants.{Multiply, Add, One, Nothing, Swap}
 use Rattle.rowlist.specs.Sides.{rows-of}
-use Rattle.cell.specs.Coded.{code, kinds-of}
+use Rattle.cell.specs.Coded.{row-code, kinds-of}
 use Rattle.rowlist.specs.Product.{Product, GivenProduct, products}
 use Rattle.row.specs.Row.{Row}
-use Rattle.cell.specs.RowList.{from, Begins, entries, list-code}
+use Rattle.cell.specs.RowList.{from, WrittenFirst, entries, list-code}
 use Rattle.builder.proofs.Building.{Negated, negated, Leaf, one-of, none-of, Two, Multiplied, multiplied, Added, added}
 use Rattle.builder.proofs.Rooms.{list-small, all-small, rows-places}
 use Rattle.rowlist.proofs.Typing.{typed-rows}
@@ -44,7 +44,7 @@ pub stepped : {f : Form} {r s : Step} (w : List ℕ) (b : Bool) → f ≡ form (
 stepped w b e h q = ap (λ (f : Form). step-of f b) (sym e) ∙ sym h ∙ q
 
 -- a list in front
-pub in-front : (w o : List ℕ) (n : ℕ) → Product w n o → (n + 1 ≤ length o) × (o ≡ (w ++ (0 ∷ [])) ++ drop (n + 1) o) × Begins (w ++ (0 ∷ [])) (n + 1) o
+pub in-front : (w o : List ℕ) (n : ℕ) → Product w n o → (n + 1 ≤ length o) × (o ≡ (w ++ (0 ∷ [])) ++ drop (n + 1) o) × WrittenFirst (w ++ (0 ∷ [])) (n + 1) o
 in-front w o n p =
     let l : length (w ++ (0 ∷ [])) ≡ n + 1 = simp length-append (omega (arith, p .size)) in (
       omega (arith, length-take (n + 1) o, ap length (p .list)),
@@ -209,12 +209,12 @@ module _ {ar : List ℕ} {tag full : ℕ} {w : List ℕ} {b : Bool} {n m : ℕ} 
           kind = g .k;
           rs = rows-of (g .known .sig) (g .k) b (mult-two g h own own-is .q);
           ss = rows-of (g .known .sig) (g .k) b (mult-two g h own own-is .r);
-          restX = ys ++ drop (length o - (used + 1)) (drop (used + 1) o);
-          restY = drop (used' + 1) ys ++ drop (length o - (used + 1)) (drop (used + 1) o);
-          codeX = ap (λ (z : List ℕ). z ++ (ys ++ drop (length o - (used + 1)) (drop (used + 1) o))) front-kept;
-          codeY = behind ∙ ap (λ (z : List ℕ). z ++ drop (length o - (used + 1)) (drop (used + 1) o)) (in-front _ ys used' (mult-made-second .list) .1) ∙ append-assoc (list-code (kinds-of (g .known .sig)) (g .k) (rows-of (g .known .sig) (g .k) b (mult-two g h own own-is .r))) (drop (used' + 1) ys) (drop (length o - (used + 1)) (drop (used + 1) o));
-          typedR = typed-rows (g .known) (mult-two g h own own-is .q) b (g .k) (g .there) (mult-two g h own own-is .well .0);
-          typedS = typed-rows (g .known) (mult-two g h own own-is .r) b (g .k) (g .there) (mult-two g h own own-is .well .1);
+          rest-x = ys ++ drop (length o - (used + 1)) (drop (used + 1) o);
+          rest-y = drop (used' + 1) ys ++ drop (length o - (used + 1)) (drop (used + 1) o);
+          code-x = ap (λ (z : List ℕ). z ++ (ys ++ drop (length o - (used + 1)) (drop (used + 1) o))) front-kept;
+          code-y = behind ∙ ap (λ (z : List ℕ). z ++ drop (length o - (used + 1)) (drop (used + 1) o)) (in-front _ ys used' (mult-made-second .list) .1) ∙ append-assoc (list-code (kinds-of (g .known .sig)) (g .k) (rows-of (g .known .sig) (g .k) b (mult-two g h own own-is .r))) (drop (used' + 1) ys) (drop (length o - (used + 1)) (drop (used + 1) o));
+          typed-r = typed-rows (g .known) (mult-two g h own own-is .q) b (g .k) (g .there) (mult-two g h own own-is .well .0);
+          typed-s = typed-rows (g .known) (mult-two g h own own-is .r) b (g .k) (g .there) (mult-two g h own own-is .well .1);
           room = omega (arith, j, g .room, mult-length g h own own-is, all-small (kinds-of (g .known .sig)) (g .k) (length (pattern-code (mult-two g h own own-is .q))) (length (pattern-code (mult-two g h own own-is .r))) (rows-of (g .known .sig) (g .k) b (mult-two g h own own-is .q)) (rows-of (g .known .sig) (g .k) b (mult-two g h own own-is .r)) (rows-places (g .known .sig) (g .k) (mult-two g h own own-is .q) b (mult-two g h own own-is .well .0)) (rows-places (g .known .sig) (g .k) (mult-two g h own own-is .r) b (mult-two g h own own-is .well .1)) (mult-view g h own own-is .few));
         }
 
@@ -307,7 +307,7 @@ module _ {ar : List ℕ} {tag full : ℕ} {w : List ℕ} {b : Bool} {n m : ℕ} 
             let B = entries (kinds-of (g .known .sig)) (g .k) (rows-of (g .known .sig) (g .k) b (add-two g h own own-is .r)) in
             let one : take used o ≡ A = sym (take-take used (used + 1) o (omega arith)) ∙ ap (take used) (add-made-first g h own own-is used read o f .list .list) ∙ take-at A (0 ∷ []) used (sym (add-made-first g h own own-is used read o f .list .size)) in
             let two = part-back o ys A (B ++ (0 ∷ [])) (drop (length o - used) (drop used o)) used (used' + 1) (omega (arith, add-bounds g h own own-is used read o f .1)) one (in-front _ ys used' (add-made-second .list) .2) in
-            let rows = ap (entries (kinds-of (g .known .sig)) (g .k)) (add-view g h own own-is .rows-is) ∙ each-append (λ r. code (kinds-of (g .known .sig)) r (g .k)) (rows-of (g .known .sig) (g .k) b (add-two g h own own-is .q)) (rows-of (g .known .sig) (g .k) b (add-two g h own own-is .r)) in
+            let rows = ap (entries (kinds-of (g .known .sig)) (g .k)) (add-view g h own own-is .rows-is) ∙ each-append (λ r. row-code (kinds-of (g .known .sig)) r (g .k)) (rows-of (g .known .sig) (g .k) b (add-two g h own own-is .q)) (rows-of (g .known .sig) (g .k) b (add-two g h own own-is .r)) in
             record {
               read-is = let c = ap length (add-two g h own own-is .code-is) in omega (arith, add-made-first g h own own-is used read o f .read-is, add-made-second .read-is, simp length-append at c);
               list = rw rows (record {

@@ -15,7 +15,7 @@ use Rattle.pattern.specs.Word.{own-words}
 use Rattle.sets.specs.Set.{set-of}
 use Rattle.builder.specs.declared.build.Step.{Step}
 use Rattle.builder.specs.declared.build.Step.the-variants.{Head, Multiply, Add, One, Nothing, Swap}
-use Rattle.cell.specs.Cell.{Kinds}
+use Rattle.cell.specs.Cell.{Kinds, cell-width}
 use Rattle.cell.specs.Coded.{kinds-of}
 use Rattle.rowlist.specs.Product.{Product}
 use Rattle.rowlist.specs.Sides.{rows-of, Open}
@@ -46,11 +46,7 @@ step-of (is-var x) true = One (set-of 0 (x ∷ []))
 step-of (is-var x) false = Nothing
 step-of is-other b = Nothing
 
--- ---- the pattern in front of the words, and room for what is built
--- how many words the list of rows has without its end
-abbrev pub used-by : Kinds → Signature → ℕ → Bool → Pattern → ℕ
-used-by K sig k b p = length (entries K k (rows-of sig k b p))
-
+-- the pattern in front of the words, and room for what is built
 pub record GivenPat (t : List ℕ) (tag full : ℕ) (w : List ℕ) (b : Bool) (n m : ℕ) : Type 0 where
   pub known : Known t
   pub k : ℕ
@@ -87,7 +83,7 @@ pub record Made (K : Kinds) (sig : Signature) (k : ℕ) (b : Bool) (p : Pattern)
   pub read-is : read ≡ length (pattern-code p)
   pub list : Product (entries K k (rows-of sig k b p)) used o
 
--- ---- a part, of kind k on the side b, in front of the words
+-- a part, of kind k on the side b, in front of the words
 pub record GivenPart (t : List ℕ) (k : ℕ) (w : List ℕ) (b : Bool) (n m : ℕ) : Type 0 where
   pub known : Known t
   pub there : k < known .decoded .n
@@ -99,7 +95,7 @@ pub record GivenPart (t : List ℕ) (k : ℕ) (w : List ℕ) (b : Bool) (n m : �
   pub room : room-unit * length (pattern-code pattern) ≤ n
   pub work-room : room-unit * length (pattern-code pattern) ≤ m
 
--- ---- a whole pattern, of kind 0, that passed 7 and 9
+-- a whole pattern, of kind 0, that passed 7 and 9
 -- words of each slice: for a pattern of 64 words
 abbrev pub row-room : ℕ
 row-room = pattern-limit * room-unit
@@ -117,4 +113,4 @@ pub record RowsFirst (sig : Signature) (p : Pattern) (n : ℕ) (o : List ℕ) : 
   pub rest : List ℕ
   pub code-is : o ≡ list-code (kinds-of sig) 0 (rows-plus sig 0 p) ++ rest
   pub size : n + 1 ≡ length (list-code (kinds-of sig) 0 (rows-plus sig 0 p))
-  pub small : n ≤ weight-plus p * (1 + 3 * pattern-limit)
+  pub small : n ≤ weight-plus p * (1 + cell-width * pattern-limit)

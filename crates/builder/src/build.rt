@@ -22,10 +22,11 @@ ghost use Prim.Native.Nat.{ℕ, _+_, _-_, _≤_, _<_};
 ghost use lib.Dec.{ltb};
 ghost use lib.ListN.{length};
 ghost use Rattle.signature.specs.Decoded.{decoded-length, count-of, first-of};
-ghost use Rattle.signature.specs.Limits.{kind-limit};
-ghost use Rattle.sets.specs.Set.{set-limit, bit};
+ghost use Rattle.signature.specs.Limits.{kind-limit, heads-limit};
+ghost use Rattle.sets.specs.Set.{bit};
 ghost use Rattle.pattern.specs.Pattern.{patterns-code};
 ghost use Rattle.pattern.specs.Word.{form-of, var-small};
+ghost use Rattle.cell.specs.Cell.{cell-width, kind-tag};
 ghost use Rattle.cell.specs.Coded.{kinds-of};
 ghost use Rattle.cell.specs.RowList.{entries, from};
 ghost use Rattle.rowlist.specs.Product.{GivenProduct, Product, products};
@@ -45,7 +46,7 @@ pub enum Step {
 // A list of one row of one cell.
 fn one(tag: u64, vars: u64, full: u64, out: &mut [u64]) -> usize
     requires { ⌜ 5 ≤ length (now out) ⌝ }
-    ensures { λ r. ⌜ Product (3 ∷ (tag ∷ (vars ∷ (full ∷ [])))) r (now (out .exit)) ⌝ }
+    ensures { λ r. ⌜ Product (cell-width ∷ (tag ∷ (vars ∷ (full ∷ [])))) r (now (out .exit)) ⌝ }
 {
     out[0] = CELL as u64;
     out[1] = tag;
@@ -116,7 +117,7 @@ fn times(t: &[u16], lists: &[u64], at: usize, out: &mut [u64]) -> usize
 
 // The set of all heads of a kind.
 fn full_of(t: &[u16], k: usize) -> u64
-    requires { ⌜ (length (now t) ≡ decoded-length) × (k < kind-limit) × (count-of (now t) k ≤ set-limit) ⌝ }
+    requires { ⌜ (length (now t) ≡ decoded-length) × (k < kind-limit) × (count-of (now t) k ≤ heads-limit) ⌝ }
     ensures { λ r. ⌜ ((j : ℕ) → bit r j ≡ cond (ltb j (count-of (now (t .entry)) k)) 1 0) ⌝ }
 {
     full(count_of(t, k) as u32)
@@ -124,8 +125,8 @@ fn full_of(t: &[u16], k: usize) -> u64
 
 // A constructor's place among the heads of the kind whose tag is given.
 fn place_of(t: &[u16], tag: u64, c: usize) -> u32
-    requires { ⌜ (length (now t) ≡ decoded-length) × (256 ≤ tag) × (tag < 256 + kind-limit) × (first-of (now t) (tag - 256) ≤ c) × (c < first-of (now t) (tag - 256) + set-limit) ⌝ }
-    ensures { λ r. ⌜ (r ≡ c - first-of (now (t .entry)) (tag - 256)) × (r < set-limit) ⌝ }
+    requires { ⌜ (length (now t) ≡ decoded-length) × (kind-tag ≤ tag) × (tag < kind-tag + kind-limit) × (first-of (now t) (tag - kind-tag) ≤ c) × (c < first-of (now t) (tag - kind-tag) + heads-limit) ⌝ }
+    ensures { λ r. ⌜ (r ≡ c - first-of (now (t .entry)) (tag - kind-tag)) × (r < heads-limit) ⌝ }
 {
     let k = (tag - KIND_TAG) as usize;
     let f = first_of(t, k) as usize;

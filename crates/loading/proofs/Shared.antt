@@ -105,12 +105,12 @@ module _ {t lists : List ℕ} {n at : ℕ} (g : GivenLists t lists n at) where
         kind = 0;
         rs = rows-for (g .known .sig) (next .us);
         ss = rows-for (g .known .sig) (g .ws);
-        restX = lists-for (g .known .sig) (next .others) ++ g .rest;
-        restY = g .rest′;
-        codeX = from-is lists (i + 1) ∙ behind;
-        codeY = g .last;
-        typedR = typed-for (g .known) (next .us);
-        typedS = typed-for (g .known) (g .ws);
+        rest-x = lists-for (g .known .sig) (next .others) ++ g .rest;
+        rest-y = g .rest′;
+        code-x = from-is lists (i + 1) ∙ behind;
+        code-y = g .last;
+        typed-r = typed-for (g .known) (next .us);
+        typed-s = typed-for (g .known) (g .ws);
       }
 
       module _ (r : Bool) (gave : (q : TwoLists t (from lists (i + 1)) (from lists at)) → r ≡ not (is-empty (somes (each combine (q .rs) (q .ss))))) where

@@ -17,12 +17,12 @@ as-lists g = record {
   kind = 0;
   rs = rows-plus (g .known .sig) 0 (g .p);
   ss = rows-plus (g .known .sig) 0 (g .q);
-  restX = g .restX;
-  restY = g .restY;
-  codeX = g .codeX;
-  codeY = g .codeY;
-  typedR = typed-rows (g .known) (g .p) true 0 (kind-zero (g .known)) (g .words-p .well-formed);
-  typedS = typed-rows (g .known) (g .q) true 0 (kind-zero (g .known)) (g .words-q .well-formed);
+  rest-x = g .rest-x;
+  rest-y = g .rest-y;
+  code-x = g .code-x;
+  code-y = g .code-y;
+  typed-r = typed-rows (g .known) (g .p) true 0 (kind-zero (g .known)) (g .words-p .well-formed);
+  typed-s = typed-rows (g .known) (g .q) true 0 (kind-zero (g .known)) (g .words-q .well-formed);
 }
 
 pub laws : Laws

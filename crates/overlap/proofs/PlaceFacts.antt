@@ -19,7 +19,7 @@ use Rattle.signature.proofs.Tests.{true≢false}
 use Rattle.rowlist.proofs.Kinded.{kinds-same}
 use Rattle.sets.proofs.ListSets.{bit-set-of, one-if, set-some}
 use Rattle.rowlist.proofs.Typing.{args-there}
-use Rattle.overlap.specs.Least.{GivenHead, Written, GivenPlace, Placed, fewest}
+use Rattle.overlap.specs.Least.{GivenHead, Written, GivenPlace, ValueWritten, fewest}
 use Rattle.overlap.proofs.LeastFacts.{fewest-cons}
 
 -- at most 6 words an argument
@@ -65,7 +65,7 @@ module _ {t : List ℕ} {k allowed : ℕ} {o : List ℕ} (g : GivenPlace t k all
         let q = kind-of-head (g .known .sig) k c (g .of-kind-k c allowed-head) in
         record { known = g .known; kind = k; ks = q .0; is = q .1; room = omega (arith, args-few (q .0) (q .1), g .room) }
 
-    pub placed : (n : ℕ) (o' : List ℕ) → ((q : GivenHead t c o) → Written q n o') → Placed g n o'
+    pub placed : (n : ℕ) (o' : List ℕ) → ((q : GivenHead t c o) → Written q n o') → ValueWritten g n o'
     unfolding head-given
     placed n o' f =
         let W = f head-given in

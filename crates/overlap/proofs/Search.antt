@@ -9,7 +9,7 @@ use lib.ListN.{length, drop, length-drop, getD, length-append}
 use lib.Seq.{drop-drop, drop-at}
 use Rattle.signature.specs.Lists.{In, in-here, in-there, any, is-some, is-empty, somes}
 use Rattle.cell.specs.Cell.{Kinds}
-use Rattle.cell.specs.Coded.{code, Typed}
+use Rattle.cell.specs.Coded.{row-code, Typed}
 use Rattle.rowlist.specs.Product.{Typed-all, ones}
 use Rattle.row.specs.Row.{Row, combine, each}
 use Rattle.cell.specs.RowList.{list-code, entries, from}
@@ -44,7 +44,7 @@ pub record Head {ar y : List ℕ} (g : Task ar y) (at : ℕ) (s : Row) : Type 0 
   pub rest : List ℕ
   pub typed : Typed (g .K) ar s (g .kind)
   pub member : In s (g .rows)
-  pub code-is : from y (at + 1) ≡ code (g .K) s (g .kind) ++ rest
+  pub code-is : from y (at + 1) ≡ row-code (g .K) s (g .kind) ++ rest
 
 module _ {ar y : List ℕ} (g : Task ar y) (at : ℕ) where
   there-at : (todo : List Row) → Mid g at todo → at < length y
@@ -61,7 +61,7 @@ module _ {ar y : List ℕ} (g : Task ar y) (at : ℕ) where
   pub end : Now g at → getD y at 0 ≤ 0 → any (g .test) (g .rows) ≡ false
   end m z = end-at (m .0) (m .1) z
 
-  next-row : (s : Row) (todo : List Row) → Mid g at (s ∷ todo) → drop (at + 1) y ≡ code (g .K) s (g .kind) ++ (list-code (g .K) (g .kind) todo ++ g .rest)
+  next-row : (s : Row) (todo : List Row) → Mid g at (s ∷ todo) → drop (at + 1) y ≡ row-code (g .K) s (g .kind) ++ (list-code (g .K) (g .kind) todo ++ g .rest)
   next-row s todo m = word-at y at _ _ (m .code-is) .2 ∙ (simp append-assoc)
 
   head-at : (s : Row) (todo : List Row) → Mid g at (s ∷ todo) → Head g at s
@@ -91,13 +91,13 @@ module _ {ar y : List ℕ} (g : Task ar y) (at : ℕ) where
   past-at : (todo : List Row) → Mid g at todo → 0 < getD y at 0 → ((s : Row) → Head g at s → false ≡ g .test s) → Now g (at + 1 + getD y at 0) × (at + 1 + getD y at 0 ≤ length y)
   past-at [] m h f = absurd (omega (arith, word-at y at 0 (g .rest) (m .code-is) .0))
   past-at (s ∷ todo) m h f =
-      let len : getD y at 0 ≡ length (code (g .K) s (g .kind)) = word-at y at _ _ (m .code-is) .0 in
+      let len : getD y at 0 ≡ length (row-code (g .K) s (g .kind)) = word-at y at _ _ (m .code-is) .0 in
       let there : at < length y = word-at y at _ _ (m .code-is) .1 in
       let nr = next-row s todo m in (
         (
           todo,
           record {
-            code-is = sym (drop-drop (getD y at 0) (at + 1) y) ∙ ap (drop (getD y at 0)) nr ∙ drop-at (code (g .K) s (g .kind)) (list-code (g .K) (g .kind) todo ++ g .rest) (getD y at 0) (sym len);
+            code-is = sym (drop-drop (getD y at 0) (at + 1) y) ∙ ap (drop (getD y at 0)) nr ∙ drop-at (row-code (g .K) s (g .kind)) (list-code (g .K) (g .kind) todo ++ g .rest) (getD y at 0) (sym len);
             typed = m .typed .1;
             same = m .same ∙ ap (λ (b : Bool). b || any (g .test) todo) (sym (f s (head-at s todo m)));
             members = λ q i. m .members q (in-there i);
@@ -109,7 +109,7 @@ module _ {ar y : List ℕ} (g : Task ar y) (at : ℕ) where
   pub past : Now g at → 0 < getD y at 0 → ((s : Row) → Head g at s → false ≡ g .test s) → Now g (at + 1 + getD y at 0) × (at + 1 + getD y at 0 ≤ length y)
   past m h f = past-at (m .0) (m .1) h f
 
--- ---- the two tests
+-- the two tests
 pub any-ones : (r : Row) (ss : List Row) → any (λ s. is-some (combine r s)) ss ≡ not (is-empty (ones r ss))
 any-ones r [] = refl
 any-ones r (s ∷ ss) = go (combine r s) (any-ones r ss)
@@ -128,15 +128,15 @@ any-each [] ss = refl
 any-each (r ∷ rs) ss = ap (λ (b : Bool). not (is-empty (ones r ss)) || b) (any-each rs ss) ∙ empty-append (map (combine r) ss) (each combine rs ss)
 
 unfoldable pub row-task : {ar x y : List ℕ} → RowByList ar x y → Task ar y
-row-task g = record { K = g .K; kind = g .kind; rows = g .ss; rest = g .restY; code-is = g .codeY; typed = g .typedS; test = λ s. is-some (combine (g .r) s) }
+row-task g = record { K = g .K; kind = g .kind; rows = g .ss; rest = g .rest-y; code-is = g .code-y; typed = g .typed-s; test = λ s. is-some (combine (g .r) s) }
 
 unfoldable pub list-task : {ar x y : List ℕ} → TwoLists ar x y → Task ar x
-list-task g = record { K = g .K; kind = g .kind; rows = g .rs; rest = g .restX; code-is = g .codeX; typed = g .typedR; test = λ r. not (is-empty (ones r (g .ss))) }
+list-task g = record { K = g .K; kind = g .kind; rows = g .rs; rest = g .rest-x; code-is = g .code-x; typed = g .typed-r; test = λ r. not (is-empty (ones r (g .ss))) }
 
 module _ {ar x y : List ℕ} (g : RowByList ar x y) (at : ℕ) where
   unfoldable two-rows : (s : Row) → Head (row-task g) at s → TwoRows ar x (from y (at + 1))
   unfolding row-task
-  two-rows s h = record { K = g .K; kind = g .kind; r = g .r; s = s; restA = g .restX; restB = h .rest; codeA = g .codeX; codeB = h .code-is; typedR = g .typedR; typedS = h .typed }
+  two-rows s h = record { K = g .K; kind = g .kind; r = g .r; s = s; rest-a = g .rest-x; rest-b = h .rest; code-a = g .code-x; code-b = h .code-is; typed-r = g .typed-r; typed-s = h .typed }
 
   module _ (m : Now (row-task g) at) where
     pub given1 : 0 < getD y at 0 → TwoRows ar x (from y (at + 1))
@@ -157,7 +157,7 @@ module _ {ar x y : List ℕ} (g : RowByList ar x y) (at : ℕ) where
 module _ {ar x y : List ℕ} (g : TwoLists ar x y) (at : ℕ) where
   unfoldable row-by-list : (r : Row) → Head (list-task g) at r → RowByList ar (from x (at + 1)) y
   unfolding list-task
-  row-by-list r h = record { K = g .K; kind = g .kind; r = r; ss = g .ss; restX = h .rest; restY = g .restY; codeX = h .code-is; codeY = g .codeY; typedR = h .typed; typedS = g .typedS }
+  row-by-list r h = record { K = g .K; kind = g .kind; r = r; ss = g .ss; rest-x = h .rest; rest-y = g .rest-y; code-x = h .code-is; code-y = g .code-y; typed-r = h .typed; typed-s = g .typed-s }
 
   module _ (m : Now (list-task g) at) where
     pub given2 : 0 < getD x at 0 → RowByList ar (from x (at + 1)) y

@@ -47,7 +47,7 @@ pub record GivenPlace (t : List ℕ) (k allowed : ℕ) (o : List ℕ) : Type 0 w
   pub room : place-words ≤ length o
 
 -- a value under an allowed head is written in front, and nothing else
-pub record Placed {t : List ℕ} {k allowed : ℕ} {o : List ℕ} (g : GivenPlace t k allowed o) (n : ℕ) (o' : List ℕ) : Type 0 where
+pub record ValueWritten {t : List ℕ} {k allowed : ℕ} {o : List ℕ} (g : GivenPlace t k allowed o) (n : ℕ) (o' : List ℕ) : Type 0 where
   pub c : ℕ
   pub vs : Values
   pub may : memb c (g .cs) ≡ true

@@ -15,8 +15,14 @@ pub fn rows_meet(t: &[u16], a: &[u64], b: &[u64]) -> bool
     requires { ⌜ TwoRows (now t) (now a) (now b) ⌝ }
     ensures { λ r. ⌜ ((g : TwoRows (now (t .entry)) (now (a .entry)) (now (b .entry))) → r ≡ is-some (combine (g .r) (g .s))) ⌝ }
 {
-    let mut x = Cursor { at: 0, virt: 0 };
-    let mut y = Cursor { at: 0, virt: 0 };
+    let mut x = Cursor {
+        at: 0,
+        wildcards: 0,
+    };
+    let mut y = Cursor {
+        at: 0,
+        wildcards: 0,
+    };
     let mut left = 1;
     while left > 0 {
         let p = look(a, x);

@@ -8,8 +8,8 @@ use lib.ListN.{length, drop}
 use Rattle.signature.specs.Lists.{memb, first}
 use Rattle.signature.specs.Signature.{Signature, heads, arguments}
 use Rattle.row.specs.Row.{Row, Rows, named, free, rnil, rcons, open-rows}
-use Rattle.cell.specs.Cell.{wordss}
-use Rattle.cell.specs.Coded.{Known, kinds-of, cellss}
+use Rattle.cell.specs.Cell.{all-words}
+use Rattle.cell.specs.Coded.{HeadOfKind, kinds-of, all-cells}
 use Rattle.sets.specs.Set.{Within, members}
 use Rattle.tree.specs.Tree.{rappend}
 use Rattle.path.specs.Variables.{Once}
@@ -26,7 +26,7 @@ module _ (sig : Signature) (t : List ℕ) where
   -- a row of kind k whose constructors are of the kinds of their places
   abbrev mutual
     pub Good : Row → ℕ → Type 0
-    Good (named vs c rs) k = Known (kinds-of sig) t k c × (memb c (heads sig k) ≡ true) × Once vs × Goods rs (arguments sig c)
+    Good (named vs c rs) k = HeadOfKind (kinds-of sig) t k c × (memb c (heads sig k) ≡ true) × Once vs × Goods rs (arguments sig c)
     Good (free vs cs) k = (k < 256) × Within (first (heads sig k)) cs × Among cs (heads sig k) × Once vs
 
     pub Goods : Rows → List ℕ → Type 0
@@ -44,7 +44,7 @@ module _ (sig : Signature) (t : List ℕ) where
     pub kinds-are : ks ≡ virt ++ mine
     pub columns-are : rs ≡ rappend (open-rows sig virt) qs
     pub good : Goods qs mine
-    pub code-is : drop at a ≡ wordss (cellss (kinds-of sig) qs mine) ++ rest
+    pub code-is : drop at a ≡ all-words (all-cells (kinds-of sig) qs mine) ++ rest
     pub within : at ≤ length a
     pub own-is : own ≡ length mine
-    pub ends : at + length (wordss (cellss (kinds-of sig) qs mine)) ≡ stop
+    pub ends : at + length (all-words (all-cells (kinds-of sig) qs mine)) ≡ stop

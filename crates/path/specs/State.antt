@@ -9,7 +9,7 @@ use lib.ListN.{length, getD, set}
 use Rattle.sets.specs.Set.{bit}
 use Rattle.signature.specs.Signature.{Signature}
 use Rattle.pattern.specs.Limits.{pattern-limit}
-use Rattle.cell.specs.Cursor.{opensOf}
+use Rattle.cell.specs.Cursor.{opens-of}
 use Rattle.tree.specs.Tree.{Line, inserts}
 use Rattle.path.specs.Standing.{At}
 use Rattle.path.specs.Variables.{variables}
@@ -45,7 +45,7 @@ cell-of rows r q = start-of rows r + 3 * q
 
 pub record Indexed (t a rows : List ℕ) (n : ℕ) : Type 0 where
   pub long : row-stride * n ≤ length rows
-  pub counts : (r q : ℕ) → r < n → cell-of rows r q + 3 ≤ stop-of rows r → own-of rows r (q + 1) ≡ own-of rows r q - 1 + opensOf t (getD a (cell-of rows r q) 0)
+  pub counts : (r q : ℕ) → r < n → cell-of rows r q + 3 ≤ stop-of rows r → own-of rows r (q + 1) ≡ own-of rows r q - 1 + opens-of t (getD a (cell-of rows r q) 0)
   pub within : (r : ℕ) → r < n → (stop-of rows r ≤ length a) × (stop-of rows r ≤ start-of rows r + 3 * pattern-limit)
 
 -- ---- visits: a word for each cell of each row

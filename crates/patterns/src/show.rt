@@ -1,9 +1,9 @@
 // A line for a pattern.
 use libc::STDOUT_FILENO;
-use pattern::limits::UNBOUND;
-use pattern::limits::VARIABLES;
 use matching::places::places;
 use matching::takes::takes;
+use pattern::limits::UNBOUND;
+use pattern::limits::VARIABLES;
 use weighing::weight::Weighed;
 ghost use Rattle.signature.specs.Decoded.{Known};
 

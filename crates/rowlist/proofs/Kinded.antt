@@ -20,7 +20,7 @@ use Rattle.signature.proofs.LawfulFacts.{kinds-kind}
 use Rattle.signature.proofs.SignatureBack.{is-kinds}
 use Rattle.signature.proofs.Tests.{some-inj, eqb-self, eqb-no, eqb-eq, true≢false, ltb-yes, ltb-no}
 use Rattle.rowlist.specs.Sides.{Open}
-use Rattle.cell.specs.Coded.{kinds-of, Known as KnownHead}
+use Rattle.cell.specs.Coded.{kinds-of, HeadOfKind}
 use Rattle.sets.proofs.SetLaws.{bit-below, size-below}
 use Rattle.sets.proofs.ListSets.{same-bits, bit-set-of, one-if}
 
@@ -121,7 +121,7 @@ module _ {t : List ℕ} (g : Known t) where
       let z = kinds-kind (g .sig) (g .decoded .n) c (q .0) (g .decoded .kinds-are) (q .1) in
       omega (arith, z, eqb-eq (q .0 .kind) k (q .2))
 
-  pub known-head : (k c : ℕ) (ks : List ℕ) → arguments-at (g .sig) k c ≡ some ks → KnownHead (kinds-of (g .sig)) t k c
+  pub known-head : (k c : ℕ) (ks : List ℕ) → arguments-at (g .sig) k c ≡ some ks → HeadOfKind (kinds-of (g .sig)) t k c
   known-head k c ks e =
       let l = kind-there k c ks e in
       let b = run-bounds c (run-of k l) (has-kind (g .sig) k c ks e) in

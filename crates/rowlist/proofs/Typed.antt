@@ -8,7 +8,7 @@ use lib.Dec.{eqb}
 use Rattle.signature.specs.Lists.{require, _>>=_, is-empty, memb, keep, somes}
 use Rattle.signature.proofs.Tests.{eqb-eq}
 use Rattle.cell.specs.Cell.{Kinds}
-use Rattle.cell.specs.Coded.{Typed, Known, Typeds}
+use Rattle.cell.specs.Coded.{Typed, HeadOfKind, Typeds}
 use Rattle.sets.specs.Set.{Within}
 use Rattle.rowlist.specs.Product.{Typed-all}
 use Rattle.row.specs.Row.{Row, Rows, named, rcons, free, combines, combine, rnil, each}
@@ -24,7 +24,7 @@ module _ (K : Kinds) (ar : List ℕ) where
   typed-require true t k h = h
   typed-require false t k h = tt
 
-  typed-named : (zs : List ℕ) (c k : ℕ) (m : Option Rows) → Known K ar k c → If-some (λ ts. Typeds K ar ts (K .args c)) m → If-some (λ t. Typed K ar t k) (m >>= λ ts. some (named zs c ts))
+  typed-named : (zs : List ℕ) (c k : ℕ) (m : Option Rows) → HeadOfKind K ar k c → If-some (λ ts. Typeds K ar ts (K .args c)) m → If-some (λ t. Typed K ar t k) (m >>= λ ts. some (named zs c ts))
   typed-named zs c k none h t = tt
   typed-named zs c k (some ts) h t = (h, t)
 
@@ -38,7 +38,7 @@ module _ (K : Kinds) (ar : List ℕ) where
   typed-free zs [] k l w = tt
   typed-free zs (e ∷ es) k l w = (l, refl, w)
 
-  typed-nn : (b : Bool) (zs : List ℕ) (c d k : ℕ) (rs ss : Rows) → eqb c d ≡ b → Known K ar k c → Typeds K ar rs (K .args c) → Typeds K ar ss (K .args d)
+  typed-nn : (b : Bool) (zs : List ℕ) (c d k : ℕ) (rs ss : Rows) → eqb c d ≡ b → HeadOfKind K ar k c → Typeds K ar rs (K .args c) → Typeds K ar ss (K .args d)
       → ((ks : List ℕ) → Typeds K ar rs ks → Typeds K ar ss ks → If-some (λ ts. Typeds K ar ts ks) (combines rs ss))
       → If-some (λ t. Typed K ar t k) (require b >>= λ u. combines rs ss >>= λ ts. some (named zs c ts))
   typed-nn true zs c d k rs ss e h t u ih =

@@ -10,7 +10,7 @@ ghost use mathlib.Core.List.{[], _∷_, _++_};
 ghost use mathlib.Core.Bool.{true, false};
 ghost use Prim.Native.Nat.{_≤_};
 ghost use lib.ListN.{length};
-ghost use Rattle.cell.specs.RowList.{Begins};
+ghost use Rattle.cell.specs.RowList.{WrittenFirst};
 ghost use Rattle.rowlist.specs.Next.{GivenNext, GivenNextMinus, GivenNextAt, next-made, next-rows, GivenOthers, others-code};
 ghost use Rattle.rowlist.specs.Grow.{words-list};
 ghost use Rattle.rowlist.specs.Product.{Product};
@@ -64,7 +64,7 @@ pub fn next_rows(
 // The row of the other heads first in out, if there are any; how many words.
 fn other_row(tag: u64, rest: u64, out: &mut [u64]) -> usize
     requires { ⌜ 4 ≤ length (now out) ⌝ }
-    ensures { λ r. ⌜ Begins (others-code tag rest) r (now (out .exit)) ⌝ }
+    ensures { λ r. ⌜ WrittenFirst (others-code tag rest) r (now (out .exit)) ⌝ }
 {
     if size(rest) == 0 {
         return 0;

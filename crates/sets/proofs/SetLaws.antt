@@ -282,7 +282,7 @@ ones-below (suc n) =
     let p : 2 ^ suc n ≡ 2 ^ n * 2 = pow-suc 2 n in
     let half : (2 ^ suc n - 1) / 2 ≡ 2 ^ n - 1 = omega (arith, pow-pos n) in
     let low : (2 ^ suc n - 1) % 2 ≡ 1 = omega (arith, pow-pos n) in
-    ones-step (2 ^ suc n - 1) ∙ rw (half, low, ones-below n)
+    ones-step (2 ^ suc n - 1) ∙ rw (half, low, ones-below n) (omega arith)
 
 pub size-below : (n : ℕ) → n ≤ set-limit → length (members (2 ^ n - 1)) ≡ n
 size-below n h = sym (size-members (2 ^ n - 1) (omega (arith, pow-pos n, pow-mono {i = n} {j = 64} h))) ∙ ones-below n

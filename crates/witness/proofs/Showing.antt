@@ -56,12 +56,12 @@ module _ {t x y : List ℕ} (g : TwoPatterns t x y) (o : List ℕ) (room : booki
       kind = 0;
       r = r;
       ss = rows-plus (g .known .sig) 0 (g .q);
-      restX = h .rest;
-      restY = g .restY;
-      properR = all-in (proper-rows (g .known) (g .us) (g .p) (g .words-p)) (h .member);
-      properS = proper-rows (g .known) (g .ws) (g .q) (g .words-q);
-      codeX = h .code-is;
-      codeY = g .codeY;
+      rest-x = h .rest;
+      rest-y = g .rest-y;
+      proper-r = all-in (proper-rows (g .known) (g .us) (g .p) (g .words-p)) (h .member);
+      proper-s = proper-rows (g .known) (g .ws) (g .q) (g .words-q);
+      code-x = h .code-is;
+      code-y = g .code-y;
       room = room;
     }
 

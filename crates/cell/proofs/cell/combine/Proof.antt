@@ -4,7 +4,7 @@ use Prim.Native.Nat.{ℕ, _+_, _-_, _≤_, _<_}
 use native.Mathlib.Omega.{arith}
 use borrow.Author.Needs.{needs}
 use lib.ListN.{length, length-set}
-use Rattle.cell.specs.Cursor.{lookAt, nextOf, joinOf, opensOf, putAt}
+use Rattle.cell.specs.Cursor.{look-at, next-of, join-of, opens-of, put-cell}
 use Rattle.cell.proofs.LockstepFacts.{Given, as-cells, of-rows}
 use Rattle.sets.proofs.ListSets.{no-members}
 use Rattle.sets.proofs.SetLaws.{size-some}
@@ -46,10 +46,10 @@ loop-holds : tie.Need-loop-holds Inv-loop μ-loop
 loop-holds c = (refl, λ g. start g)
 
 look-requires : tie.Need-look-requires Inv-loop μ-loop
-look-requires c κs = in-front c .seeA
+look-requires c κs = in-front c .see-a
 
 look-requires-2 : tie.Need-look-requires-2 Inv-loop μ-loop
-look-requires-2 c κs = in-front (c .before) .seeB
+look-requires-2 c κs = in-front (c .before) .see-b
 
 same-length : tie.Need-same-length Inv-loop μ-loop
 same-length c = c .before .before .before .before .before .before .loop .inv .0
@@ -79,10 +79,10 @@ add-left : tie.Need-add-left Inv-loop μ-loop
 add-left c = let e = entry (turn-of (c .before) .before) in omega (arith, turned-of c (as-cells (e .pre)) .few, e .good .1 .1 .1 .0)
 
 next-requires : tie.Need-next-requires Inv-loop μ-loop
-next-requires c κs = let t = turn-of (c .before) in let e = entry (t .before) in omega (arith, turned-of c (as-cells (e .pre)) .few, in-front t .virtA, in-front t .withinA, e .good)
+next-requires c κs = let t = turn-of (c .before) in let e = entry (t .before) in omega (arith, turned-of c (as-cells (e .pre)) .few, in-front t .wildcards-a, in-front t .within-a, e .good)
 
 next-requires-2 : tie.Need-next-requires-2 Inv-loop μ-loop
-next-requires-2 c κs = let t = turn-of (c .before .before) in let e = entry (t .before) in omega (arith, turned-of (c .before) (as-cells (e .pre)) .few, in-front t .virtB, in-front t .withinB, e .good)
+next-requires-2 c κs = let t = turn-of (c .before .before) in let e = entry (t .before) in omega (arith, turned-of (c .before) (as-cells (e .pre)) .few, in-front t .wildcards-b, in-front t .within-b, e .good)
 
 loop-less : tie.Need-loop-less Inv-loop μ-loop
 loop-less c =

@@ -63,8 +63,8 @@ pub +bind+bind-all+bind-two-spec : {M : Type 1} → statement M
 +bind+bind-all+bind-two-spec = close μ-bind μ-bind-all μ-bind-two (λ t. bind-lts.spec (
   classify-reads.Asked,
   classify-reads.Learnt,
-      own-words-reads.Asked,
-      own-words-reads.Learnt,
+  own-words-reads.Asked,
+  own-words-reads.Learnt,
   arity-of-reads.Asked,
   arity-of-reads.Learnt,
   bind-all-below t,

@@ -68,10 +68,10 @@ add-left : tie.Need-add-left Inv-loop μ-loop
 add-left c = omega (arith, few c, entry (turn-of c .before) .good)
 
 next-requires : tie.Need-next-requires Inv-loop μ-loop
-next-requires c κs = let t = turn-of c in omega (arith, few c, in-turn t .virtA, in-turn t .withinA, entry (t .before) .good)
+next-requires c κs = let t = turn-of c in omega (arith, few c, in-turn t .wildcards-a, in-turn t .within-a, entry (t .before) .good)
 
 next-requires-2 : tie.Need-next-requires-2 Inv-loop μ-loop
-next-requires-2 c κs = let t = turn-of (c .before) in omega (arith, few (c .before), in-turn t .virtB, in-turn t .withinB, entry (t .before) .good)
+next-requires-2 c κs = let t = turn-of (c .before) in omega (arith, few (c .before), in-turn t .wildcards-b, in-turn t .within-b, entry (t .before) .good)
 
 pub rows-meet-spec : {M : Type 1} → statement M
 rows-meet-spec =
@@ -80,8 +80,8 @@ rows-meet-spec =
     Inv-loop
     μ-loop
     (λ c g. begin g)
-    (λ c κs. in-turn c .seeA)
-    (λ c κs. in-turn (c .before) .seeB)
+    (λ c κs. in-turn c .see-a)
+    (λ c κs. in-turn (c .before) .see-b)
     (λ c κs. tt)
     (λ c κs. tt)
     returns

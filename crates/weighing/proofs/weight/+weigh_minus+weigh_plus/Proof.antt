@@ -130,8 +130,8 @@ pub +weigh-minus+weigh-plus-spec : {M : Type 1} → statement M
     (λ t. weigh-plus-lts.spec (
       classify-reads.Asked,
       classify-reads.Learnt,
-  own-words-reads.Asked,
-  own-words-reads.Learnt,
+      own-words-reads.Asked,
+      own-words-reads.Learnt,
       plus-head-reads.Asked,
       plus-head-reads.Learnt,
       weigh-minus-below t,
