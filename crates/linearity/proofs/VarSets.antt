@@ -34,8 +34,8 @@ tick-same false false e = refl
 pub holds-none : Holds 0 []
 holds-none x = bit-zero x
 
-pub holds-one : (r i : ℕ) → ((j : ℕ) → bit r j ≡ cond (eqb j i) 1 (bit 0 j)) → Holds r (i ∷ [])
-holds-one r i h x = h x ∙ ap (cond (eqb x i) 1) (bit-zero x) ∙ go (eqb x i)
+pub holds-one : (r i : ℕ) → ((j : ℕ) → bit r j ≡ cond (eqb j i) 1 0) → Holds r (i ∷ [])
+holds-one r i h x = h x ∙ go (eqb x i)
   where
     go : (b : Bool) → cond b 1 0 ≡ tick (b || false)
     go true = refl
@@ -127,6 +127,6 @@ own-plain true is-absurd e = holds-none
 own-plain true is-not e = holds-none
 own-plain true is-other e = holds-none
 
-pub own-var : (b : Bool) (x r : ℕ) → b ≡ true → ((j : ℕ) → bit r j ≡ cond (eqb j x) 1 (bit 0 j)) → Holds r (own-vars (side-of b) (is-var x))
+pub own-var : (b : Bool) (x r : ℕ) → b ≡ true → ((j : ℕ) → bit r j ≡ cond (eqb j x) 1 0) → Holds r (own-vars (side-of b) (is-var x))
 own-var true x r e h = holds-one r x h
 own-var false x r e h = true≢false (sym e)

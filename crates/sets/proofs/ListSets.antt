@@ -3,18 +3,19 @@ use mathlib.Core.Path.{_≡_, refl, ap, sym, _∙_, ap₂}
 use mathlib.Core.List.{[], _∷_, List, _++_}
 use mathlib.Core.Bool.{Bool, true, false, cond, not, _&&_, _||_}
 use Prim.Native.Nat.{ℕ, zero, suc, min, max, _<_, _^_, _*_, _+_, _-_, _≤_}
-use borrow.Author.Tests.{ne-eqb, ltb-true, ltb-false}
+use borrow.Author.Tests.{eq-eqb, ne-eqb, ltb-true, ltb-false}
 use native.Mathlib.Nat.{pow-suc, mod-eq-of-lt, one-mul}
 use native.Mathlib.Omega.{arith}
 use lib.Bits.{bitOr, and-mask, and-shifted, and-comm, or-zero-r, or-zero-l, or-lt}
 use lib.Dec.{eqb, ltb}
+use lib.ListN.{length}
 use lib.Pow.{pow-mono, pow-lt}
 use Rattle.signature.specs.Limits.{heads-limit}
 use Rattle.signature.specs.Lists.{memb, keep}
 use Rattle.signature.proofs.Members.{memb-keep}
 use Rattle.signature.proofs.Tests.{eqb-eq, eqb-ne, eqb-self, true≢false}
-use Rattle.sets.specs.Set.{bit, all-set, union, intersection, set-of, Within}
-use Rattle.sets.proofs.SetLaws.{bit-zero, bit-and, bit-or, bit-one-same, bit-one-other, bit-ext}
+use Rattle.sets.specs.Set.{bit, members, all-set, union, intersection, set-of, Within}
+use Rattle.sets.proofs.SetLaws.{size-some, bit-zero, bit-and, bit-or, bit-one-same, bit-one-other, bit-ext}
 
 abbrev pub one-if : Bool → ℕ
 one-if true = 1
@@ -30,6 +31,14 @@ same-bits a b f = bit-ext (a + b) a b (omega (arith, below-pow a, pow-mono {i = 
 
 pub no-members : (s : ℕ) → ((i : ℕ) → bit s i ≡ 0) → s ≡ 0
 no-members s f = same-bits s 0 (λ i. f i ∙ sym (bit-zero i))
+
+-- the test of a size is that of the set
+pub size-test : (s n : ℕ) → (n ≡ length (members s)) × (n ≡ 0 → (i : ℕ) → bit s i ≡ 0) → eqb n 0 ≡ eqb s 0
+size-test s n (e, f) = go (eqb n 0) refl
+  where
+    go : (t : Bool) → eqb n 0 ≡ t → t ≡ eqb s 0
+    go true q = sym (eq-eqb s 0 (no-members s (f (eqb-eq n 0 q))))
+    go false q = sym (ne-eqb s 0 (size-some s n e (eqb-ne n 0 q)))
 
 -- a set with the members of either, of both
 pub union-is : (r a b : ℕ) → ((i : ℕ) → bit r i ≡ max (bit a i) (bit b i)) → r ≡ union a b
