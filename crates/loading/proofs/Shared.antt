@@ -19,7 +19,7 @@ use Rattle.row.specs.Row.{Row, combine, each}
 use Rattle.cell.specs.Coded.{kinds-of}
 use Rattle.cell.specs.RowList.{from}
 use Rattle.cell.proofs.Walk.{from-is}
-use Rattle.rowlist.specs.Product.{Typed-all}
+use Rattle.rowlist.specs.Product.{AllTyped}
 use Rattle.rowlist.proofs.Typing.{typed-rows}
 use Rattle.overlap.specs.Lists.{TwoLists}
 use Rattle.rowlist.proofs.Kinded.{kind-zero}
@@ -38,10 +38,10 @@ shares-rows sig us ws = go (read-pattern sig us) (read-pattern sig ws)
     go (some p) none = none-with (rows-by sig (some p))
     go (some p) (some q) = refl
 
-pub typed-for : {t : List ℕ} (g : Known t) (ws : List ℕ) → Typed-all (kinds-of (g .sig)) t 0 (rows-for (g .sig) ws)
+pub typed-for : {t : List ℕ} (g : Known t) (ws : List ℕ) → AllTyped (kinds-of (g .sig)) t 0 (rows-for (g .sig) ws)
 typed-for {t} g ws = go (read-pattern (g .sig) ws) refl
   where
-    go : (o : Option Pattern) → read-pattern (g .sig) ws ≡ o → Typed-all (kinds-of (g .sig)) t 0 (rows-by (g .sig) o)
+    go : (o : Option Pattern) → read-pattern (g .sig) ws ≡ o → AllTyped (kinds-of (g .sig)) t 0 (rows-by (g .sig) o)
     go none e = tt
     go (some p) e = typed-rows g p true 0 (kind-zero g) (pattern-words (g .sig) ws p e .well-formed)
 

@@ -10,7 +10,7 @@ use lib.Seq.{drop-drop, drop-at}
 use Rattle.signature.specs.Lists.{In, in-here, in-there, any, is-some, is-empty, somes}
 use Rattle.cell.specs.Cell.{Kinds}
 use Rattle.cell.specs.Coded.{row-code, Typed}
-use Rattle.rowlist.specs.Product.{Typed-all, ones}
+use Rattle.rowlist.specs.Product.{AllTyped, with-each}
 use Rattle.row.specs.Row.{Row, combine, each}
 use Rattle.cell.specs.RowList.{list-code, entries, from}
 use Rattle.cell.proofs.Walk.{word-at, code-long, from-is}
@@ -24,12 +24,12 @@ pub record Task (ar y : List ℕ) : Type 0 where
   pub rows : List Row
   pub rest : List ℕ
   pub code-is : y ≡ list-code K kind rows ++ rest
-  pub typed : Typed-all K ar kind rows
+  pub typed : AllTyped K ar kind rows
   pub test : Row → Bool
 
 pub record Mid {ar y : List ℕ} (g : Task ar y) (at : ℕ) (todo : List Row) : Type 0 where
   pub code-is : drop at y ≡ list-code (g .K) (g .kind) todo ++ g .rest
-  pub typed : Typed-all (g .K) ar (g .kind) todo
+  pub typed : AllTyped (g .K) ar (g .kind) todo
   pub same : any (g .test) (g .rows) ≡ any (g .test) todo
   pub members : (s : Row) → In s todo → In s (g .rows)
 
@@ -110,11 +110,11 @@ module _ {ar y : List ℕ} (g : Task ar y) (at : ℕ) where
   past m h f = past-at (m .0) (m .1) h f
 
 -- the two tests
-pub any-ones : (r : Row) (ss : List Row) → any (λ s. is-some (combine r s)) ss ≡ not (is-empty (ones r ss))
+pub any-ones : (r : Row) (ss : List Row) → any (λ s. is-some (combine r s)) ss ≡ not (is-empty (with-each r ss))
 any-ones r [] = refl
 any-ones r (s ∷ ss) = go (combine r s) (any-ones r ss)
   where
-    go : (m : Option Row) → any (λ s. is-some (combine r s)) ss ≡ not (is-empty (ones r ss)) → (is-some m || any (λ s. is-some (combine r s)) ss) ≡ not (is-empty (somes (m ∷ map (combine r) ss)))
+    go : (m : Option Row) → any (λ s. is-some (combine r s)) ss ≡ not (is-empty (with-each r ss)) → (is-some m || any (λ s. is-some (combine r s)) ss) ≡ not (is-empty (somes (m ∷ map (combine r) ss)))
     go none e = e
     go (some t) e = refl
 
@@ -123,15 +123,15 @@ empty-append [] b = refl
 empty-append (none ∷ a) b = empty-append a b
 empty-append (some t ∷ a) b = refl
 
-pub any-each : (rs ss : List Row) → any (λ r. not (is-empty (ones r ss))) rs ≡ not (is-empty (somes (each combine rs ss)))
+pub any-each : (rs ss : List Row) → any (λ r. not (is-empty (with-each r ss))) rs ≡ not (is-empty (somes (each combine rs ss)))
 any-each [] ss = refl
-any-each (r ∷ rs) ss = ap (λ (b : Bool). not (is-empty (ones r ss)) || b) (any-each rs ss) ∙ empty-append (map (combine r) ss) (each combine rs ss)
+any-each (r ∷ rs) ss = ap (λ (b : Bool). not (is-empty (with-each r ss)) || b) (any-each rs ss) ∙ empty-append (map (combine r) ss) (each combine rs ss)
 
 unfoldable pub row-task : {ar x y : List ℕ} → RowByList ar x y → Task ar y
 row-task g = record { K = g .K; kind = g .kind; rows = g .ss; rest = g .rest-y; code-is = g .code-y; typed = g .typed-s; test = λ s. is-some (combine (g .r) s) }
 
 unfoldable pub list-task : {ar x y : List ℕ} → TwoLists ar x y → Task ar x
-list-task g = record { K = g .K; kind = g .kind; rows = g .rs; rest = g .rest-x; code-is = g .code-x; typed = g .typed-r; test = λ r. not (is-empty (ones r (g .ss))) }
+list-task g = record { K = g .K; kind = g .kind; rows = g .rs; rest = g .rest-x; code-is = g .code-x; typed = g .typed-r; test = λ r. not (is-empty (with-each r (g .ss))) }
 
 module _ {ar x y : List ℕ} (g : RowByList ar x y) (at : ℕ) where
   unfoldable two-rows : (s : Row) → Head (row-task g) at s → TwoRows ar x (from y (at + 1))
@@ -142,7 +142,7 @@ module _ {ar x y : List ℕ} (g : RowByList ar x y) (at : ℕ) where
     pub given1 : 0 < getD y at 0 → TwoRows ar x (from y (at + 1))
     given1 h = let q = head (row-task g) at m h in two-rows (q .0) (q .1)
 
-    pub found1 : 0 < getD y at 0 → ((q : TwoRows ar x (from y (at + 1))) → true ≡ is-some (combine (q .r) (q .s))) → true ≡ not (is-empty (ones (g .r) (g .ss)))
+    pub found1 : 0 < getD y at 0 → ((q : TwoRows ar x (from y (at + 1))) → true ≡ is-some (combine (q .r) (q .s))) → true ≡ not (is-empty (with-each (g .r) (g .ss)))
     unfolding row-task two-rows
     found1 h f = sym (found (row-task g) at m h (λ s q. f (two-rows s q))) ∙ any-ones (g .r) (g .ss)
 
@@ -150,7 +150,7 @@ module _ {ar x y : List ℕ} (g : RowByList ar x y) (at : ℕ) where
     unfolding row-task two-rows
     past1 h f = past (row-task g) at m h (λ s q. f (two-rows s q))
 
-    pub end1 : getD y at 0 ≤ 0 → false ≡ not (is-empty (ones (g .r) (g .ss)))
+    pub end1 : getD y at 0 ≤ 0 → false ≡ not (is-empty (with-each (g .r) (g .ss)))
     unfolding row-task
     end1 z = sym (end (row-task g) at m z) ∙ any-ones (g .r) (g .ss)
 
@@ -163,11 +163,11 @@ module _ {ar x y : List ℕ} (g : TwoLists ar x y) (at : ℕ) where
     pub given2 : 0 < getD x at 0 → RowByList ar (from x (at + 1)) y
     given2 h = let q = head (list-task g) at m h in row-by-list (q .0) (q .1)
 
-    pub found2 : 0 < getD x at 0 → ((q : RowByList ar (from x (at + 1)) y) → true ≡ not (is-empty (ones (q .r) (q .ss)))) → true ≡ not (is-empty (somes (each combine (g .rs) (g .ss))))
+    pub found2 : 0 < getD x at 0 → ((q : RowByList ar (from x (at + 1)) y) → true ≡ not (is-empty (with-each (q .r) (q .ss)))) → true ≡ not (is-empty (somes (each combine (g .rs) (g .ss))))
     unfolding list-task row-by-list
     found2 h f = sym (found (list-task g) at m h (λ s q. f (row-by-list s q))) ∙ any-each (g .rs) (g .ss)
 
-    pub past2 : 0 < getD x at 0 → ((q : RowByList ar (from x (at + 1)) y) → false ≡ not (is-empty (ones (q .r) (q .ss)))) → Now (list-task g) (at + 1 + getD x at 0) × (at + 1 + getD x at 0 ≤ length x)
+    pub past2 : 0 < getD x at 0 → ((q : RowByList ar (from x (at + 1)) y) → false ≡ not (is-empty (with-each (q .r) (q .ss)))) → Now (list-task g) (at + 1 + getD x at 0) × (at + 1 + getD x at 0 ≤ length x)
     unfolding list-task row-by-list
     past2 h f = past (list-task g) at m h (λ s q. f (row-by-list s q))
 

@@ -4,7 +4,7 @@ use mathlib.Core.List.{List, _++_}
 use Prim.Native.Nat.{ℕ}
 use Rattle.cell.specs.Cell.{Kinds}
 use Rattle.cell.specs.Coded.{row-code, Typed}
-use Rattle.rowlist.specs.Product.{Typed-all}
+use Rattle.rowlist.specs.Product.{AllTyped}
 use Rattle.row.specs.Row.{Row}
 use Rattle.cell.specs.RowList.{list-code}
 
@@ -18,7 +18,7 @@ pub record RowByList (ar x y : List ℕ) : Type 0 where
   pub code-x : x ≡ row-code K r kind ++ rest-x
   pub code-y : y ≡ list-code K kind ss ++ rest-y
   pub typed-r : Typed K ar r kind
-  pub typed-s : Typed-all K ar kind ss
+  pub typed-s : AllTyped K ar kind ss
 
 pub record TwoLists (ar x y : List ℕ) : Type 0 where
   pub K : Kinds
@@ -29,5 +29,5 @@ pub record TwoLists (ar x y : List ℕ) : Type 0 where
   pub rest-y : List ℕ
   pub code-x : x ≡ list-code K kind rs ++ rest-x
   pub code-y : y ≡ list-code K kind ss ++ rest-y
-  pub typed-r : Typed-all K ar kind rs
-  pub typed-s : Typed-all K ar kind ss
+  pub typed-r : AllTyped K ar kind rs
+  pub typed-s : AllTyped K ar kind ss

@@ -11,6 +11,7 @@ use Rattle.signature.specs.Lists.{memb}
 use Rattle.sets.specs.Set.{set-limit}
 use Rattle.signature.specs.Signature.{Signature, heads}
 use Rattle.pattern.specs.Limits.{pattern-limit}
+use Rattle.cell.specs.Cell.{cell-width, kind-tag}
 use Rattle.path.specs.Alive.{member, row-limit, FirstAlive}
 use Rattle.path.specs.Standing.{refined-cell}
 use Rattle.path.specs.State.{cell-of, own-of, row-stride}
@@ -27,7 +28,7 @@ pub record Seen (t : List ℕ) (tag : ℕ) : Type 0 where
   pub known : Known t
   pub k : ℕ
   pub there : k < known .decoded .n
-  pub is : (tag ≡ 256 + k) ⊎ (memb tag (heads (known .sig) k) ≡ true)
+  pub is : (tag ≡ kind-tag + k) ⊎ (memb tag (heads (known .sig) k) ≡ true)
 
 -- what the look at a cell says: its kind k where it is refined, else kind-limit
 pub record RowKind (sig : Signature) (k tag allowed res : ℕ) : Type 0 where
@@ -53,8 +54,8 @@ pub record Looking (t a rows : List ℕ) (n : ℕ) (re cur : List ℕ) : Type 0 
   pub few : n ≤ row-limit
   pub cursors : n ≤ length cur
   pub long : row-stride * n ≤ length rows
-  pub cell : (r : ℕ) → r < n → member re r ≡ true → cell-of rows r (getD cur r 0) + 3 ≤ length a
-  pub tags : (r : ℕ) → r < n → member re r ≡ true → (tag-at a rows cur r ≡ 256 + k) ⊎ (memb (tag-at a rows cur r) (heads (known .sig) k) ≡ true)
+  pub cell : (r : ℕ) → r < n → member re r ≡ true → cell-of rows r (getD cur r 0) + cell-width ≤ length a
+  pub tags : (r : ℕ) → r < n → member re r ≡ true → (tag-at a rows cur r ≡ kind-tag + k) ⊎ (memb (tag-at a rows cur r) (heads (known .sig) k) ≡ true)
 
 -- what is given to find the rows that allow head number j: the cursors are raised
 pub record Keeping (a rows : List ℕ) (n : ℕ) (re cur : List ℕ) (j : ℕ) : Type 0 where
@@ -62,7 +63,7 @@ pub record Keeping (a rows : List ℕ) (n : ℕ) (re cur : List ℕ) (j : ℕ) :
   pub cursors : n ≤ length cur
   pub long : row-stride * n ≤ length rows
   pub bit-small : j < set-limit
-  pub cell : (r : ℕ) → r < n → member re r ≡ true → (0 < getD cur r 0) × (cell-of rows r (getD cur r 0 - 1) + 3 ≤ length a)
+  pub cell : (r : ℕ) → r < n → member re r ≡ true → (0 < getD cur r 0) × (cell-of rows r (getD cur r 0 - 1) + cell-width ≤ length a)
 
 -- what a leaf is given
 pub record Leaving (a rows : List ℕ) (r : ℕ) (cur vis : List ℕ) : Type 0 where

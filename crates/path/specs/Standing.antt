@@ -8,7 +8,7 @@ use lib.ListN.{length, drop}
 use Rattle.signature.specs.Lists.{memb, first}
 use Rattle.signature.specs.Signature.{Signature, heads, arguments}
 use Rattle.row.specs.Row.{Row, Rows, named, free, rnil, rcons, open-rows}
-use Rattle.cell.specs.Cell.{all-words}
+use Rattle.cell.specs.Cell.{kind-tag, all-words}
 use Rattle.cell.specs.Coded.{HeadOfKind, kinds-of, all-cells}
 use Rattle.sets.specs.Set.{Within, members}
 use Rattle.tree.specs.Tree.{rappend}
@@ -20,7 +20,7 @@ Among cs ds = (c : ℕ) → memb c cs ≡ true → memb c ds ≡ true
 
 -- a cell's test: it names a constructor, or excludes one of its kind, for its set has not as many members as the kind has heads
 abbrev pub refined-cell : Signature → ℕ → ℕ → ℕ → Bool
-refined-cell sig k tag allowed = ltb tag 256 || not (eqb (length (members allowed)) (length (heads sig k)))
+refined-cell sig k tag allowed = ltb tag kind-tag || not (eqb (length (members allowed)) (length (heads sig k)))
 
 module _ (sig : Signature) (t : List ℕ) where
   -- a row of kind k whose constructors are of the kinds of their places

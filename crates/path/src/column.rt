@@ -14,6 +14,7 @@ ghost use mathlib.Core.Bool.{true};
 ghost use Prim.Native.Nat.{ℕ, _+_, _*_, _-_, _≤_, _<_};
 ghost use lib.ListN.{length, getD};
 ghost use Rattle.sets.specs.Set.{set-limit};
+ghost use Rattle.cell.specs.Cell.{cell-width};
 ghost use Rattle.path.specs.Alive.{member, row-limit, set-words};
 ghost use Rattle.path.specs.State.{row-stride, cell-of, kept-of};
 ghost use Rattle.path.specs.Standing.{refined-cell};
@@ -109,7 +110,7 @@ fn stays(
     j: usize,
     r: usize,
 ) -> bool
-    requires { ⌜ (r < row-limit) × (r < length (now cur)) × (row-stride * r + row-stride ≤ length (now rows)) × (j < set-limit) × (member (now re) r ≡ true → (0 < getD (now cur) r 0) × (cell-of (now rows) r (getD (now cur) r 0 - 1) + 3 ≤ length (now a))) ⌝ }
+    requires { ⌜ (r < row-limit) × (r < length (now cur)) × (row-stride * r + row-stride ≤ length (now rows)) × (j < set-limit) × (member (now re) r ≡ true → (0 < getD (now cur) r 0) × (cell-of (now rows) r (getD (now cur) r 0 - 1) + cell-width ≤ length (now a))) ⌝ }
     ensures { λ b. ⌜ b ≡ kept-of (now (a .entry)) (now (rows .entry)) (member (now (s .entry))) (member (now (re .entry))) (now (cur .entry)) j r ⌝ }
 {
     if has(re, r) {

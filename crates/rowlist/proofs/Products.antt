@@ -13,7 +13,7 @@ use lib.Seq.{take-suc-set}
 use Rattle.signature.specs.Lists.{somes}
 use Rattle.cell.specs.Cell.{RowCells, words, named-cells, all-words, free-cell, RowsCells, no-cells, more-cells, Kinds}
 use Rattle.cell.specs.Coded.{row-code-of, row-code, Typed, cells}
-use Rattle.rowlist.specs.Product.{GivenEach, ones, room-for, each-entry, Typed-all, GivenProduct, Product, products}
+use Rattle.rowlist.specs.Product.{GivenEach, with-each, room-for, each-entry, AllTyped, GivenProduct, Product, products}
 use Rattle.row.specs.Row.{Row, combine, each}
 use Rattle.cell.specs.RowList.{entries, costs, GivenOne, from, WrittenFirst, one-entry}
 use Rattle.cell.proofs.CellFacts.{gate, then, both, boths}
@@ -85,11 +85,11 @@ each-task {ar} g = record {
   enough = λ s t. one-small (g .K) ar (g .kind) (g .r) s (g .typed-r) t;
 }
 
-yields-ones : (r : Row) (ss : List Row) → yields (λ s. somes (combine r s ∷ [])) ss ≡ ones r ss
+yields-ones : (r : Row) (ss : List Row) → yields (λ s. somes (combine r s ∷ [])) ss ≡ with-each r ss
 yields-ones r [] = refl
 yields-ones r (s ∷ ss) = go (combine r s) (yields-ones r ss)
   where
-    go : (m : Option Row) → yields (λ s. somes (combine r s ∷ [])) ss ≡ ones r ss → somes (m ∷ []) ++ yields (λ s. somes (combine r s ∷ [])) ss ≡ somes (m ∷ map (combine r) ss)
+    go : (m : Option Row) → yields (λ s. somes (combine r s ∷ [])) ss ≡ with-each r ss → somes (m ∷ []) ++ yields (λ s. somes (combine r s ∷ [])) ss ≡ somes (m ∷ map (combine r) ss)
     go none e = e
     go (some t) e = ap (λ (l : List Row). t ∷ l) e
 
@@ -133,7 +133,7 @@ module _ {ar x y o₀ : List ℕ} (g : GivenEach ar x y o₀) where
     end1 m z = subst (λ (l : List Row). WrittenFirst (entries (g .K) (g .kind) l) used o) (yields-ones (g .r) (g .ss)) (end (each-task g) at used o m z .0)
 
 -- each with each
-pub ones-small : (K : Kinds) (ar : List ℕ) (k : ℕ) (r : Row) (ss : List Row) → Typed K ar r k → Typed-all K ar k ss → length (entries K k (ones r ss)) ≤ room-for K k r ss
+pub ones-small : (K : Kinds) (ar : List ℕ) (k : ℕ) (r : Row) (ss : List Row) → Typed K ar r k → AllTyped K ar k ss → length (entries K k (with-each r ss)) ≤ room-for K k r ss
 ones-small K ar k r [] t u = omega arith
 ones-small K ar k r (s ∷ ss) t u =
     let i = ones-small K ar k r ss t (u .1) in
@@ -151,7 +151,7 @@ product-task {ar} g = record {
   read = λ s. row-code (g .K) s (g .kind);
   write = λ s. row-code (g .K) s (g .kind);
   long = λ s t. code-long (g .K) (g .kind) s;
-  f = λ r. ones r (g .ss);
+  f = λ r. with-each r (g .ss);
   cost = λ r. room-for (g .K) (g .kind) r (g .ss);
   P = λ r. Typed (g .K) ar r (g .kind);
   spare = 1;
@@ -162,9 +162,9 @@ product-task {ar} g = record {
   enough = λ r t. ones-small (g .K) ar (g .kind) r (g .ss) t (g .typed-s);
 }
 
-yields-each : (rs ss : List Row) → yields (λ r. ones r ss) rs ≡ somes (each combine rs ss)
+yields-each : (rs ss : List Row) → yields (λ r. with-each r ss) rs ≡ somes (each combine rs ss)
 yields-each [] ss = refl
-yields-each (r ∷ rs) ss = ap (λ (l : List Row). ones r ss ++ l) (yields-each rs ss) ∙ sym (somes-append (map (combine r) ss) (each combine rs ss))
+yields-each (r ∷ rs) ss = ap (λ (l : List Row). with-each r ss ++ l) (yields-each rs ss) ∙ sym (somes-append (map (combine r) ss) (each combine rs ss))
   where
     somes-append : (a b : List (Option Row)) → somes (a ++ b) ≡ somes a ++ somes b
     somes-append [] b = refl

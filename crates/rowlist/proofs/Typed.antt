@@ -10,7 +10,7 @@ use Rattle.signature.proofs.Tests.{eqb-eq}
 use Rattle.cell.specs.Cell.{Kinds}
 use Rattle.cell.specs.Coded.{Typed, HeadOfKind, Typeds}
 use Rattle.sets.specs.Set.{Within}
-use Rattle.rowlist.specs.Product.{Typed-all}
+use Rattle.rowlist.specs.Product.{AllTyped}
 use Rattle.row.specs.Row.{Row, Rows, named, rcons, free, combines, combine, rnil, each}
 use Rattle.sets.proofs.ListSets.{within-keep}
 
@@ -59,18 +59,18 @@ module _ (K : Kinds) (ar : List ℕ) where
     typed-combines (rcons r rs) (rcons s ss) [] t u = absurd t
     typed-combines (rcons r rs) (rcons s ss) (k ∷ ks) t u = typed-cons k ks (combine r s) (combines rs ss) (typed-combine r s k (t .0) (u .0)) (typed-combines rs ss ks (t .1) (u .1))
 
-  pub typed-append : (k : ℕ) (rs ss : List Row) → Typed-all K ar k rs → Typed-all K ar k ss → Typed-all K ar k (rs ++ ss)
+  pub typed-append : (k : ℕ) (rs ss : List Row) → AllTyped K ar k rs → AllTyped K ar k ss → AllTyped K ar k (rs ++ ss)
   typed-append k [] ss t u = u
   typed-append k (r ∷ rs) ss t u = (t .0, typed-append k rs ss (t .1) u)
 
-  typed-somes : (k : ℕ) (m : Option Row) (ms : List (Option Row)) → If-some (λ t. Typed K ar t k) m → Typed-all K ar k (somes ms) → Typed-all K ar k (somes (m ∷ ms))
+  typed-somes : (k : ℕ) (m : Option Row) (ms : List (Option Row)) → If-some (λ t. Typed K ar t k) m → AllTyped K ar k (somes ms) → AllTyped K ar k (somes (m ∷ ms))
   typed-somes k none ms h t = t
   typed-somes k (some r) ms h t = (h, t)
 
-  typed-ones : (k : ℕ) (r : Row) (ss : List Row) (more : List (Option Row)) → Typed K ar r k → Typed-all K ar k ss → Typed-all K ar k (somes more) → Typed-all K ar k (somes (map (combine r) ss ++ more))
+  typed-ones : (k : ℕ) (r : Row) (ss : List Row) (more : List (Option Row)) → Typed K ar r k → AllTyped K ar k ss → AllTyped K ar k (somes more) → AllTyped K ar k (somes (map (combine r) ss ++ more))
   typed-ones k r [] more t u v = v
   typed-ones k r (s ∷ ss) more t u v = typed-somes k (combine r s) (map (combine r) ss ++ more) (typed-combine r s k t (u .0)) (typed-ones k r ss more t (u .1) v)
 
-  pub typed-each : (k : ℕ) (rs ss : List Row) → Typed-all K ar k rs → Typed-all K ar k ss → Typed-all K ar k (somes (each combine rs ss))
+  pub typed-each : (k : ℕ) (rs ss : List Row) → AllTyped K ar k rs → AllTyped K ar k ss → AllTyped K ar k (somes (each combine rs ss))
   typed-each k [] ss t u = tt
   typed-each k (r ∷ rs) ss t u = typed-ones k r ss (each combine rs ss) (t .0) u (typed-each k rs ss (t .1) u)

@@ -10,11 +10,11 @@ use Rattle.row.specs.Row.{Row, combine, each}
 use Rattle.cell.specs.RowList.{Every, list-code, entries, costs}
 
 -- one row with each
-abbrev pub Typed-all : Kinds → List ℕ → ℕ → List Row → Type 0
-Typed-all K ar k rs = Every (λ r. Typed K ar r k) rs
+abbrev pub AllTyped : Kinds → List ℕ → ℕ → List Row → Type 0
+AllTyped K ar k rs = Every (λ r. Typed K ar r k) rs
 
-abbrev pub ones : Row → List Row → List Row
-ones r ss = somes (map (combine r) ss)
+abbrev pub with-each : Row → List Row → List Row
+with-each r ss = somes (map (combine r) ss)
 
 abbrev pub room-for : Kinds → ℕ → Row → List Row → ℕ
 room-for K k r [] = 0
@@ -30,11 +30,11 @@ pub record GivenEach (ar x y o : List ℕ) : Type 0 where
   pub code-x : x ≡ row-code K r kind ++ rest-x
   pub code-y : y ≡ list-code K kind ss ++ rest-y
   pub typed-r : Typed K ar r kind
-  pub typed-s : Typed-all K ar kind ss
+  pub typed-s : AllTyped K ar kind ss
   pub room : room-for K kind r ss ≤ length o
 
 abbrev pub each-entry : {ar x y o : List ℕ} → GivenEach ar x y o → List ℕ
-each-entry g = entries (g .K) (g .kind) (ones (g .r) (g .ss))
+each-entry g = entries (g .K) (g .kind) (with-each (g .r) (g .ss))
 
 abbrev pub room-all : Kinds → ℕ → List Row → List Row → ℕ
 room-all K k rs ss = costs (λ r. room-for K k r ss) rs
@@ -48,8 +48,8 @@ pub record GivenProduct (ar x y o : List ℕ) : Type 0 where
   pub rest-y : List ℕ
   pub code-x : x ≡ list-code K kind rs ++ rest-x
   pub code-y : y ≡ list-code K kind ss ++ rest-y
-  pub typed-r : Typed-all K ar kind rs
-  pub typed-s : Typed-all K ar kind ss
+  pub typed-r : AllTyped K ar kind rs
+  pub typed-s : AllTyped K ar kind ss
   pub room : room-all K kind rs ss + 1 ≤ length o
 
 -- the list of the products, and how many words it has without its end
