@@ -2,19 +2,15 @@
 use ambiguity::ambiguous::ambiguous;
 use linearity::linear::linear;
 use reading::read::well_formed;
+use signature::refusals::AMBIGUOUS;
+use signature::refusals::MALFORMED;
+use signature::refusals::NOT_LINEAR;
+use signature::refusals::TOO_HEAVY;
 use weighing::weight::Weighed;
 use weighing::weight::weigh;
 ghost use mathlib.Core.Path.{_≡_};
 ghost use lib.ListN.{length};
 ghost use Rattle.admission.specs.Admission.{GivenWords, admission-of};
-
-pub const MALFORMED: u16 = 7;
-
-pub const NOT_LINEAR: u16 = 8;
-
-pub const TOO_HEAVY: u16 = 9;
-
-pub const AMBIGUOUS: u16 = 10;
 
 pub enum Admission {
     Passed(u16),

@@ -20,10 +20,9 @@ use Rattle.pattern.specs.Word.{part-count}
 use Rattle.pattern.proofs.Opened.{shape, inner, inner-length, kind-count, inner-count, shape-is, code-split}
 use Rattle.pattern.proofs.ReadSteps.{part, to-end}
 use Rattle.builder.specs.Arguments.{lights-of}
-use Rattle.builder.specs.Build.{room-unit}
+use Rattle.builder.specs.Build.{room-unit, GivenPart}
 use Rattle.builder.proofs.ArgSteps.{NextArg, next-arg}
 use Rattle.ambiguity.specs.Ambiguity.{ambiguous-of, has-vars, taken-twice, kind-behind, own-variable, Judged}
-use Rattle.ambiguity.specs.Parts.{GivenPart}
 use Rattle.ambiguity.specs.declared.ambiguous.Part.{Part}
 use Rattle.ambiguity.specs.declared.ambiguous.Part.the-variants.{Clear, Ambiguous}
 use Rattle.ambiguity.proofs.Behind.{side-at, side-is, any-of, any-cons, any-none, some-vars, Parts, parts-behind}

@@ -16,9 +16,9 @@ use Rattle.pattern.specs.WellFormed.{WellFormed, well-and, well-or}
 use Rattle.pattern.proofs.Opened.{shape, shape-is, word-there}
 use Rattle.cell.specs.RowList.{from}
 use Rattle.cell.proofs.Walk.{from-is}
-use Rattle.builder.specs.Build.{light-of}
+use Rattle.builder.specs.Build.{light-of, GivenPart}
 use Rattle.ambiguity.specs.Ambiguity.{doubles, taken-twice}
-use Rattle.ambiguity.specs.Parts.{GivenPart, GivenTwo, meets}
+use Rattle.ambiguity.specs.Parts.{GivenTwo, meets}
 use Rattle.ambiguity.proofs.Turns.{as-opens}
 
 module _ (sig : Signature) (k : ℕ) where

@@ -10,7 +10,7 @@ use lib.Seq.{drop-at, length-take-le}
 use Rattle.signature.specs.Decoded.{count-of}
 use Rattle.signature.specs.Limits.{kind-limit}
 use Rattle.signature.specs.Lists.{is-empty, somes}
-use Rattle.signature.specs.Set.{bit}
+use Rattle.sets.specs.Set.{bit}
 use Rattle.signature.specs.Signature.{Signature}
 use Rattle.signature.proofs.KnownFacts.{words-of}
 use Rattle.pattern.specs.Pattern.{Pattern, pattern-code}
@@ -102,16 +102,16 @@ module _ {t : List ℕ} {k : ℕ} {w : List ℕ} {b : Bool} {n m : ℕ} (g : Giv
               kind = k;
               rs = rows-of (g .known .sig) k b (g .first);
               ss = rows-of (g .known .sig) k b (g .second);
-              restX = ys ++ D;
-              restY = drop (used' + 1) ys ++ D;
-              codeX = ap (λ (z : List ℕ). z ++ (ys ++ D)) (first-made .list .list);
-              codeY =
+              rest-x = ys ++ D;
+              rest-y = drop (used' + 1) ys ++ D;
+              code-x = ap (λ (z : List ℕ). z ++ (ys ++ D)) (first-made .list .list);
+              code-y =
                   from-is (back o (used + 1) ys) (used + 1)
                   ∙ drop-at (take (used + 1) o) (ys ++ D) (used + 1) (length-take-le (used + 1) o (first-bounds .1))
                   ∙ ap (λ (z : List ℕ). z ++ D) (in-front _ ys used' (second-made .list) .1)
                   ∙ append-assoc (list-code (kinds-of (g .known .sig)) k (rows-of (g .known .sig) k b (g .second))) (drop (used' + 1) ys) D;
-              typedR = typed-rows (g .known) (g .first) b k (g .there) (g .well-first);
-              typedS = typed-rows (g .known) (g .second) b k (g .there) (g .well-second);
+              typed-r = typed-rows (g .known) (g .first) b k (g .there) (g .well-first);
+              typed-s = typed-rows (g .known) (g .second) b k (g .there) (g .well-second);
             }
 
         pub answered : (r : Bool) → ((q : TwoLists t (back o (used + 1) ys) (from (back o (used + 1) ys) (used + 1))) → r ≡ not (is-empty (somes (each combine (q .rs) (q .ss))))) → r ≡ meets b (g .known .sig) k (g .first) (g .second)

@@ -30,15 +30,3 @@ pub record GivenTwo (t : List ℕ) (k : ℕ) (w : List ℕ) (b : Bool) (n m : �
 abbrev pub meets : Bool → Signature → ℕ → Pattern → Pattern → Bool
 meets true sig k p q = overlap sig k p q
 meets false sig k p q = overlap-minus sig k p q
-
--- one pattern of kind k
-pub record GivenPart (t : List ℕ) (k : ℕ) (w : List ℕ) (b : Bool) (n m : ℕ) : Type 0 where
-  pub known : Known t
-  pub there : k < known .decoded .n
-  pub pattern : Pattern
-  pub rest : List ℕ
-  pub words : w ≡ pattern-code pattern ++ rest
-  pub well : WellFormed (known .sig) k pattern
-  pub light : light-of b pattern ≡ true
-  pub room : room-unit * length (pattern-code pattern) ≤ n
-  pub work-room : room-unit * length (pattern-code pattern) ≤ m

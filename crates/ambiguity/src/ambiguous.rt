@@ -2,6 +2,7 @@
 use crate::both::both;
 use pattern::token::Word;
 use pattern::token::classify;
+use pattern::token::own_words;
 use pattern::token::parts;
 use pattern::token::side_behind;
 use signature::decoded::argument_of;
@@ -14,8 +15,7 @@ ghost use Rattle.signature.specs.Limits.{argument-limit};
 ghost use Rattle.pattern.specs.Word.{form-of, head-small};
 ghost use Rattle.row.specs.Overlap.{ambiguous-plus};
 ghost use Rattle.ambiguity.specs.Ambiguity.{doubles, taken-twice, kind-behind, own-variable, Judged};
-ghost use Rattle.ambiguity.specs.Parts.{GivenPart};
-ghost use Rattle.builder.specs.Build.{GivenWhole};
+ghost use Rattle.builder.specs.Build.{GivenPart, GivenWhole};
 
 // Whether a part has variables at its side, and how many words it takes; or that it, or a part of it, is ambiguous.
 pub enum Part {
@@ -96,10 +96,12 @@ fn twice(
     if !vars {
         return false;
     }
-    if !is_double(classify(p[0]), plus) {
+    let w = classify(p[0]);
+    if !is_double(w, plus) {
         return false;
     }
-    both(t, k, &p[1..], plus, out, work)
+    let own = own_words(w);
+    both(t, k, &p[own..], plus, out, work)
 }
 
 // The pattern in front of p, of kind k, at a side.
@@ -118,7 +120,7 @@ fn ambiguous_at(
     let count = parts(t, w) as usize;
     let side = side_behind(w, plus);
     let mut vars = is_variable(w, plus);
-    let mut at = 1;
+    let mut at = own_words(w);
     let mut i = 0;
     while i < count {
         let kind = part_kind(t, w, k, i);

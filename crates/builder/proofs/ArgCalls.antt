@@ -10,26 +10,27 @@ use lib.ListN.{length, take, drop, length-append}
 use lib.Seq.{drop-at, length-take-le}
 use Rattle.signature.specs.Decoded.{arity-of, argument-of, count-of}
 use Rattle.signature.specs.Limits.{kind-limit}
-use Rattle.signature.specs.Set.{bit}
+use Rattle.sets.specs.Set.{bit}
 use Rattle.signature.specs.Signature.{Signature, arguments}
 use Rattle.signature.proofs.KnownFacts.{argument-is, argument-small}
 use Rattle.signature.proofs.Tests.{true≢false}
 use Rattle.pattern.specs.Pattern.{Pattern, pattern-code, Patterns, pcons, patterns-code}
 use Rattle.pattern.specs.Weight.{sum-minus}
-use Rattle.builder.specs.Arguments.{GivenArgs, few-begun, HasFirst, row-words}
+use Rattle.builder.specs.Arguments.{GivenArgs, few-begun, HasFirst, words-of-rows}
 use Rattle.rowlist.specs.Next.{GivenNext}
 use Rattle.rowlist.specs.Sides.{rows-of, Open}
 use Rattle.builder.specs.Build.{GivenPat, Made}
-use Rattle.cell.specs.Coded.{kinds-of, code}
+use Rattle.cell.specs.Coded.{kinds-of, row-code}
 use Rattle.rowlist.specs.Grow.{words-list, ListFirst}
 use Rattle.row.specs.Row.{open-row, rows-minus}
 use Rattle.cell.specs.RowList.{from}
 use Rattle.builder.proofs.ArgSteps.{NextArg, next-arg, drop-next, begun-small, args-count}
 use Rattle.builder.proofs.Behind.{list-words}
 use Rattle.rowlist.proofs.Kinded.{few-heads, full-set, open-kind}
-use Rattle.cell.proofs.Masks.{mask-nil}
+use Rattle.sets.proofs.ListSets.{set-nil}
 use Rattle.builder.proofs.NextLists.{words-filled, words-short, words-count}
-use Rattle.builder.proofs.Parts.{in-front, code-some}
+use Rattle.builder.proofs.Parts.{in-front}
+use Rattle.pattern.proofs.PatternBack.{some-pattern-word}
 use Rattle.builder.proofs.Rooms.{rows-few, rows-places}
 use Rattle.row.proofs.RowCount.{minus-count}
 use Rattle.cell.proofs.Walk.{from-is, back}
@@ -61,8 +62,8 @@ module _ {t : List ℕ} {c j : ℕ} {w : List ℕ} {b : Bool} {used : ℕ} {o : 
       opened : Open (kinds-of (g .known .sig)) (g .known .sig) arg (256 + arg) full
       opened = let q = open-kind (g .known) arg (view .there) in record { kind = q .kind; some = q .some; within = q .within; tag-is = refl; full-is = full-set (g .known) arg (view .there) full f }
 
-      pub wild-is : _≡_ {A = List ℕ} ((256 + arg) ∷ (0 ∷ (full ∷ []))) (code (kinds-of (g .known .sig)) (open-row (g .known .sig) arg) arg)
-      wild-is = ap₂ (λ (x y : ℕ). (256 + arg) ∷ (x ∷ (y ∷ []))) (sym (mask-nil 0)) (opened .full-is)
+      pub wild-is : _≡_ {A = List ℕ} ((256 + arg) ∷ (0 ∷ (full ∷ []))) (row-code (kinds-of (g .known .sig)) (open-row (g .known .sig) arg) arg)
+      wild-is = ap₂ (λ (x y : ℕ). (256 + arg) ∷ (x ∷ (y ∷ []))) (sym (set-nil 0)) (opened .full-is)
 
       pub arg-given : (k k' : ℕ) → k ≡ m - (used + 1) → k' ≡ length o → GivenPat t (256 + arg) full w b k k'
       arg-given k k' e e' = record {
@@ -87,11 +88,11 @@ module _ {t : List ℕ} {c j : ℕ} {w : List ℕ} {b : Bool} {used : ℕ} {o : 
         pub arg-read : (read ≤ length w) × (1 ≤ read)
         arg-read = (
           omega (arith, arg-made .read-is, simp length-append at (ap length (g .code-is)), size-is),
-          omega (arith, arg-made .read-is, code-some (view .p)),
+          omega (arith, arg-made .read-is, some-pattern-word (view .p)),
         )
 
         abbrev pub L : List (List ℕ)
-        L = row-words (g .known .sig) arg (rows-of (g .known .sig) arg b (view .p))
+        L = words-of-rows (g .known .sig) arg (rows-of (g .known .sig) arg b (view .p))
 
         -- the two lists in the workspace, and room in the other slice
         module _ (v : List ℕ) (front : take (0 + (used + 1)) v ≡ take (used + 1) o) (l : length v ≡ m) where
@@ -136,6 +137,6 @@ pub first-of : (vs : List (List ℕ)) → HasFirst false vs → (v : List ℕ) �
 first-of [] h = absurd h
 first-of (v ∷ vs) h = (v, vs, refl)
 
-pub minus-few : (sig : Signature) (k : ℕ) (p : Pattern) (qs ps : Patterns) (n : ℕ) (b : Bool) → b ≡ false → ps ≡ pcons p qs → few-begun b n ps → n + length (row-words sig k (rows-of sig k b p)) ≤ 64
+pub minus-few : (sig : Signature) (k : ℕ) (p : Pattern) (qs ps : Patterns) (n : ℕ) (b : Bool) → b ≡ false → ps ≡ pcons p qs → few-begun b n ps → n + length (words-of-rows sig k (rows-of sig k b p)) ≤ 64
 minus-few sig k p qs ps n true e f h = true≢false e
 minus-few sig k p qs ps n false e f h = let z : n + sum-minus ps ≤ 64 = h in omega (arith, ap sum-minus f, z, words-count sig k (rows-minus sig k p), minus-count sig p k)

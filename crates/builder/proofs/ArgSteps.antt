@@ -21,12 +21,12 @@ use Rattle.builder.specs.Build.{light-of}
 use Rattle.rowlist.specs.Grow.{words-list}
 use Rattle.builder.proofs.Behind.{behind-nil}
 
--- ---- lists that are begun are short
+-- lists that are begun are short
 pub list-le : (n : ℕ) (vs : List (List ℕ)) → Short n vs → length (words-list vs) ≤ length vs * (1 + n)
 list-le n [] s = omega arith
 list-le n (v ∷ vs) s = rw (suc-mul (length vs) (1 + n)) (simp length-append (omega (arith, list-le n vs (s .1), s .0)))
 
--- ---- which argument is next
+-- which argument is next
 pub record NextArg (sig : Signature) (b : Bool) (n : ℕ) (ks : List ℕ) (ps : Patterns) (k : ℕ) (js : List ℕ) : Type 0 where
   pub p : Pattern
   pub qs : Patterns

@@ -9,16 +9,16 @@ use lib.Dec.{ltb}
 use lib.ListN.{length, take, drop, length-append}
 use lib.Seq.{drop-at}
 use Rattle.signature.specs.Decoded.{arity-of, argument-of, count-of}
-use Rattle.signature.specs.Set.{bit}
+use Rattle.sets.specs.Set.{bit}
 use Rattle.signature.specs.Signature.{Signature, arguments}
 use Rattle.signature.proofs.Tests.{times-less}
 use Rattle.pattern.specs.Pattern.{Pattern, pattern-code, Patterns, pcons, patterns-code}
 use Rattle.pattern.specs.Weight.{weight-plus, product-plus}
-use Rattle.builder.specs.Arguments.{GivenArgs, MadeArgs, few-begun, HasFirst, behind, row-words}
+use Rattle.builder.specs.Arguments.{GivenArgs, MadeArgs, few-begun, HasFirst, behind, words-of-rows}
 use Rattle.rowlist.specs.Next.{GivenNextAt, next-made, next-rows}
 use Rattle.rowlist.specs.Sides.{rows-of}
 use Rattle.builder.specs.Build.{GivenPat, Made}
-use Rattle.cell.specs.Coded.{kinds-of, code}
+use Rattle.cell.specs.Coded.{kinds-of, row-code}
 use Rattle.rowlist.specs.Grow.{words-list}
 use Rattle.rowlist.specs.Product.{Product}
 use Rattle.row.specs.Row.{Rows, open-row, rows-plus, args-plus}
@@ -26,27 +26,27 @@ use Rattle.cell.specs.RowList.{from}
 use Rattle.builder.proofs.ArgCalls.{view, size-is, arg-made, wild-is, next-core, first-of, minus-few}
 use Rattle.builder.proofs.Behind.{behind-plus, behind-minus}
 use Rattle.builder.proofs.NextLists.{next-filled, next-short, next-first, next-few, words-short, words-count}
-use Rattle.builder.proofs.Parts.{code-some}
+use Rattle.pattern.proofs.PatternBack.{some-pattern-word}
 use Rattle.builder.proofs.Rooms.{rows-places}
 use Rattle.row.proofs.RowCount.{plus-count, args-plus-count}
 use Rattle.cell.proofs.Walk.{from-is, back}
 
 -- more rows than a part may weigh: none of the arguments that are left has rows
-none-left : (sig : Signature) (k n : ℕ) (p : Pattern) (js : List ℕ) (qs : Patterns) → n * product-plus (pcons p qs) ≤ 64 → 64 < n * length (row-words sig k (rows-plus sig k p)) → args-plus sig js qs ≡ []
+none-left : (sig : Signature) (k n : ℕ) (p : Pattern) (js : List ℕ) (qs : Patterns) → n * product-plus (pcons p qs) ≤ 64 → 64 < n * length (words-of-rows sig k (rows-plus sig k p)) → args-plus sig js qs ≡ []
 none-left sig k n p js qs h l = go (product-plus qs) refl (args-plus sig js qs) (args-plus-count sig qs js)
   where
     go : (d : ℕ) → product-plus qs ≡ d → (rss : List Rows) → length rss ≤ product-plus qs → rss ≡ []
     go d e [] i = refl
     go zero e (rs ∷ rss) i = absurd (omega (arith, e, i))
     go (suc d) e (rs ∷ rss) i =
-        let w : length (row-words sig k (rows-plus sig k p)) ≤ weight-plus p = omega (arith, words-count sig k (rows-plus sig k p), plus-count sig p k) in
-        let x : n * length (row-words sig k (rows-plus sig k p)) ≤ n * weight-plus p = times-less n n _ _ (omega arith) w in
+        let w : length (words-of-rows sig k (rows-plus sig k p)) ≤ weight-plus p = omega (arith, words-count sig k (rows-plus sig k p), plus-count sig p k) in
+        let x : n * length (words-of-rows sig k (rows-plus sig k p)) ≤ n * weight-plus p = times-less n n _ _ (omega arith) w in
         let y : (n * weight-plus p) * 1 ≤ (n * weight-plus p) * product-plus qs = times-less (n * weight-plus p) (n * weight-plus p) 1 (product-plus qs) (omega arith) (omega (arith, e)) in
         let z : (n * weight-plus p) * product-plus qs ≤ 64 = rw (mul-assoc n (weight-plus p) (product-plus qs)) h in
         absurd (omega (arith, l, x, y, z))
 
 behind-one : (b : Bool) (sig : Signature) (k : ℕ) (js : List ℕ) (p : Pattern) (qs : Patterns) (vs : List (List ℕ)) → few-begun b (length vs) (pcons p qs)
-    → behind b sig (k ∷ js) (pcons p qs) vs ≡ behind b sig js qs (next-rows b (code (kinds-of sig) (open-row sig k) k) vs (row-words sig k (rows-of sig k b p)))
+    → behind b sig (k ∷ js) (pcons p qs) vs ≡ behind b sig js qs (next-rows b (row-code (kinds-of sig) (open-row sig k) k) vs (words-of-rows sig k (rows-of sig k b p)))
 behind-one true sig k js p qs vs f = behind-plus sig k js p qs vs (λ l. none-left sig k (length vs) p js qs f l)
 behind-one false sig k js p qs vs f = behind-minus sig k js p qs vs
 
@@ -63,7 +63,7 @@ module _ {t : List ℕ} {c j : ℕ} {w : List ℕ} {b : Bool} {used : ℕ} {o : 
         v = q .0;
         vs = q .1;
         first = q .2;
-        cell = omega (arith, code-some (view g h arg arg-is .p));
+        cell = omega (arith, some-pattern-word (view g h arg arg-is .p));
         few = minus-few (g .known .sig) arg (view g h arg arg-is .p) (view g h arg arg-is .qs) (g .ps) (length (g .begun)) b z (view g h arg arg-is .parts-are) (g .few);
       }
 
@@ -71,10 +71,10 @@ module _ {t : List ℕ} {c j : ℕ} {w : List ℕ} {b : Bool} {used : ℕ} {o : 
   next-given n i = next-at b refl n i
 
   abbrev begun' : List (List ℕ)
-  begun' = next-rows b ((256 + arg) ∷ (0 ∷ (full ∷ []))) (g .begun) (row-words (g .known .sig) arg (rows-of (g .known .sig) arg b (view g h arg arg-is .p)))
+  begun' = next-rows b ((256 + arg) ∷ (0 ∷ (full ∷ []))) (g .begun) (words-of-rows (g .known .sig) arg (rows-of (g .known .sig) arg b (view g h arg arg-is .p)))
 
   next-list : (d : Bool) (z : b ≡ d) (n : ℕ) (i : n ≡ length o) → next-made d (256 + arg) full (back v (used + 1) ys) (used + 1) n (next-at d z n i)
-      ≡ words-list (next-rows d ((256 + arg) ∷ (0 ∷ (full ∷ []))) (g .begun) (row-words (g .known .sig) arg (rows-of (g .known .sig) arg b (view g h arg arg-is .p))))
+      ≡ words-list (next-rows d ((256 + arg) ∷ (0 ∷ (full ∷ []))) (g .begun) (words-of-rows (g .known .sig) arg (rows-of (g .known .sig) arg b (view g h arg arg-is .p))))
   unfolding next-at
   next-list true z n i = refl
   next-list false z n i = refl
@@ -104,16 +104,16 @@ module _ {t : List ℕ} {c j : ℕ} {w : List ℕ} {b : Bool} {used : ℕ} {o : 
       there = view g h arg arg-is .theres;
       begun = begun';
       list = made-next;
-      filled = next-filled b ((256 + arg) ∷ (0 ∷ (full ∷ []))) (g .begun) (row-words (g .known .sig) arg (rows-of (g .known .sig) arg b (view g h arg arg-is .p))) (g .filled);
+      filled = next-filled b ((256 + arg) ∷ (0 ∷ (full ∷ []))) (g .begun) (words-of-rows (g .known .sig) arg (rows-of (g .known .sig) arg b (view g h arg arg-is .p))) (g .filled);
       a = g .a + length (pattern-code (view g h arg arg-is .p));
       some-words = omega (arith, g .some-words);
       short =
           let x : 3 * (g .a + length (pattern-code (view g h arg arg-is .p))) ≡ 3 * g .a + 3 * length (pattern-code (view g h arg arg-is .p)) = omega arith in
-          rw x (next-short b (3 * g .a) (3 * length (pattern-code (view g h arg arg-is .p))) ((256 + arg) ∷ (0 ∷ (full ∷ []))) (g .begun) (row-words (g .known .sig) arg (rows-of (g .known .sig) arg b (view g h arg arg-is .p))) (omega (arith, code-some (view g h arg arg-is .p))) (g .short)
+          rw x (next-short b (3 * g .a) (3 * length (pattern-code (view g h arg arg-is .p))) ((256 + arg) ∷ (0 ∷ (full ∷ []))) (g .begun) (words-of-rows (g .known .sig) arg (rows-of (g .known .sig) arg b (view g h arg arg-is .p))) (omega (arith, some-pattern-word (view g h arg arg-is .p))) (g .short)
           (words-short (g .known .sig) arg (length (pattern-code (view g h arg arg-is .p))) (rows-places (g .known .sig) arg (view g h arg arg-is .p) b (view g h arg arg-is .well))));
       few = few-next .0;
       count = few-next .1;
-      first = next-first b ((256 + arg) ∷ (0 ∷ (full ∷ []))) (g .begun) (row-words (g .known .sig) arg (rows-of (g .known .sig) arg b (view g h arg arg-is .p))) (g .first);
+      first = next-first b ((256 + arg) ∷ (0 ∷ (full ∷ []))) (g .begun) (words-of-rows (g .known .sig) arg (rows-of (g .known .sig) arg b (view g h arg arg-is .p))) (g .first);
       room = omega (arith, size-is g h arg arg-is, g .room, same);
       work-room = omega (arith, size-is g h arg arg-is, g .work-room, z);
     }
@@ -132,7 +132,7 @@ module _ {t : List ℕ} {c j : ℕ} {w : List ℕ} {b : Bool} {used : ℕ} {o : 
             let q : behind b (g .known .sig) (g .ks) (g .ps) (g .begun) ≡ behind b (g .known .sig) js (view g h arg arg-is .qs) begun' =
             ap₂ (λ (a : List ℕ) (d : Patterns). behind b (g .known .sig) a d (g .begun)) (view g h arg arg-is .kinds-are) (view g h arg arg-is .parts-are)
             ∙ behind-one b (g .known .sig) arg js (view g h arg arg-is .p) (view g h arg arg-is .qs) (g .begun) (subst (λ (z : Patterns). few-begun b (length (g .begun)) z) (view g h arg arg-is .parts-are) (g .few))
-            ∙ ap (λ (x : List ℕ). behind b (g .known .sig) js (view g h arg arg-is .qs) (next-rows b x (g .begun) (row-words (g .known .sig) arg (rows-of (g .known .sig) arg b (view g h arg arg-is .p))))) (sym (wild-is g h arg arg-is full f)) in
+            ∙ ap (λ (x : List ℕ). behind b (g .known .sig) js (view g h arg arg-is .qs) (next-rows b x (g .begun) (words-of-rows (g .known .sig) arg (rows-of (g .known .sig) arg b (view g h arg arg-is .p))))) (sym (wild-is g h arg arg-is full f)) in
             subst (λ (x : List (List ℕ)). Product (words-list x) used' o'') (sym q) (made-rest .list);
       }
 

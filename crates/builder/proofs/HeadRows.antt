@@ -11,7 +11,7 @@ use lib.ListN.{length, length-append, getD}
 use Rattle.signature.specs.Decoded.{first-of, decoded-length}
 use Rattle.signature.specs.Limits.{kind-limit}
 use Rattle.signature.specs.Lists.{memb, keep, is-empty}
-use Rattle.signature.specs.Set.{set-limit, bit}
+use Rattle.sets.specs.Set.{set-limit, bit, set-of, Within}
 use Rattle.signature.specs.Signature.{Signature, heads, arguments, arguments-at}
 use Rattle.signature.proofs.Booleans.{and-left, and-right}
 use Rattle.signature.proofs.Heads.{args-same}
@@ -21,10 +21,10 @@ use Rattle.signature.proofs.Tests.{eqb-eq, eqb-ne, eqb-self, le-of, true≢fals
 use Rattle.pattern.specs.Pattern.{Pattern, head, and, or, wild, absurd-pat, neg, var, pattern-code, Patterns, patterns-code}
 use Rattle.pattern.specs.Weight.{product-plus, sum-minus, light-all-plus, light-all-minus}
 use Rattle.pattern.specs.WellFormed.{WellFormed, AllWellFormed, well-head}
-use Rattle.cell.specs.Coded.{kinds-of, code}
-use Rattle.cell.specs.Mask.{mask, Within}
+use Rattle.pattern.proofs.Opened.{shape}
+use Rattle.cell.specs.Coded.{kinds-of, row-code}
 use Rattle.cell.specs.RowList.{from, entries}
-use Rattle.cell.proofs.Masks.{bit-ext, bit-mask, mask-nil, mask-one, mask-some, one-if, within-keep}
+use Rattle.sets.proofs.ListSets.{all-but, only-one, set-nil, set-some, within-keep}
 use Rattle.cell.proofs.Walk.{each-append}
 use Rattle.row.specs.Row.{Rows, named, free, other-than, args-plus, args-minus}
 use Rattle.rowlist.specs.Grow.{words-list, appends}
@@ -33,12 +33,14 @@ use Rattle.rowlist.specs.Product.{Product}
 use Rattle.rowlist.specs.Sides.{rows-of}
 use Rattle.rowlist.proofs.Kinded.{known-head, kinds-same}
 use Rattle.rowlist.proofs.Typing.{args-there}
-use Rattle.builder.specs.Arguments.{GivenArgs, MadeArgs, HasFirst, few-begun, lights-of, row-words, arg-words, open-words, behind}
-use Rattle.builder.specs.Build.{light-of, GivenHead, Made}
+use Rattle.builder.specs.Arguments.{GivenArgs, MadeArgs, HasFirst, few-begun, lights-of, words-of-rows, arg-words, open-words, behind}
+use Rattle.builder.specs.Build.{light-of, step-of, GivenHead, Made}
+use Rattle.builder.specs.declared.build.Step.the-variants.{Head}
 use Rattle.builder.proofs.Behind.{list-words}
-use Rattle.builder.proofs.Parts.{first-part, word-is}
+use Rattle.builder.proofs.Building.{head-number, other-step}
+use Rattle.builder.proofs.Parts.{first-part, step-is}
 
--- ---- a pattern whose first word is a constructor
+-- a pattern whose first word is a constructor
 pub record HeadOf (sig : Signature) (k : ℕ) (p : Pattern) (b : Bool) (c : ℕ) : Type 0 where
   pub ps : Patterns
   pub p-is : p ≡ head c ps
@@ -51,76 +53,54 @@ light-head : (b : Bool) (c : ℕ) (ps : Patterns) → light-of b (head c ps) ≡
 light-head true c ps l = (and-right (leb (product-plus ps) 64) (light-all-plus ps) l, omega (arith, le-of (product-plus ps) 64 (and-left (leb (product-plus ps) 64) (light-all-plus ps) l)))
 light-head false c ps l = (and-right (leb (suc (sum-minus ps)) 64) (light-all-minus ps) l, omega (arith, le-of (suc (sum-minus ps)) 64 (and-left (leb (suc (sum-minus ps)) 64) (light-all-minus ps) l)))
 
-head-of : (sig : Signature) (k : ℕ) (p : Pattern) (b : Bool) (rest : List ℕ) → WellFormed sig k p → light-of b p ≡ true → getD (pattern-code p ++ rest) 0 0 < 256 → HeadOf sig k p b (getD (pattern-code p ++ rest) 0 0)
-head-of sig k (head c ps) b rest (well-head {ks = ks} i e h) l z =
-    let q = args-same sig k c ks e in
-    let y = light-head b c ps l in
-    record { ps = ps; p-is = refl; inside = e ∙ ap some (sym q); wells = subst (λ (js : List ℕ). AllWellFormed sig js ps) (sym q) h; light = y .0; few = y .1 }
-head-of sig k (and p q) b rest h l z = absurd (omega (arith, z))
-head-of sig k (or p q) b rest h l z = absurd (omega (arith, z))
-head-of sig k wild b rest h l z = absurd (omega (arith, z))
-head-of sig k absurd-pat b rest h l z = absurd (omega (arith, z))
-head-of sig k (neg p) b rest h l z = absurd (omega (arith, z))
-head-of sig k (var x) b rest h l z = absurd (omega (arith, z))
+head-of : (sig : Signature) (k : ℕ) (p : Pattern) (b : Bool) (c : ℕ) → WellFormed sig k p → light-of b p ≡ true → step-of (shape p) b ≡ Head c → HeadOf sig k p b c
+head-of sig k (head d ps) b c (well-head {ks = ks} i e h) l w =
+    subst (HeadOf sig k (head d ps) b) (ap head-number w) (
+    let q = args-same sig k d ks e in
+    let y = light-head b d ps l in
+    record { ps = ps; p-is = refl; inside = e ∙ ap some (sym q); wells = subst (λ (js : List ℕ). AllWellFormed sig js ps) (sym q) h; light = y .0; few = y .1 })
+head-of sig k (and p q) true c h l w = other-step w (λ z. omega (arith, z))
+head-of sig k (and p q) false c h l w = other-step w (λ z. omega (arith, z))
+head-of sig k (or p q) true c h l w = other-step w (λ z. omega (arith, z))
+head-of sig k (or p q) false c h l w = other-step w (λ z. omega (arith, z))
+head-of sig k wild true c h l w = other-step w (λ z. omega (arith, z))
+head-of sig k wild false c h l w = other-step w (λ z. omega (arith, z))
+head-of sig k absurd-pat true c h l w = other-step w (λ z. omega (arith, z))
+head-of sig k absurd-pat false c h l w = other-step w (λ z. omega (arith, z))
+head-of sig k (neg p) b c h l w = other-step w (λ z. omega (arith, z))
+head-of sig k (var x) true c h l w = other-step w (λ z. omega (arith, z))
+head-of sig k (var x) false c h l w = other-step w (λ z. omega (arith, z))
 
 has-first : (b : Bool) (v : List ℕ) (vs : List (List ℕ)) → HasFirst b (v ∷ vs)
 has-first true v vs = tt
 has-first false v vs = tt
 
--- ---- the words of its rows
+-- the words of its rows
 module _ (sig : Signature) (k c : ℕ) where
   abbrev pub begin : List ℕ
-  begin = c ∷ (mask 0 [] ∷ (mask (kinds-of sig .first k) (c ∷ []) ∷ []))
+  begin = c ∷ (set-of 0 [] ∷ (set-of (kinds-of sig .first k) (c ∷ []) ∷ []))
 
-  named-words : (rss : List Rows) → appends begin (arg-words sig (arguments sig c) rss) ≡ row-words sig k (map (named [] c) rss)
+  named-words : (rss : List Rows) → appends begin (arg-words sig (arguments sig c) rss) ≡ words-of-rows sig k (map (named [] c) rss)
   named-words [] = refl
-  named-words (rs ∷ rss) = ap (λ (l : List (List ℕ)). code (kinds-of sig) (named [] c rs) k ∷ l) (named-words rss)
+  named-words (rs ∷ rss) = ap (λ (l : List (List ℕ)). row-code (kinds-of sig) (named [] c rs) k ∷ l) (named-words rss)
 
   pub named-list : (rss : List Rows) → words-list (appends begin (arg-words sig (arguments sig c) rss)) ≡ entries (kinds-of sig) k (map (named [] c) rss)
   named-list rss = ap words-list (named-words rss) ∙ list-words (kinds-of sig) k (map (named [] c) rss)
 
--- the set of all heads but one
-not-here : (f c i : ℕ) → f ≤ c → (b : Bool) → cond (eqb i (c - f)) 0 (one-if b) ≡ one-if (b && not (eqb c (f + i)))
-not-here f c i l b = go (eqb c (f + i)) refl
-  where
-    keeps : (b : Bool) → one-if b ≡ one-if (b && true)
-    keeps true = refl
-    keeps false = refl
-
-    drops : (b : Bool) → 0 ≡ one-if (b && false)
-    drops true = refl
-    drops false = refl
-
-    go : (d : Bool) → eqb c (f + i) ≡ d → cond (eqb i (c - f)) 0 (one-if b) ≡ one-if (b && not d)
-    go true e = let z : c - f ≡ i = omega (arith, eqb-eq c (f + i) e) in rw (z, eqb-self i) (drops b)
-    go false e = rw (ne-eqb i (c - f) (λ z. eqb-ne c (f + i) e (omega (arith, z, l)))) (keeps b)
-
-pub all-but : (f c : ℕ) (hs : List ℕ) (full rest : ℕ) → Within f hs → f ≤ c → full ≡ mask f hs → ((i : ℕ) → bit rest i ≡ cond (eqb i (c - f)) 0 (bit full i)) → rest ≡ mask f (keep (λ d. not (eqb c d)) hs)
-all-but f c hs full rest w l e h = bit-ext _ _ (λ i.
-    h i
-    ∙ ap (λ (n : ℕ). cond (eqb i (c - f)) 0 (bit n i)) e
-    ∙ ap (λ (n : ℕ). cond (eqb i (c - f)) 0 n) (bit-mask f i hs w)
-    ∙ not-here f c i l (memb (f + i) hs)
-    ∙ ap one-if (sym (memb-keep (λ d. not (eqb c d)) (f + i) hs))
-    ∙ sym (bit-mask f i (keep (λ d. not (eqb c d)) hs) (within-keep f (λ d. not (eqb c d)) hs w)))
-
-pub other-list : (sig : Signature) (k c rest : ℕ) → Within (kinds-of sig .first k) (heads sig k) → rest ≡ mask (kinds-of sig .first k) (keep (λ d. not (eqb c d)) (heads sig k)) → others-code (256 + k) rest ≡ entries (kinds-of sig) k (other-than sig k c)
+pub other-list : (sig : Signature) (k c rest : ℕ) → Within (kinds-of sig .first k) (heads sig k) → rest ≡ set-of (kinds-of sig .first k) (keep (λ d. not (eqb c d)) (heads sig k)) → others-code (256 + k) rest ≡ entries (kinds-of sig) k (other-than sig k c)
 other-list sig k c rest w e = rw e (go (keep (λ d. not (eqb c d)) (heads sig k)) (within-keep _ (λ d. not (eqb c d)) (heads sig k) w))
   where
-    go : (cs : List ℕ) → Within (kinds-of sig .first k) cs → others-code (256 + k) (mask (kinds-of sig .first k) cs) ≡ entries (kinds-of sig) k (cond (is-empty cs) [] (free [] cs ∷ []))
-    go [] w = rw (mask-nil (kinds-of sig .first k))
-    go (d ∷ ds) w = rw (ne-eqb _ 0 (mask-some (kinds-of sig .first k) d ds w), mask-nil 0)
+    go : (cs : List ℕ) → Within (kinds-of sig .first k) cs → others-code (256 + k) (set-of (kinds-of sig .first k) cs) ≡ entries (kinds-of sig) k (cond (is-empty cs) [] (free [] cs ∷ []))
+    go [] w = rw (set-nil (kinds-of sig .first k))
+    go (d ∷ ds) w = rw (ne-eqb _ 0 (set-some (kinds-of sig .first k) d ds w), set-nil 0)
 
--- ---- what the calls ask and give
-module _ {t : List ℕ} {tag full : ℕ} {w : List ℕ} {b : Bool} {n m : ℕ} (g : GivenHead t tag full w b n m) where
+-- what the calls ask and give
+module _ {t : List ℕ} {tag full c own : ℕ} {w : List ℕ} {b : Bool} {n m : ℕ} (g : GivenHead t tag full c own w b n m) where
   abbrev sig : Signature
   sig = g .pat .known .sig
 
-  abbrev c : ℕ
-  c = getD w 0 0
-
-  view : HeadOf (g .pat .known .sig) (g .pat .k) (g .pat .p) b (getD w 0 0)
-  view = rw (word-is (g .pat)) (head-of (g .pat .known .sig) (g .pat .k) (g .pat .p) b (g .pat .rest) (g .pat .well) (g .pat .light) (rw (word-is (g .pat)) at (g .small)))
+  view : HeadOf (g .pat .known .sig) (g .pat .k) (g .pat .p) b c
+  view = head-of (g .pat .known .sig) (g .pat .k) (g .pat .p) b c (g .pat .well) (g .pat .light) (step-is (g .pat) (g .word))
 
   first-is : first-of t (tag - 256) ≡ kinds-of sig .first (g .pat .k)
   first-is = let z : tag - 256 ≡ g .pat .k = omega (arith, g .pat .opened .tag-is) in ap (first-of t) z ∙ g .pat .known .decoded .first-head (g .pat .k) (g .pat .there)
@@ -128,7 +108,7 @@ module _ {t : List ℕ} {tag full : ℕ} {w : List ℕ} {b : Bool} {n m : ℕ} (
   size-is : length (pattern-code (g .pat .p)) ≡ 1 + length (patterns-code (view .ps))
   size-is = ap (λ (z : Pattern). length (pattern-code z)) (view .p-is) ∙ omega arith
 
-  pub head-place : (length t ≡ decoded-length) × (256 ≤ tag) × (tag < 256 + kind-limit) × (first-of t (tag - 256) ≤ getD w 0 0) × (getD w 0 0 < first-of t (tag - 256) + set-limit)
+  pub head-place : (length t ≡ decoded-length) × (256 ≤ tag) × (tag < 256 + kind-limit) × (first-of t (tag - 256) ≤ c) × (c < first-of t (tag - 256) + set-limit)
   head-place =
       let h = known-head (g .pat .known) (g .pat .k) c _ (view .inside) in (
         long (g .pat .known),
@@ -141,11 +121,11 @@ module _ {t : List ℕ} {tag full : ℕ} {w : List ℕ} {b : Bool} {n m : ℕ} (
   pub head-room : 5 ≤ n
   head-room = omega (arith, g .pat .room, size-is)
 
-  module _ (i x used : ℕ) (o : List ℕ) (at : i ≡ getD w 0 0 - first-of t (tag - 256)) (e : x ≡ 2 ^ i) (l : Product (3 ∷ (getD w 0 0 ∷ (0 ∷ (x ∷ [])))) used o) (same : length o ≡ n) where
+  module _ (i x used : ℕ) (o : List ℕ) (at : i ≡ c - first-of t (tag - 256)) (e : (j : ℕ) → bit x j ≡ cond (eqb j i) 1 0) (l : Product (3 ∷ (c ∷ (0 ∷ (x ∷ [])))) used o) (same : length o ≡ n) where
     begin-is : begin sig (g .pat .k) c ≡ c ∷ (0 ∷ (x ∷ []))
-    begin-is = ap₂ (λ (a d : ℕ). c ∷ (a ∷ (d ∷ []))) (mask-nil 0) (mask-one (kinds-of sig .first (g .pat .k)) c ∙ ap (λ (j : ℕ). 2 ^ (c - j)) (sym first-is) ∙ ap (λ (j : ℕ). 2 ^ j) (sym at) ∙ sym e)
+    begin-is = ap₂ (λ (a d : ℕ). c ∷ (a ∷ (d ∷ []))) (set-nil 0) (sym (only-one (kinds-of sig .first (g .pat .k)) c i x (at ∙ ap (λ (f : ℕ). c - f) first-is) e))
 
-    pub args-given : (m' : ℕ) → m' ≡ m → GivenArgs t (getD w 0 0) 0 (from w 1) b used o m'
+    pub args-given : (m' : ℕ) → m' ≡ m → GivenArgs t c 0 (from w own) b used o m'
     args-given m' q = record {
       known = g .pat .known;
       head = is-constructor (g .pat .known) (g .pat .k) c _ (view .inside);
@@ -153,7 +133,7 @@ module _ {t : List ℕ} {tag full : ℕ} {w : List ℕ} {b : Bool} {n m : ℕ} (
       kinds = refl;
       ps = view .ps;
       rest = g .pat .rest;
-      code-is = first-part w c (patterns-code (view .ps)) (g .pat .rest) (g .pat .code-is ∙ ap (λ (z : Pattern). pattern-code z ++ g .pat .rest) (view .p-is));
+      code-is = first-part w c (patterns-code (view .ps)) (g .pat .rest) own (g .own-is) (g .pat .code-is ∙ ap (λ (z : Pattern). pattern-code z ++ g .pat .rest) (view .p-is));
       well = view .wells;
       light = view .light;
       there = args-there (g .pat .known) (g .pat .k) c _ (view .inside);
@@ -170,13 +150,13 @@ module _ {t : List ℕ} {tag full : ℕ} {w : List ℕ} {b : Bool} {n m : ℕ} (
       work-room = omega (arith, size-is, g .pat .work-room, q);
     }
 
-    module _ (m' used' read : ℕ) (q : m' ≡ m) (o' : List ℕ) (f : (a : GivenArgs t (getD w 0 0) 0 (from w 1) b used o m') → MadeArgs (a .known .sig) b (a .ks) (a .ps) (a .begun) (a .a + length (patterns-code (a .ps))) used' read o') where
+    module _ (m' used' read : ℕ) (q : m' ≡ m) (o' : List ℕ) (f : (a : GivenArgs t c 0 (from w own) b used o m') → MadeArgs (a .known .sig) b (a .ks) (a .ps) (a .begun) (a .a + length (patterns-code (a .ps))) used' read o') where
       made-args : MadeArgs sig b (arguments sig c) (view .ps) (begin sig (g .pat .k) c ∷ []) (1 + length (patterns-code (view .ps))) used' read o'
       unfolding args-given
       made-args = f (args-given m' q)
 
-      pub head-read : read + 1 ≤ length w
-      head-read = omega (arith, made-args .read-is, size-is, simp length-append at (ap length (g .pat .code-is)))
+      pub head-read : read + own ≤ length w
+      head-read = omega (arith, g .own-is, made-args .read-is, size-is, simp length-append at (ap length (g .pat .code-is)))
 
       rows-are : (d : Bool) → rows-of sig (g .pat .k) d (g .pat .p) ≡ rows-of sig (g .pat .k) d (head c (view .ps))
       rows-are d = ap (rows-of sig (g .pat .k) d) (view .p-is)
@@ -186,9 +166,9 @@ module _ {t : List ℕ} {tag full : ℕ} {w : List ℕ} {b : Bool} {n m : ℕ} (
       plus-list true z = ap words-list (append-nil (appends (begin sig (g .pat .k) c) (arg-words sig (arguments sig c) (args-plus sig (arguments sig c) (view .ps))))) ∙ named-list sig (g .pat .k) c (args-plus sig (arguments sig c) (view .ps))
       plus-list false z = true≢false (sym z)
 
-      pub plus-made : b ≡ true → Made (kinds-of (g .pat .known .sig)) (g .pat .known .sig) (g .pat .k) b (g .pat .p) used' (read + 1) o'
+      pub plus-made : b ≡ true → Made (kinds-of (g .pat .known .sig)) (g .pat .known .sig) (g .pat .k) b (g .pat .p) used' (read + own) o'
       plus-made z = record {
-        read-is = omega (arith, made-args .read-is, size-is);
+        read-is = omega (arith, g .own-is, made-args .read-is, size-is);
         list = subst (λ (l : List ℕ). Product l used' o') (plus-list b z ∙ ap (entries (kinds-of sig) (g .pat .k)) (sym (rows-are b))) (made-args .list);
       }
 
@@ -211,7 +191,7 @@ module _ {t : List ℕ} {tag full : ℕ} {w : List ℕ} {b : Bool} {n m : ℕ} (
       minus-rows false z = refl
 
       pub minus-made : (z : b ≡ false) (rest r m'' : ℕ) (o'' : List ℕ) → m'' ≡ m → ((j : ℕ) → bit rest j ≡ cond (eqb j i) 0 (bit full j))
-          → ((y : GivenOthers used' o' m'') → Product (others-code tag rest ++ words-list (y .vs)) r o'') → Made (kinds-of (g .pat .known .sig)) (g .pat .known .sig) (g .pat .k) b (g .pat .p) r (read + 1) o''
+          → ((y : GivenOthers used' o' m'') → Product (others-code tag rest ++ words-list (y .vs)) r o'') → Made (kinds-of (g .pat .known .sig)) (g .pat .known .sig) (g .pat .k) b (g .pat .p) r (read + own) o''
       unfolding others-given
       minus-made z rest r m'' o'' y h p =
           let K = kinds-of sig in
@@ -219,13 +199,13 @@ module _ {t : List ℕ} {tag full : ℕ} {w : List ℕ} {b : Bool} {n m : ℕ} (
           let R = map (named [] c) (args-minus sig (arguments sig c) (view .ps)) in
           let d : i ≡ c - K .first k = at ∙ ap (λ (j : ℕ). c - j) first-is in
           let low : K .first k ≤ c = known-head (g .pat .known) k c _ (view .inside) .low in
-          let set : rest ≡ mask (K .first k) (keep (λ d. not (eqb c d)) (heads sig k)) = all-but (K .first k) c (heads sig k) full rest (g .pat .opened .within) low (g .pat .opened .full-is) (λ j. h j ∙ ap (λ (i : ℕ). cond (eqb j i) 0 (bit full j)) d) in
+          let set : rest ≡ set-of (K .first k) (keep (λ d. not (eqb c d)) (heads sig k)) = all-but (K .first k) c (heads sig k) full rest (g .pat .opened .within) low (g .pat .opened .full-is) (λ j. h j ∙ ap (λ (i : ℕ). cond (eqb j i) 0 (bit full j)) d) in
           let one : others-code tag rest ≡ entries K k (other-than sig k c) = ap (λ (a : ℕ). others-code a rest) (g .pat .opened .tag-is) ∙ other-list sig k c rest (g .pat .opened .within) set in
           let all : others-code tag rest ++ words-list (others-given z m'' y .vs) ≡ entries K k (rows-of sig k b (g .pat .p)) =
           ap₂ (λ (a b : List ℕ). a ++ b) one (named-list sig k c (args-minus sig (arguments sig c) (view .ps)))
-          ∙ sym (each-append (λ r. code K r k) (other-than sig k c) R)
+          ∙ sym (each-append (λ r. row-code K r k) (other-than sig k c) R)
           ∙ ap (entries K k) (sym (rows-are b ∙ minus-rows b z)) in
           record {
-            read-is = omega (arith, made-args .read-is, size-is);
+            read-is = omega (arith, g .own-is, made-args .read-is, size-is);
             list = subst (λ (l : List ℕ). Product l r o'') all (p (others-given z m'' y));
           }

@@ -13,10 +13,10 @@ use Rattle.signature.specs.Signature.{Signature}
 use Rattle.signature.proofs.Tests.{times-less}
 use Rattle.pattern.specs.Pattern.{Pattern, Patterns, pcons}
 use Rattle.pattern.specs.Weight.{weight-plus, weight-minus, product-plus}
-use Rattle.builder.specs.Arguments.{few-begun, HasFirst, row-words}
+use Rattle.builder.specs.Arguments.{few-begun, HasFirst, words-of-rows}
 use Rattle.rowlist.specs.Next.{Short, next-rows}
 use Rattle.rowlist.specs.Sides.{rows-of}
-use Rattle.cell.specs.Coded.{kinds-of, code}
+use Rattle.cell.specs.Coded.{kinds-of, row-code}
 use Rattle.rowlist.specs.Grow.{Filled, appends, grown}
 use Rattle.row.specs.Row.{Row, rows-plus, rows-minus}
 use Rattle.row.specs.RowFits.{place-count}
@@ -79,32 +79,32 @@ length-minus w [] ws h = absurd h
 length-minus w (v ∷ vs) ws h = simp length-append (omega (arith, length-grown vs (w ∷ []), length-map (λ (w : List ℕ). v ++ w) ws))
 
 pub next-few : (b : Bool) (sig : Signature) (k : ℕ) (p : Pattern) (qs : Patterns) (w : List ℕ) (vs : List (List ℕ)) → HasFirst b vs → few-begun b (length vs) (pcons p qs)
-    → few-begun b (length (next-rows b w vs (row-words sig k (rows-of sig k b p)))) qs × (length (next-rows b w vs (row-words sig k (rows-of sig k b p))) ≤ 64)
-next-few true sig k p qs w vs f h = go (ltb 64 (length vs * length (row-words sig k (rows-plus sig k p)))) refl
+    → few-begun b (length (next-rows b w vs (words-of-rows sig k (rows-of sig k b p)))) qs × (length (next-rows b w vs (words-of-rows sig k (rows-of sig k b p))) ≤ 64)
+next-few true sig k p qs w vs f h = go (ltb 64 (length vs * length (words-of-rows sig k (rows-plus sig k p)))) refl
   where
-    at-most : length (row-words sig k (rows-plus sig k p)) ≤ weight-plus p
-    at-most = omega (arith, length-map (λ r. code (kinds-of sig) r k) (rows-plus sig k p), plus-count sig p k)
+    at-most : length (words-of-rows sig k (rows-plus sig k p)) ≤ weight-plus p
+    at-most = omega (arith, length-map (λ r. row-code (kinds-of sig) r k) (rows-plus sig k p), plus-count sig p k)
 
-    go : (c : Bool) → ltb 64 (length vs * length (row-words sig k (rows-plus sig k p))) ≡ c → (length (cond c [] (grown vs (row-words sig k (rows-plus sig k p)))) * product-plus qs ≤ 64) × (length (cond c [] (grown vs (row-words sig k (rows-plus sig k p)))) ≤ 64)
+    go : (c : Bool) → ltb 64 (length vs * length (words-of-rows sig k (rows-plus sig k p))) ≡ c → (length (cond c [] (grown vs (words-of-rows sig k (rows-plus sig k p)))) * product-plus qs ≤ 64) × (length (cond c [] (grown vs (words-of-rows sig k (rows-plus sig k p)))) ≤ 64)
     go true e = (omega arith, omega arith)
     go false e =
-        let n : length vs * length (row-words sig k (rows-plus sig k p)) ≤ 64 = ltb-false 64 (length vs * length (row-words sig k (rows-plus sig k p))) e in
-        let m : (length vs * length (row-words sig k (rows-plus sig k p))) * product-plus qs ≤ (length vs * weight-plus p) * product-plus qs = times-less (length vs * length (row-words sig k (rows-plus sig k p))) (length vs * weight-plus p) (product-plus qs) (product-plus qs) (times-less (length vs) (length vs) (length (row-words sig k (rows-plus sig k p))) (weight-plus p) (omega arith) at-most) (omega arith) in
-        (rw (length-grown vs (row-words sig k (rows-plus sig k p))) (le-trans m (rw (mul-assoc (length vs) (weight-plus p) (product-plus qs)) h)), rw (length-grown vs (row-words sig k (rows-plus sig k p))) n)
+        let n : length vs * length (words-of-rows sig k (rows-plus sig k p)) ≤ 64 = ltb-false 64 (length vs * length (words-of-rows sig k (rows-plus sig k p))) e in
+        let m : (length vs * length (words-of-rows sig k (rows-plus sig k p))) * product-plus qs ≤ (length vs * weight-plus p) * product-plus qs = times-less (length vs * length (words-of-rows sig k (rows-plus sig k p))) (length vs * weight-plus p) (product-plus qs) (product-plus qs) (times-less (length vs) (length vs) (length (words-of-rows sig k (rows-plus sig k p))) (weight-plus p) (omega arith) at-most) (omega arith) in
+        (rw (length-grown vs (words-of-rows sig k (rows-plus sig k p))) (le-trans m (rw (mul-assoc (length vs) (weight-plus p) (product-plus qs)) h)), rw (length-grown vs (words-of-rows sig k (rows-plus sig k p))) n)
 next-few false sig k p qs w vs f h =
-    let W = row-words sig k (rows-minus sig k p) in
+    let W = words-of-rows sig k (rows-minus sig k p) in
     let e = length-minus w vs W f in
-    let z : length W ≤ weight-minus p = omega (arith, length-map (λ r. code (kinds-of sig) r k) (rows-minus sig k p), minus-count sig p k) in
+    let z : length W ≤ weight-minus p = omega (arith, length-map (λ r. row-code (kinds-of sig) r k) (rows-minus sig k p), minus-count sig p k) in
     (omega (arith, e, z, h), omega (arith, e, z, h))
 
 -- the rows of an argument, as words
-pub words-filled : (sig : Signature) (k : ℕ) (rs : List Row) → Filled (row-words sig k rs)
+pub words-filled : (sig : Signature) (k : ℕ) (rs : List Row) → Filled (words-of-rows sig k rs)
 words-filled sig k [] = tt
 words-filled sig k (r ∷ rs) = (code-long (kinds-of sig) k r, words-filled sig k rs)
 
-pub words-short : (sig : Signature) (k l : ℕ) {rs : List Row} → All (λ r. place-count r ≤ l) rs → Short (3 * l) (row-words sig k rs)
+pub words-short : (sig : Signature) (k l : ℕ) {rs : List Row} → All (λ r. place-count r ≤ l) rs → Short (3 * l) (words-of-rows sig k rs)
 words-short sig k l none-left = tt
 words-short sig k l (also r h t) = (omega (arith, code-places (kinds-of sig) r k), words-short sig k l t)
 
-pub words-count : (sig : Signature) (k : ℕ) (rs : List Row) → length (row-words sig k rs) ≡ length rs
-words-count sig k rs = length-map (λ r. code (kinds-of sig) r k) rs
+pub words-count : (sig : Signature) (k : ℕ) (rs : List Row) → length (words-of-rows sig k rs) ≡ length rs
+words-count sig k rs = length-map (λ r. row-code (kinds-of sig) r k) rs

@@ -13,10 +13,10 @@ use Rattle.pattern.specs.Pattern.{Pattern, pattern-code}
 use Rattle.pattern.specs.Side.{plus, minus}
 use Rattle.pattern.specs.WellFormed.{WellFormed}
 use Rattle.pattern.proofs.StandsLaw.{light-weight}
-use Rattle.builder.specs.Build.{light-of, used-by}
+use Rattle.builder.specs.Build.{light-of}
 use Rattle.rowlist.specs.Sides.{rows-of}
-use Rattle.cell.specs.Cell.{Kinds, wordss}
-use Rattle.cell.specs.Coded.{code, cellss}
+use Rattle.cell.specs.Cell.{Kinds, all-words}
+use Rattle.cell.specs.Coded.{row-code, all-cells}
 use Rattle.rowlist.specs.Product.{room-for, room-all}
 use Rattle.row.specs.Row.{Row, Rows, named, free, rnil, rcons}
 use Rattle.row.specs.RowFits.{place-count, places-count}
@@ -27,11 +27,11 @@ use Rattle.row.proofs.RowCount.{plus-count, minus-count}
 module _ (K : Kinds) where
   -- three words for a place
   mutual
-    pub code-places : (r : Row) (k : ℕ) → length (code K r k) ≤ 3 * place-count r
+    pub code-places : (r : Row) (k : ℕ) → length (row-code K r k) ≤ 3 * place-count r
     code-places (named xs c rs) k = omega (arith, codes-places rs (K .args c))
     code-places (free xs cs) k = omega arith
 
-    pub codes-places : (rs : Rows) (ks : List ℕ) → length (wordss (cellss K rs ks)) ≤ 3 * places-count rs
+    pub codes-places : (rs : Rows) (ks : List ℕ) → length (all-words (all-cells K rs ks)) ≤ 3 * places-count rs
     codes-places rnil ks = omega arith
     codes-places (rcons r rs) [] = omega arith
     codes-places (rcons r rs) (k ∷ ks) = simp length-append (omega (arith, code-places r k, codes-places rs ks))
@@ -45,13 +45,13 @@ all-change Q f none-left = none-left
 all-change Q f (also x h t) = also x (f x h) (all-change Q f t)
 
 module _ (K : Kinds) (k : ℕ) where
-  entries-costs : (rs : List Row) → length (entries K k rs) ≡ costs (λ r. 1 + length (code K r k)) rs
+  entries-costs : (rs : List Row) → length (entries K k rs) ≡ costs (λ r. 1 + length (row-code K r k)) rs
   entries-costs [] = refl
   entries-costs (r ∷ rs) = simp length-append (omega (arith, entries-costs rs))
 
   pub entries-le : (l : ℕ) (rs : List Row) → All (λ r. place-count r ≤ l) rs → length (entries K k rs) ≤ length rs * (1 + 3 * l)
   entries-le l rs h =
-      let a : costs (λ r. 1 + length (code K r k)) rs ≤ length rs * (1 + 3 * l) = costs-le (λ r. 1 + length (code K r k)) (1 + 3 * l) (all-change _ (λ r (q : place-count r ≤ l). omega (arith, code-places K r k)) h) in
+      let a : costs (λ r. 1 + length (row-code K r k)) rs ≤ length rs * (1 + 3 * l) = costs-le (λ r. 1 + length (row-code K r k)) (1 + 3 * l) (all-change _ (λ r (q : place-count r ≤ l). omega (arith, code-places K r k)) h) in
       omega (arith, a, entries-costs rs)
 
   pub entries-small : (l : ℕ) (rs : List Row) → All (λ r. place-count r ≤ l) rs → length rs ≤ 64 → length (entries K k rs) ≤ 64 + 192 * l
@@ -78,5 +78,5 @@ module _ (sig : Signature) (k : ℕ) where
   rows-places p true h = plus-places sig p h
   rows-places p false h = minus-places sig p h
 
-  pub list-small : (K : Kinds) (p : Pattern) (b : Bool) → WellFormed sig k p → light-of b p ≡ true → used-by K sig k b p ≤ 64 + 192 * length (pattern-code p)
+  pub list-small : (K : Kinds) (p : Pattern) (b : Bool) → WellFormed sig k p → light-of b p ≡ true → length (entries K k (rows-of sig k b p)) ≤ 64 + 192 * length (pattern-code p)
   list-small K p b h e = entries-small K k (length (pattern-code p)) (rows-of sig k b p) (rows-places p b h) (rows-few p b e)

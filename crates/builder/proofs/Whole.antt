@@ -8,7 +8,7 @@ use lib.Dec.{ltb}
 use lib.ListN.{length, drop, length-append}
 use Rattle.signature.specs.Decoded.{count-of, decoded-length}
 use Rattle.signature.specs.Limits.{kind-limit}
-use Rattle.signature.specs.Set.{set-limit, bit}
+use Rattle.sets.specs.Set.{set-limit, bit}
 use Rattle.signature.proofs.KnownFacts.{long, words-of}
 use Rattle.signature.proofs.Tests.{times-less}
 use Rattle.pattern.specs.Pattern.{pattern-code}
@@ -39,9 +39,9 @@ module _ {t w : List ℕ} {k n m : ℕ} {b : Bool} (g : GivenPart t k w b n m) w
           known = g .known;
           k = k;
           there = g .there;
-          p = g .p;
+          p = g .pattern;
           rest = g .rest;
-          code-is = g .code-is;
+          code-is = g .words;
           well = g .well;
           light = g .light;
           opened = record { kind = q .kind; some = q .some; within = q .within; tag-is = refl; full-is = full-set (g .known) k (g .there) full f };
@@ -49,28 +49,28 @@ module _ {t w : List ℕ} {k n m : ℕ} {b : Bool} (g : GivenPart t k w b n m) w
           work-room = g .work-room;
         }
 
-    pub part-made : (used read : ℕ) (o : List ℕ) → ((q : GivenPat t (256 + k) full w b n m) → Made (kinds-of (q .known .sig)) (q .known .sig) (q .k) b (q .p) used read o) → Made (kinds-of (g .known .sig)) (g .known .sig) k b (g .p) used read o
+    pub part-made : (used read : ℕ) (o : List ℕ) → ((q : GivenPat t (256 + k) full w b n m) → Made (kinds-of (q .known .sig)) (q .known .sig) (q .k) b (q .p) used read o) → Made (kinds-of (g .known .sig)) (g .known .sig) k b (g .pattern) used read o
     unfolding part-given
     part-made used read o h = h part-given
 
 -- a whole pattern
 module _ {t w : List ℕ} {n m : ℕ} (g : GivenWhole t w n m) where
-  pub whole-given : GivenPart t 0 w true n m
+  unfoldable pub whole-given : GivenPart t 0 w true n m
   whole-given =
       let s = ap length (g .words .is-code) in
       record {
         known = g .known;
         there = kind-zero (g .known);
-        p = g .p;
+        pattern = g .p;
         rest = [];
-        code-is = sym (append-nil (pattern-code (g .p)) ∙ g .words .is-code);
+        words = sym (append-nil (pattern-code (g .p)) ∙ g .words .is-code);
         well = g .words .well-formed;
         light = g .light;
         room = omega (arith, s, g .words .at-most, g .room);
         work-room = omega (arith, s, g .words .at-most, g .work-room);
       }
 
-  pub whole-made : (used read : ℕ) (o : List ℕ) → ((q : GivenPart t 0 w true n m) → Made (kinds-of (q .known .sig)) (q .known .sig) 0 true (q .p) used read o) → RowsFirst (g .known .sig) (g .p) used o
+  pub whole-made : (used read : ℕ) (o : List ℕ) → ((q : GivenPart t 0 w true n m) → Made (kinds-of (q .known .sig)) (q .known .sig) 0 true (q .pattern) used read o) → RowsFirst (g .known .sig) (g .p) used o
   unfolding whole-given
   whole-made used read o h =
       let d = h whole-given in

@@ -12,22 +12,22 @@ use Rattle.pattern.specs.Pattern.{Patterns, patterns-code}
 use Rattle.pattern.specs.Weight.{product-plus, sum-minus, light-all-plus, light-all-minus}
 use Rattle.pattern.specs.WellFormed.{AllWellFormed}
 use Rattle.builder.specs.Build.{room-unit}
-use Rattle.cell.specs.Cell.{wordss}
-use Rattle.cell.specs.Coded.{kinds-of, code, cellss}
+use Rattle.cell.specs.Cell.{cell-width, all-words}
+use Rattle.cell.specs.Coded.{kinds-of, row-code, all-cells}
 use Rattle.rowlist.specs.Grow.{appends, grown, Filled, words-list}
 use Rattle.rowlist.specs.Product.{Product}
 use Rattle.rowlist.specs.Next.{Short}
 use Rattle.row.specs.Row.{Row, Rows, open-rows, args-plus, args-minus}
 
 -- the words of rows of one kind; of the arguments of a constructor
-abbrev pub row-words : Signature → ℕ → List Row → List (List ℕ)
-row-words sig k rs = map (λ r. code (kinds-of sig) r k) rs
+abbrev pub words-of-rows : Signature → ℕ → List Row → List (List ℕ)
+words-of-rows sig k rs = map (λ r. row-code (kinds-of sig) r k) rs
 
 abbrev pub arg-words : Signature → List ℕ → List Rows → List (List ℕ)
-arg-words sig ks rss = map (λ rs. wordss (cellss (kinds-of sig) rs ks)) rss
+arg-words sig ks rss = map (λ rs. all-words (all-cells (kinds-of sig) rs ks)) rss
 
 abbrev pub open-words : Signature → List ℕ → List ℕ
-open-words sig ks = wordss (cellss (kinds-of sig) (open-rows sig ks) ks)
+open-words sig ks = all-words (all-cells (kinds-of sig) (open-rows sig ks) ks)
 
 -- each row that is begun, with the arguments' rows behind it; on the minus side the first is the one whose arguments are open so far
 abbrev pub behind : Bool → Signature → List ℕ → Patterns → List (List ℕ) → List (List ℕ)
@@ -67,7 +67,7 @@ pub record GivenArgs (t : List ℕ) (c j : ℕ) (w : List ℕ) (b : Bool) (used 
   pub filled : Filled begun
   pub a : ℕ
   pub some-words : 1 ≤ a
-  pub short : Short (3 * a) begun
+  pub short : Short (cell-width * a) begun
   pub few : few-begun b (length begun) ps
   pub count : length begun ≤ part-weight-limit
   pub first : HasFirst b begun

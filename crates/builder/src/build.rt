@@ -1,49 +1,54 @@
 // The rows of a pattern.
-ghost use mathlib.Core.Bool.{cond};
+use cell::cell::CELL;
 use cell::cell::KIND_TAG;
-use pattern::token::FIRST_VARIABLE;
+use pattern::token::Word;
+use pattern::token::classify;
+use pattern::token::own_words;
 use products::product::product;
 use rowlist::grow::copy;
 use rowlist::next::next_rows;
 use rowlist::next::others;
 use sets::set::full;
+use sets::set::only;
 use sets::set::without;
 use signature::decoded::argument_of;
 use signature::decoded::arity_of;
 use signature::decoded::count_of;
 use signature::decoded::first_of;
 ghost use mathlib.Core.Path.{_≡_};
+ghost use mathlib.Core.Bool.{true, false, cond};
 ghost use mathlib.Core.List.{[], _∷_};
 ghost use Prim.Native.Nat.{ℕ, _+_, _-_, _≤_, _<_};
 ghost use lib.Dec.{ltb};
 ghost use lib.ListN.{length};
 ghost use Rattle.signature.specs.Decoded.{decoded-length, count-of, first-of};
-ghost use Rattle.signature.specs.Limits.{kind-limit};
-ghost use Rattle.signature.specs.Set.{set-limit, bit};
+ghost use Rattle.signature.specs.Limits.{kind-limit, heads-limit};
+ghost use Rattle.sets.specs.Set.{bit};
 ghost use Rattle.pattern.specs.Pattern.{patterns-code};
+ghost use Rattle.pattern.specs.Word.{form-of, var-small};
+ghost use Rattle.cell.specs.Cell.{cell-width, kind-tag};
 ghost use Rattle.cell.specs.Coded.{kinds-of};
 ghost use Rattle.cell.specs.RowList.{entries, from};
 ghost use Rattle.rowlist.specs.Product.{GivenProduct, Product, products};
 ghost use Rattle.builder.specs.Arguments.{GivenArgs, MadeArgs};
-ghost use Rattle.builder.specs.Build.{multiplies, vars-of, leaf-entries, GivenPat, GivenHead, GivenMultiplied, GivenAdded, Made, GivenPart, GivenWhole, RowsFirst};
+ghost use Rattle.builder.specs.Build.{step-of, GivenPat, GivenHead, GivenMultiplied, GivenAdded, Made, GivenPart, GivenWhole, RowsFirst};
 
-// The words of the connectives, of the wildcard and of absurd.
-const AND: u16 = 256;
-
-const OR: u16 = 257;
-
-const WILD: u16 = 258;
-
-const ABSURD: u16 = 259;
-
-const NOT: u16 = 260;
+// How the rows of a pattern are made: a constructor's; the products, or both, of its two parts' rows; one row of one cell with these variables; none; its part's on the other side.
+pub enum Step {
+    Head(u16),
+    Multiply,
+    Add,
+    One(u64),
+    Nothing,
+    Swap,
+}
 
 // A list of one row of one cell.
 fn one(tag: u64, vars: u64, full: u64, out: &mut [u64]) -> usize
     requires { ⌜ 5 ≤ length (now out) ⌝ }
-    ensures { λ r. ⌜ Product (3 ∷ (tag ∷ (vars ∷ (full ∷ [])))) r (now (out .exit)) ⌝ }
+    ensures { λ r. ⌜ Product (cell-width ∷ (tag ∷ (vars ∷ (full ∷ [])))) r (now (out .exit)) ⌝ }
 {
-    out[0] = 3;
+    out[0] = CELL as u64;
     out[1] = tag;
     out[2] = vars;
     out[3] = full;
@@ -60,42 +65,45 @@ fn nothing(out: &mut [u64]) -> usize
     0
 }
 
-fn vars(w: u16) -> u64
-    requires { ⌜ w ≤ 276 ⌝ }
-    ensures { λ r. ⌜ r ≡ vars-of w ⌝ }
+fn plus_step(w: Word) -> Step
+    requires { ⌜ var-small (form-of w) ⌝ }
+    ensures { λ r. ⌜ r ≡ step-of (form-of w) true ⌝ }
 {
-    if w < FIRST_VARIABLE {
-        return 0;
+    match w {
+        Word::Head(c) => Step::Head(c),
+        Word::And => Step::Multiply,
+        Word::Or => Step::Add,
+        Word::Wild => Step::One(0),
+        Word::Absurd => Step::Nothing,
+        Word::Not => Step::Swap,
+        Word::Var(x) => Step::One(only(x as u32)),
+        Word::Other => Step::Nothing,
     }
-    let i = (w - FIRST_VARIABLE) as u32;
-    1 << i
 }
 
-// The rows of a wildcard, of absurd, of a variable.
-fn leaf(w: u16, plus: bool, tag: u64, full: u64, out: &mut [u64]) -> usize
-    requires { ⌜ (w ≤ 276) × (5 ≤ length (now out)) ⌝ }
-    ensures { λ r. ⌜ Product (leaf-entries w plus tag full) r (now (out .exit)) ⌝ }
+fn minus_step(w: Word) -> Step
+    ensures { λ r. ⌜ r ≡ step-of (form-of w) false ⌝ }
 {
-    if w == ABSURD {
-        if plus {
-            return nothing(out);
-        }
-        return one(tag, vars(w), full, out);
+    match w {
+        Word::Head(c) => Step::Head(c),
+        Word::And => Step::Add,
+        Word::Or => Step::Multiply,
+        Word::Wild => Step::Nothing,
+        Word::Absurd => Step::One(0),
+        Word::Not => Step::Swap,
+        Word::Var(_x) => Step::Nothing,
+        Word::Other => Step::Nothing,
     }
-    if plus {
-        return one(tag, vars(w), full, out);
-    }
-    nothing(out)
 }
 
-// Whether the connective multiplies on this side.
-fn is_product(w: u16, plus: bool) -> bool
-    ensures { λ r. ⌜ r ≡ multiplies w plus ⌝ }
+fn step_of(w: Word, plus: bool) -> Step
+    requires { ⌜ var-small (form-of w) ⌝ }
+    ensures { λ r. ⌜ r ≡ step-of (form-of w) plus ⌝ }
 {
     if plus {
-        return w == AND;
+        return plus_step(w);
     }
-    w == OR
+    minus_step(w)
 }
 
 // The product of the list in front and of that which begins at a word.
@@ -109,7 +117,7 @@ fn times(t: &[u16], lists: &[u64], at: usize, out: &mut [u64]) -> usize
 
 // The set of all heads of a kind.
 fn full_of(t: &[u16], k: usize) -> u64
-    requires { ⌜ (length (now t) ≡ decoded-length) × (k < kind-limit) × (count-of (now t) k ≤ set-limit) ⌝ }
+    requires { ⌜ (length (now t) ≡ decoded-length) × (k < kind-limit) × (count-of (now t) k ≤ heads-limit) ⌝ }
     ensures { λ r. ⌜ ((j : ℕ) → bit r j ≡ cond (ltb j (count-of (now (t .entry)) k)) 1 0) ⌝ }
 {
     full(count_of(t, k) as u32)
@@ -117,8 +125,8 @@ fn full_of(t: &[u16], k: usize) -> u64
 
 // A constructor's place among the heads of the kind whose tag is given.
 fn place_of(t: &[u16], tag: u64, c: usize) -> u32
-    requires { ⌜ (length (now t) ≡ decoded-length) × (256 ≤ tag) × (tag < 256 + kind-limit) × (first-of (now t) (tag - 256) ≤ c) × (c < first-of (now t) (tag - 256) + set-limit) ⌝ }
-    ensures { λ r. ⌜ (r ≡ c - first-of (now (t .entry)) (tag - 256)) × (r < set-limit) ⌝ }
+    requires { ⌜ (length (now t) ≡ decoded-length) × (kind-tag ≤ tag) × (tag < kind-tag + kind-limit) × (first-of (now t) (tag - kind-tag) ≤ c) × (c < first-of (now t) (tag - kind-tag) + heads-limit) ⌝ }
+    ensures { λ r. ⌜ (r ≡ c - first-of (now (t .entry)) (tag - kind-tag)) × (r < heads-limit) ⌝ }
 {
     let k = (tag - KIND_TAG) as usize;
     let f = first_of(t, k) as usize;
@@ -146,23 +154,27 @@ pub fn rows(
     requires { ⌜ GivenPat (now t) tag full (now p) plus (length (now out)) (length (now work)) ⌝ }
     ensures { λ r. ⌜ ((g : GivenPat (now (t .entry)) tag full (now (p .entry)) plus (length (now (out .entry))) (length (now (work .entry)))) → Made (kinds-of (g .known .sig)) (g .known .sig) (g .k) plus (g .p) (r .used) (r .read) (now (out .exit))) ⌝ }
 {
-    let w = p[0];
-    if w == NOT {
-        let a = rows(t, tag, full, &p[1..], !plus, out, work);
-        let read = a.read + 1;
-        return Built { used: a.used, read };
+    let w = classify(p[0]);
+    let own = own_words(w);
+    let s = step_of(w, plus);
+    match s {
+        Step::Head(c) => head_rows(t, tag, full, c, own, p, plus, out, work),
+        Step::Multiply => multiplied(t, tag, full, own, p, plus, out, work),
+        Step::Add => added(t, tag, full, own, p, plus, out, work),
+        Step::One(vars) => {
+            let used = one(tag, vars, full, out);
+            Built { used, read: own }
+        }
+        Step::Nothing => {
+            let used = nothing(out);
+            Built { used, read: own }
+        }
+        Step::Swap => {
+            let a = rows(t, tag, full, &p[own..], !plus, out, work);
+            let read = a.read + own;
+            Built { used: a.used, read }
+        }
     }
-    if w >= WILD {
-        let used = leaf(w, plus, tag, full, out);
-        return Built { used, read: 1 };
-    }
-    if w < AND {
-        return head_rows(t, tag, full, p, plus, out, work);
-    }
-    if is_product(w, plus) {
-        return multiplied(t, tag, full, p, plus, out, work);
-    }
-    added(t, tag, full, p, plus, out, work)
 }
 
 // The rows of two parts that are multiplied: both lists in the workspace, the second behind the first.
@@ -170,16 +182,17 @@ fn multiplied(
     t: &[u16],
     tag: u64,
     full: u64,
+    own: usize,
     p: &[u16],
     plus: bool,
     out: &mut [u64],
     work: &mut [u64],
 ) -> Built
-    requires { ⌜ GivenMultiplied (now t) tag full (now p) plus (length (now out)) (length (now work)) ⌝ }
-    ensures { λ r. ⌜ ((g : GivenMultiplied (now (t .entry)) tag full (now (p .entry)) plus (length (now (out .entry))) (length (now (work .entry)))) → Made (kinds-of (g .pat .known .sig)) (g .pat .known .sig) (g .pat .k) plus (g .pat .p) (r .used) (r .read) (now (out .exit))) ⌝ }
+    requires { ⌜ GivenMultiplied (now t) tag full own (now p) plus (length (now out)) (length (now work)) ⌝ }
+    ensures { λ r. ⌜ ((g : GivenMultiplied (now (t .entry)) tag full own (now (p .entry)) plus (length (now (out .entry))) (length (now (work .entry)))) → Made (kinds-of (g .pat .known .sig)) (g .pat .known .sig) (g .pat .k) plus (g .pat .p) (r .used) (r .read) (now (out .exit))) ⌝ }
 {
-    let a = rows(t, tag, full, &p[1..], plus, work, out);
-    let from = a.read + 1;
+    let a = rows(t, tag, full, &p[own..], plus, work, out);
+    let from = a.read + own;
     let at = a.used + 1;
     let b = rows(t, tag, full, &p[from..], plus, &mut work[at..], out);
     let used = times(t, work, at, out);
@@ -192,16 +205,17 @@ fn added(
     t: &[u16],
     tag: u64,
     full: u64,
+    own: usize,
     p: &[u16],
     plus: bool,
     out: &mut [u64],
     work: &mut [u64],
 ) -> Built
-    requires { ⌜ GivenAdded (now t) tag full (now p) plus (length (now out)) (length (now work)) ⌝ }
-    ensures { λ r. ⌜ ((g : GivenAdded (now (t .entry)) tag full (now (p .entry)) plus (length (now (out .entry))) (length (now (work .entry)))) → Made (kinds-of (g .pat .known .sig)) (g .pat .known .sig) (g .pat .k) plus (g .pat .p) (r .used) (r .read) (now (out .exit))) ⌝ }
+    requires { ⌜ GivenAdded (now t) tag full own (now p) plus (length (now out)) (length (now work)) ⌝ }
+    ensures { λ r. ⌜ ((g : GivenAdded (now (t .entry)) tag full own (now (p .entry)) plus (length (now (out .entry))) (length (now (work .entry)))) → Made (kinds-of (g .pat .known .sig)) (g .pat .known .sig) (g .pat .k) plus (g .pat .p) (r .used) (r .read) (now (out .exit))) ⌝ }
 {
-    let a = rows(t, tag, full, &p[1..], plus, out, work);
-    let from = a.read + 1;
+    let a = rows(t, tag, full, &p[own..], plus, out, work);
+    let from = a.read + own;
     let at = a.used;
     let b = rows(t, tag, full, &p[from..], plus, &mut out[at..], work);
     let used = at + b.used;
@@ -209,25 +223,26 @@ fn added(
     Built { used, read }
 }
 
-// The rows of the constructor in front of p.
+// The rows of the pattern in front of p, whose constructor is given.
 fn head_rows(
     t: &[u16],
     tag: u64,
     full: u64,
+    head: u16,
+    own: usize,
     p: &[u16],
     plus: bool,
     out: &mut [u64],
     work: &mut [u64],
 ) -> Built
-    requires { ⌜ GivenHead (now t) tag full (now p) plus (length (now out)) (length (now work)) ⌝ }
-    ensures { λ r. ⌜ ((g : GivenHead (now (t .entry)) tag full (now (p .entry)) plus (length (now (out .entry))) (length (now (work .entry)))) → Made (kinds-of (g .pat .known .sig)) (g .pat .known .sig) (g .pat .k) plus (g .pat .p) (r .used) (r .read) (now (out .exit))) ⌝ }
+    requires { ⌜ GivenHead (now t) tag full head own (now p) plus (length (now out)) (length (now work)) ⌝ }
+    ensures { λ r. ⌜ ((g : GivenHead (now (t .entry)) tag full head own (now (p .entry)) plus (length (now (out .entry))) (length (now (work .entry)))) → Made (kinds-of (g .pat .known .sig)) (g .pat .known .sig) (g .pat .k) plus (g .pat .p) (r .used) (r .read) (now (out .exit))) ⌝ }
 {
-    let w = p[0];
-    let c = w as usize;
+    let c = head as usize;
     let i = place_of(t, tag, c);
-    let begun = one(w as u64, 0, 1 << i, out);
-    let a = args(t, c, 0, &p[1..], plus, begun, out, work);
-    let read = a.read + 1;
+    let begun = one(head as u64, 0, only(i), out);
+    let a = args(t, c, 0, &p[own..], plus, begun, out, work);
+    let read = a.read + own;
     if plus {
         return Built { used: a.used, read };
     }
@@ -269,7 +284,7 @@ fn args(
 // The rows of the part in front of p, of kind k, on one side.
 fn part_rows(t: &[u16], k: usize, p: &[u16], plus: bool, out: &mut [u64], work: &mut [u64]) -> Built
     requires { ⌜ GivenPart (now t) k (now p) plus (length (now out)) (length (now work)) ⌝ }
-    ensures { λ r. ⌜ ((g : GivenPart (now (t .entry)) k (now (p .entry)) plus (length (now (out .entry))) (length (now (work .entry)))) → Made (kinds-of (g .known .sig)) (g .known .sig) k plus (g .p) (r .used) (r .read) (now (out .exit))) ⌝ }
+    ensures { λ r. ⌜ ((g : GivenPart (now (t .entry)) k (now (p .entry)) plus (length (now (out .entry))) (length (now (work .entry)))) → Made (kinds-of (g .known .sig)) (g .known .sig) k plus (g .pattern) (r .used) (r .read) (now (out .exit))) ⌝ }
 {
     let full = full_of(t, k);
     let tag = KIND_TAG + k as u64;

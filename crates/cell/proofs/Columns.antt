@@ -1,4 +1,4 @@
--- Columns.
+-- The columns of a row, as a cursor takes them.
 use borrow.Author.Tests.{lt-ltb, le-ltb}
 use mathlib.Core.Path.{_≡_, ap, sym, _∙_, refl}
 use mathlib.Core.List.{List, _++_, _∷_, append-assoc}
@@ -10,22 +10,22 @@ use lib.Dec.{ltb}
 use lib.ListN.{drop, length, getD, length-drop, replicate}
 use lib.Seq.{getD-drop, drop-drop}
 use Rattle.cell.specs.declared.cell.Cursor.{Cursor}
-use Rattle.cell.specs.Cell.{cn, cf, CRows, wordss, cnil, ccons, words}
-use Rattle.cell.specs.Cursor.{wildCell, cellAt, lookAt, Room, nextOf}
-use Rattle.cell.proofs.CellFacts.{Col, Lead, flat, wild, real, reals, cellOf, enter}
+use Rattle.cell.specs.Cell.{named-cells, free-cell, RowsCells, all-words, no-cells, more-cells, words}
+use Rattle.cell.specs.Cursor.{wild-cell, cell-at, look-at, Room, next-of}
+use Rattle.cell.proofs.CellFacts.{Col, Lead, flat, wild, real, reals, column-cell, enter}
 
 -- the columns that are left of the row whose words begin a
-pub record Stands (a : List ℕ) (at virt : ℕ) (xs : List Col) : Type 0 where
+pub record Stands (a : List ℕ) (at wildcards : ℕ) (xs : List Col) : Type 0 where
   pub rest : List ℕ
-  pub lead : Lead virt xs
+  pub lead : Lead wildcards xs
   pub code : drop at a ≡ flat xs ++ rest
   pub within : at ≤ length a
 
 -- a column's tag tells whether it names a constructor
 abbrev pub Tagged : Col → Type 0
 Tagged wild = Unit {0}
-Tagged (real (cn c v m rs)) = c < 256
-Tagged (real (cf t v m)) = 256 ≤ t
+Tagged (real (named-cells c v m rs)) = c < 256
+Tagged (real (free-cell t v m)) = 256 ≤ t
 
 -- how many words its cell has
 abbrev pub wide : Col → ℕ
@@ -49,9 +49,9 @@ three-at a at x y z w e = record {
   room = omega (arith, length-drop at a, ap length e);
 }
 
-pub flat-reals : (rs : CRows) (xs : List Col) → flat (reals rs ++ xs) ≡ wordss rs ++ flat xs
-flat-reals cnil xs = refl
-flat-reals (ccons r rs) xs = ap (λ (l : List ℕ). words r ++ l) (flat-reals rs xs) ∙ sym (append-assoc (words r) (wordss rs) (flat xs))
+pub flat-reals : (rs : RowsCells) (xs : List Col) → flat (reals rs ++ xs) ≡ all-words rs ++ flat xs
+flat-reals no-cells xs = refl
+flat-reals (more-cells r rs) xs = ap (λ (l : List ℕ). words r ++ l) (flat-reals rs xs) ∙ sym (append-assoc (words r) (all-words rs) (flat xs))
 
 pub flat-wilds : (n : ℕ) (xs : List Col) → flat (replicate n wild ++ xs) ≡ flat xs
 flat-wilds zero xs = refl
@@ -61,37 +61,37 @@ pub lead-wilds : (n v : ℕ) (xs : List Col) → Lead v xs → Lead (n + v) (rep
 lead-wilds zero v xs h = rw zero-add h
 lead-wilds (suc n) v xs h = rw suc-add (lead-wilds n v xs h)
 
-pub lead-reals : (rs : CRows) (xs : List Col) → Lead 0 xs → Lead 0 (reals rs ++ xs)
-lead-reals cnil xs h = h
-lead-reals (ccons r rs) xs h = lead-reals rs xs h
+pub lead-reals : (rs : RowsCells) (xs : List Col) → Lead 0 xs → Lead 0 (reals rs ++ xs)
+lead-reals no-cells xs h = h
+lead-reals (more-cells r rs) xs h = lead-reals rs xs h
 
 -- what a cursor sees is the first column's cell
-look-is : (a : List ℕ) (at virt : ℕ) (x : Col) (xs : List Col) (rest : List ℕ) → Lead virt (x ∷ xs) → drop at a ≡ flat (x ∷ xs) ++ rest
-    → cond (ltb 0 virt) wildCell (cellAt a at) ≡ cellOf x
+look-is : (a : List ℕ) (at wildcards : ℕ) (x : Col) (xs : List Col) (rest : List ℕ) → Lead wildcards (x ∷ xs) → drop at a ≡ flat (x ∷ xs) ++ rest
+    → cond (ltb 0 wildcards) wild-cell (cell-at a at) ≡ column-cell x
 look-is a at zero wild xs rest l e = absurd l
 look-is a at (suc v) wild xs rest l e = rw (lt-ltb 0 (suc v) (omega arith))
-look-is a at zero (real (cn c v m rs)) xs rest l e = let t = three-at a at c v m _ e in rw (t .one, t .two, t .three)
-look-is a at zero (real (cf c v m)) xs rest l e = let t = three-at a at c v m _ e in rw (t .one, t .two, t .three)
+look-is a at zero (real (named-cells c v m rs)) xs rest l e = let t = three-at a at c v m _ e in rw (t .one, t .two, t .three)
+look-is a at zero (real (free-cell c v m)) xs rest l e = let t = three-at a at c v m _ e in rw (t .one, t .two, t .three)
 look-is a at (suc v) (real r) xs rest l e = absurd l
 
-pub look-col : (a : List ℕ) (c : Cursor) (x : Col) (xs : List Col) → Stands a (c .at) (c .virt) (x ∷ xs) → lookAt a c ≡ cellOf x
-look-col a c x xs s = look-is a (c .at) (c .virt) x xs (s .rest) (s .lead) (s .code)
+pub look-col : (a : List ℕ) (c : Cursor) (x : Col) (xs : List Col) → Stands a (c .at) (c .wildcards) (x ∷ xs) → look-at a c ≡ column-cell x
+look-col a c x xs s = look-is a (c .at) (c .wildcards) x xs (s .rest) (s .lead) (s .code)
 
 -- it has a cell to see
-room-is : (a : List ℕ) (at virt : ℕ) (x : Col) (xs : List Col) (rest : List ℕ) → Lead virt (x ∷ xs) → drop at a ≡ flat (x ∷ xs) ++ rest → at ≤ length a
-    → (at + wide x ≤ length a) × (at + 3 ≤ length a + 3 * virt)
+room-is : (a : List ℕ) (at wildcards : ℕ) (x : Col) (xs : List Col) (rest : List ℕ) → Lead wildcards (x ∷ xs) → drop at a ≡ flat (x ∷ xs) ++ rest → at ≤ length a
+    → (at + wide x ≤ length a) × (at + 3 ≤ length a + 3 * wildcards)
 room-is a at zero wild xs rest l e w = absurd l
 room-is a at (suc v) wild xs rest l e w = omega arith
-room-is a at zero (real (cn c v m rs)) xs rest l e w = let t = three-at a at c v m _ e in omega (arith, t .room)
-room-is a at zero (real (cf c v m)) xs rest l e w = let t = three-at a at c v m _ e in omega (arith, t .room)
+room-is a at zero (real (named-cells c v m rs)) xs rest l e w = let t = three-at a at c v m _ e in omega (arith, t .room)
+room-is a at zero (real (free-cell c v m)) xs rest l e w = let t = three-at a at c v m _ e in omega (arith, t .room)
 room-is a at (suc v) (real r) xs rest l e w = absurd l
 
-pub room-col : (a : List ℕ) (c : Cursor) (x : Col) (xs : List Col) → Stands a (c .at) (c .virt) (x ∷ xs) → (c .at + wide x ≤ length a) × Room a c
-room-col a c x xs s = room-is a (c .at) (c .virt) x xs (s .rest) (s .lead) (s .code) (s .within)
+pub room-col : (a : List ℕ) (c : Cursor) (x : Col) (xs : List Col) → Stands a (c .at) (c .wildcards) (x ∷ xs) → (c .at + wide x ≤ length a) × Room a c
+room-col a c x xs s = room-is a (c .at) (c .wildcards) x xs (s .rest) (s .lead) (s .code) (s .within)
 
 -- a step of the cursor is the step on columns
-step-is : (a : List ℕ) (at virt n : ℕ) (x : Col) (xs : List Col) (rest : List ℕ) → Lead virt (x ∷ xs) → drop at a ≡ flat (x ∷ xs) ++ rest → at ≤ length a → Tagged x
-    → let c : Cursor = nextOf (record { at = at; virt = virt }) (cellOf x .tag) n in (c .at ≡ at + wide x) × Stands a (c .at) (c .virt) (enter x n ++ xs)
+step-is : (a : List ℕ) (at wildcards n : ℕ) (x : Col) (xs : List Col) (rest : List ℕ) → Lead wildcards (x ∷ xs) → drop at a ≡ flat (x ∷ xs) ++ rest → at ≤ length a → Tagged x
+    → let c : Cursor = next-of (record { at = at; wildcards = wildcards }) (column-cell x .tag) n in (c .at ≡ at + wide x) × Stands a (c .at) (c .wildcards) (enter x n ++ xs)
 step-is a at zero n wild xs rest l e w g = absurd l
 step-is a at (suc v) n wild xs rest l e w g = rw (lt-ltb 0 (suc v) (omega arith)) (
   sym (add-zero at),
@@ -102,7 +102,7 @@ step-is a at (suc v) n wild xs rest l e w g = rw (lt-ltb 0 (suc v) (omega arith)
     within = w;
   },
 )
-step-is a at zero n (real (cn c v m rs)) xs rest l e w g =
+step-is a at zero n (real (named-cells c v m rs)) xs rest l e w g =
     let t = three-at a at c v m _ e in
     rw (lt-ltb c 256 g) (
       refl,
@@ -113,7 +113,7 @@ step-is a at zero n (real (cn c v m rs)) xs rest l e w g =
         within = t .room;
       },
     )
-step-is a at zero n (real (cf c v m)) xs rest l e w g =
+step-is a at zero n (real (free-cell c v m)) xs rest l e w g =
     let t = three-at a at c v m _ e in
     rw (le-ltb c 256 g) (
       refl,
@@ -126,6 +126,6 @@ step-is a at zero n (real (cf c v m)) xs rest l e w g =
     )
 step-is a at (suc v) n (real r) xs rest l e w g = absurd l
 
-pub step-col : (a : List ℕ) (c : Cursor) (n : ℕ) (x : Col) (xs : List Col) → Stands a (c .at) (c .virt) (x ∷ xs) → Tagged x
-    → (nextOf c (cellOf x .tag) n .at ≡ c .at + wide x) × Stands a (nextOf c (cellOf x .tag) n .at) (nextOf c (cellOf x .tag) n .virt) (enter x n ++ xs)
-step-col a c n x xs s g = step-is a (c .at) (c .virt) n x xs (s .rest) (s .lead) (s .code) (s .within) g
+pub step-col : (a : List ℕ) (c : Cursor) (n : ℕ) (x : Col) (xs : List Col) → Stands a (c .at) (c .wildcards) (x ∷ xs) → Tagged x
+    → (next-of c (column-cell x .tag) n .at ≡ c .at + wide x) × Stands a (next-of c (column-cell x .tag) n .at) (next-of c (column-cell x .tag) n .wildcards) (enter x n ++ xs)
+step-col a c n x xs s g = step-is a (c .at) (c .wildcards) n x xs (s .rest) (s .lead) (s .code) (s .within) g

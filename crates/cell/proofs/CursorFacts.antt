@@ -1,7 +1,7 @@
--- CursorFacts.
+-- The words of a cell.
 use mathlib.Core.List.{List, _∷_, []}
 use Prim.Native.Nat.{ℕ}
 use Rattle.cell.specs.declared.cell.Cell.{Cell}
 
-abbrev pub cellWords : Cell → List ℕ
-cellWords c = c .tag ∷ (c .vars ∷ (c .allowed ∷ []))
+abbrev pub cell-words : Cell → List ℕ
+cell-words c = c .tag ∷ (c .vars ∷ (c .allowed ∷ []))

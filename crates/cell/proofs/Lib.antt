@@ -4,7 +4,6 @@ pub mod Columns
 pub mod CursorFacts
 pub mod Gates
 pub mod LockstepFacts
-pub mod Masks
 pub mod Meet
 pub mod RowListFacts
 pub mod Turns

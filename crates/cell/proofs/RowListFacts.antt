@@ -1,4 +1,4 @@
--- RowListFacts.
+-- One row with one, as a row of a list.
 use mathlib.Core.Path.{_≡_, refl, ap, sym, _∙_}
 use mathlib.Core.List.{List, _∷_, [], _++_, append-assoc, append-nil}
 use mathlib.Core.Option.{Option, none, some}
@@ -12,10 +12,10 @@ use Rattle.cell.specs.declared.cell.Out.the-variants.{Dropped, Kept}
 use Rattle.signature.specs.Lists.{somes}
 use Rattle.signature.proofs.Tests.{some-inj}
 use Rattle.cell.specs.Cell.{Kinds}
-use Rattle.cell.specs.Coded.{code-of, code}
+use Rattle.cell.specs.Coded.{row-code-of, row-code}
 use Rattle.cell.specs.Lockstep.{GivenRows, Result}
 use Rattle.row.specs.Row.{Row}
-use Rattle.cell.specs.RowList.{GivenOne, Begins, entries}
+use Rattle.cell.specs.RowList.{GivenOne, WrittenFirst, entries}
 
 unfoldable pub given-tail : {ar x y o : List ℕ} → GivenOne ar x y o → GivenRows ar x y (take (length o - 1) (drop 1 o))
 given-tail {o = o} g = record {
@@ -23,19 +23,19 @@ given-tail {o = o} g = record {
   kind = g .kind;
   r = g .r;
   s = g .s;
-  restA = g .restX;
-  restB = g .restY;
-  codeA = g .codeX;
-  codeB = g .codeY;
-  typedR = g .typedR;
-  typedS = g .typedS;
+  rest-a = g .rest-x;
+  rest-b = g .rest-y;
+  code-a = g .code-x;
+  code-b = g .code-y;
+  typed-r = g .typed-r;
+  typed-s = g .typed-s;
   room = simp (length-take, length-drop) (omega (arith, g .room));
 }
 
 -- dropped
-pub entry-none : (K : Kinds) (k : ℕ) (m : Option Row) (res : Out) (e ys o : List ℕ) → Result (code-of K k m) res e ys → res ≡ Dropped → Begins (entries K k (somes (m ∷ []))) 0 o
+pub entry-none : (K : Kinds) (k : ℕ) (m : Option Row) (res : Out) (e ys o : List ℕ) → Result (row-code-of K k m) res e ys → res ≡ Dropped → WrittenFirst (entries K k (somes (m ∷ []))) 0 o
 entry-none K k none res e ys o h q = (refl, refl)
-entry-none K k (some t) res e ys o h q = absurd (let z : _≡_ {A = ℕ} 0 1 = kept-not-dropped res (length (code K t k)) (h .0) q in omega (arith, z))
+entry-none K k (some t) res e ys o h q = absurd (let z : _≡_ {A = ℕ} 0 1 = kept-not-dropped res (length (row-code K t k)) (h .0) q in omega (arith, z))
   where
     kept-not-dropped : (res : Out) (n : ℕ) → res ≡ Kept n → res ≡ Dropped → _≡_ {A = ℕ} 0 1
     kept-not-dropped res n p q = cc
@@ -56,15 +56,15 @@ kept-le t res n e ys h q =
 take-front : (n : ℕ) (w D rest : List ℕ) → n ≡ length w → take n ((w ++ D) ++ rest) ≡ w
 take-front n w D rest l = rw append-assoc (take-at w (D ++ rest) n (sym l))
 
-pub entry-some : (K : Kinds) (k : ℕ) (m : Option Row) (res : Out) (n : ℕ) (e ys rest o : List ℕ) → Result (code-of K k m) res e ys → res ≡ Kept n → 0 < length o
-    → Begins (entries K k (somes (m ∷ []))) (1 + n) (set (take 1 o ++ (ys ++ rest)) 0 n)
+pub entry-some : (K : Kinds) (k : ℕ) (m : Option Row) (res : Out) (n : ℕ) (e ys rest o : List ℕ) → Result (row-code-of K k m) res e ys → res ≡ Kept n → 0 < length o
+    → WrittenFirst (entries K k (somes (m ∷ []))) (1 + n) (set (take 1 o ++ (ys ++ rest)) 0 n)
 entry-some K k m res n e ys rest [] h q l = absurd (omega arith)
 entry-some K k none res n e ys rest (z ∷ o) h q l = absurd (let z : _≡_ {A = ℕ} 0 1 = cc in omega (arith, z))
 entry-some K k (some t) res n e ys rest (z ∷ o) h q l =
-    let f = kept-is (some (code K t k)) res n e ys h q in
-    let w : code K t k ≡ f .0 = some-inj (code K t k) (f .0) (f .1) in
-    let c : n ≡ length (code K t k) = f .2 ∙ ap length (sym w) in
-    let y : ys ≡ code K t k ++ drop n e = f .3 ∙ ap (λ (l : List ℕ). l ++ drop n e) (sym w) in (
+    let f = kept-is (some (row-code K t k)) res n e ys h q in
+    let w : row-code K t k ≡ f .0 = some-inj (row-code K t k) (f .0) (f .1) in
+    let c : n ≡ length (row-code K t k) = f .2 ∙ ap length (sym w) in
+    let y : ys ≡ row-code K t k ++ drop n e = f .3 ∙ ap (λ (l : List ℕ). l ++ drop n e) (sym w) in (
       simp length-append (omega arith),
-      rw (one-add n, y, take-front n (code K t k) (drop n e) rest c, append-nil (code K t k)) (ap (λ (i : ℕ). i ∷ code K t k) c),
+      rw (one-add n, y, take-front n (row-code K t k) (drop n e) rest c, append-nil (row-code K t k)) (ap (λ (i : ℕ). i ∷ row-code K t k) c),
     )

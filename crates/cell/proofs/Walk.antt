@@ -1,4 +1,4 @@
--- Walk.
+-- Lists of rows, row by row, and what is written behind what.
 use mathlib.Core.Path.{_≡_, refl, ap, _∙_, sym, ap₂}
 use mathlib.Core.List.{List, [], _∷_, _++_, append-assoc, append-nil}
 use Prim.Native.Nat.{ℕ, _-_, _≤_, _+_, _<_}
@@ -7,9 +7,9 @@ use native.Mathlib.Omega.{arith}
 use lib.ListN.{length, drop, length-drop, take, length-take, getD, length-append}
 use lib.Seq.{take-all, length-take-le, take-append-add, take-append-le, getD-drop, drop-drop, drop-at}
 use Rattle.cell.specs.Cell.{Kinds}
-use Rattle.cell.specs.Coded.{code}
+use Rattle.cell.specs.Coded.{row-code}
 use Rattle.row.specs.Row.{Row, named, free}
-use Rattle.cell.specs.RowList.{each-with, from, Begins, Every, costs}
+use Rattle.cell.specs.RowList.{each-with, from, WrittenFirst, Every, costs}
 
 -- what f makes of each, one after the other; what it costs; what holds of each
 abbrev pub yields : {A B : Type 0} → (A → List B) → List A → List B
@@ -30,7 +30,7 @@ abbrev pub back : List ℕ → ℕ → List ℕ → List ℕ
 back o used ys = take used o ++ (ys ++ drop (length o - used) (drop used o))
 
 -- a part that came back with n words in front
-pub part-back : (o ys done w D : List ℕ) (used n : ℕ) → used ≤ length o → take used o ≡ done → Begins w n ys → take (used + n) (take used o ++ (ys ++ D)) ≡ done ++ w
+pub part-back : (o ys done w D : List ℕ) (used n : ℕ) → used ≤ length o → take used o ≡ done → WrittenFirst w n ys → take (used + n) (take used o ++ (ys ++ D)) ≡ done ++ w
 part-back o ys done w D used n h e b =
     let l : length (take used o) ≡ used = length-take-le used o h in
     let k : n ≤ length ys = omega (arith, length-take n ys, ap length (b .1), b .0) in
@@ -46,7 +46,7 @@ word-at y at w rest e = (
   sym (drop-drop 1 at y) ∙ ap (drop 1) e,
 )
 
-pub code-long : (K : Kinds) (k : ℕ) (r : Row) → 1 ≤ length (code K r k)
+pub code-long : (K : Kinds) (k : ℕ) (r : Row) → 1 ≤ length (row-code K r k)
 code-long K k (named xs c rs) = omega arith
 code-long K k (free xs cs) = omega arith
 
@@ -118,13 +118,13 @@ module _ {y : List ℕ} (g : Task y) (at used : ℕ) (o : List ℕ) where
   pub there : Now g at used o → at < length y
   there m = there-at (m .0) (m .1)
 
-  end-at : (todo : List (g .A)) → Mid g at used o todo → getD y at 0 ≤ 0 → Begins (each-with (g .write) (yields (g .f) (g .all))) used o × (used + g .spare ≤ length o)
+  end-at : (todo : List (g .A)) → Mid g at used o todo → getD y at 0 ≤ 0 → WrittenFirst (each-with (g .write) (yields (g .f) (g .all))) used o × (used + g .spare ≤ length o)
   end-at [] m z =
       let e : each-with (g .write) (yields (g .f) (g .all)) ≡ m .done = m .target ∙ append-nil (m .done) in
       ((m .size ∙ ap length (sym e), m .list ∙ sym e), omega (arith, m .room))
   end-at (s ∷ todo) m z = absurd (omega (arith, word-at y at _ _ (m .code-is) .0, g .long s (m .each-is .0)))
 
-  pub end : Now g at used o → getD y at 0 ≤ 0 → Begins (each-with (g .write) (yields (g .f) (g .all))) used o × (used + g .spare ≤ length o)
+  pub end : Now g at used o → getD y at 0 ≤ 0 → WrittenFirst (each-with (g .write) (yields (g .f) (g .all))) used o × (used + g .spare ≤ length o)
   end m z = end-at (m .0) (m .1) z
 
   next-row : (s : g .A) (todo : List (g .A)) → Mid g at used o (s ∷ todo) → drop (at + 1) y ≡ g .read s ++ ((each-with (g .read) todo ++ (0 ∷ [])) ++ g .rest)
@@ -148,11 +148,11 @@ module _ {y : List ℕ} (g : Task y) (at used : ℕ) (o : List ℕ) where
 
   -- a turn: whatever row stands in front, what f makes of it was written
   turn-at : (todo : List (g .A)) (n : ℕ) (ys : List ℕ) → Mid g at used o todo → 0 < getD y at 0
-      → ((s : g .A) → Head g at used o s → Begins (each-with (g .write) (g .f s)) n ys) → length ys ≡ length (from o used) → Turned g at used n o ys
+      → ((s : g .A) → Head g at used o s → WrittenFirst (each-with (g .write) (g .f s)) n ys) → length ys ≡ length (from o used) → Turned g at used n o ys
   turn-at [] n ys m h f l = absurd (omega (arith, word-at y at 0 (g .rest) (m .code-is) .0))
   turn-at (s ∷ todo) n ys m h f l =
       let w : List ℕ = each-with (g .write) (g .f s) in
-      let b : Begins w n ys = f s (head-at s todo m) in
+      let b : WrittenFirst w n ys = f s (head-at s todo m) in
       let q = word-at y at _ _ (m .code-is) in
       let len : getD y at 0 ≡ length (g .read s) = q .0 in
       let there : at < length y = q .1 in
@@ -181,7 +181,7 @@ module _ {y : List ℕ} (g : Task y) (at used : ℕ) (o : List ℕ) where
       }
 
   pub turn : (n : ℕ) (ys : List ℕ) → Now g at used o → 0 < getD y at 0
-      → ((s : g .A) → Head g at used o s → Begins (each-with (g .write) (g .f s)) n ys) → length ys ≡ length (from o used) → Turned g at used n o ys
+      → ((s : g .A) → Head g at used o s → WrittenFirst (each-with (g .write) (g .f s)) n ys) → length ys ≡ length (from o used) → Turned g at used n o ys
   turn n ys m h f l = turn-at (m .0) n ys (m .1) h f l
 
 pub back-length : (o ys : List ℕ) (used : ℕ) → used ≤ length o → length ys ≡ length (from o used) → length (back o used ys) ≡ length o

@@ -1,25 +1,37 @@
--- Cell.
+-- A row as cells in preorder, each of three words: what is named, the variables, the heads still allowed.
 use mathlib.Core.List.{List, _∷_, [], _++_}
 use Prim.Native.Nat.{ℕ}
 
+-- the words of a cell
+abbrev pub cell-width : ℕ
+cell-width = 3
+
+-- a tag below this names a constructor, any other is this and a kind
+abbrev pub kind-tag : ℕ
+kind-tag = 256
+
+-- the tag of a column that no cell stands for
+abbrev pub free-tag : ℕ
+free-tag = 512
+
 -- a place: constructor, variables, heads, arguments; or tag, variables, heads
 mutual
-  pub data CRow : Type 0 where
-    cn : ℕ → ℕ → ℕ → CRows → CRow
-    cf : ℕ → ℕ → ℕ → CRow
+  pub data RowCells : Type 0 where
+    named-cells : ℕ → ℕ → ℕ → RowsCells → RowCells
+    free-cell : ℕ → ℕ → ℕ → RowCells
 
-  pub data CRows : Type 0 where
-    cnil : CRows
-    ccons : CRow → CRows → CRows
+  pub data RowsCells : Type 0 where
+    no-cells : RowsCells
+    more-cells : RowCells → RowsCells → RowsCells
 
 abbrev mutual
-  pub words : CRow → List ℕ
-  words (cn c v m rs) = c ∷ (v ∷ (m ∷ wordss rs))
-  words (cf t v m) = t ∷ (v ∷ (m ∷ []))
+  pub words : RowCells → List ℕ
+  words (named-cells c v m rs) = c ∷ (v ∷ (m ∷ all-words rs))
+  words (free-cell t v m) = t ∷ (v ∷ (m ∷ []))
 
-  pub wordss : CRows → List ℕ
-  wordss cnil = []
-  wordss (ccons r rs) = words r ++ wordss rs
+  pub all-words : RowsCells → List ℕ
+  all-words no-cells = []
+  all-words (more-cells r rs) = words r ++ all-words rs
 
 -- the kinds: each one's first constructor, each constructor's argument kinds
 pub record Kinds : Type 0 where

@@ -1,38 +1,39 @@
--- Cursor.
+-- A cursor over the columns of a row: so many wildcards that no cell stands for, then the cells from a word on.
 use mathlib.Core.List.{List}
 use mathlib.Core.Bool.{cond}
 use Prim.Native.Nat.{ℕ, _+_, _≤_, _*_, _-_, min}
-use lib.Bits.{bitOr, bitAnd}
 use lib.Dec.{ltb}
 use lib.ListN.{getD, length, set}
+use Rattle.cell.specs.Cell.{cell-width, kind-tag, free-tag}
 use Rattle.cell.specs.declared.cell.Cell.{Cell}
 use Rattle.cell.specs.declared.cell.Cursor.{Cursor}
+use Rattle.sets.specs.Set.{all-set, union, intersection}
 use Rattle.signature.specs.Decoded.{arity-of}
 
-abbrev pub wildCell : Cell
-wildCell = record { tag = 512; vars = 0; allowed = 18446744073709551615 }
+abbrev pub wild-cell : Cell
+wild-cell = record { tag = free-tag; vars = 0; allowed = all-set }
 
-abbrev pub cellAt : List ℕ → ℕ → Cell
-cellAt row at = record { tag = getD row at 0; vars = getD row (at + 1) 0; allowed = getD row (at + 2) 0 }
+abbrev pub cell-at : List ℕ → ℕ → Cell
+cell-at row at = record { tag = getD row at 0; vars = getD row (at + 1) 0; allowed = getD row (at + 2) 0 }
 
 -- a cursor that has no wildcard in front has a cell
 abbrev pub Room : List ℕ → Cursor → Type 0
-Room row c = c .at + 3 ≤ length row + 3 * c .virt
+Room row c = c .at + cell-width ≤ length row + cell-width * c .wildcards
 
-abbrev pub lookAt : List ℕ → Cursor → Cell
-lookAt row c = cond (ltb 0 (c .virt)) wildCell (cellAt row (c .at))
+abbrev pub look-at : List ℕ → Cursor → Cell
+look-at row c = cond (ltb 0 (c .wildcards)) wild-cell (cell-at row (c .at))
 
-abbrev pub stepOf : Cursor → ℕ → Cursor
-stepOf c more = cond (ltb 0 (c .virt)) (record { at = c .at; virt = c .virt - 1 + more }) (record { at = c .at + 3; virt = more })
+abbrev pub past-column : Cursor → ℕ → Cursor
+past-column c more = cond (ltb 0 (c .wildcards)) (record { at = c .at; wildcards = c .wildcards - 1 + more }) (record { at = c .at + cell-width; wildcards = more })
 
-abbrev pub nextOf : Cursor → ℕ → ℕ → Cursor
-nextOf c tag n = stepOf c (cond (ltb tag 256) 0 n)
+abbrev pub next-of : Cursor → ℕ → ℕ → Cursor
+next-of c tag n = past-column c (cond (ltb tag kind-tag) 0 n)
 
-abbrev pub joinOf : Cell → Cell → Cell
-joinOf a b = record { tag = min (a .tag) (b .tag); vars = bitOr (a .vars) (b .vars); allowed = bitAnd (a .allowed) (b .allowed) }
+abbrev pub join-of : Cell → Cell → Cell
+join-of a b = record { tag = min (a .tag) (b .tag); vars = union (a .vars) (b .vars); allowed = intersection (a .allowed) (b .allowed) }
 
-abbrev pub opensOf : List ℕ → ℕ → ℕ
-opensOf t tag = cond (ltb tag 256) (arity-of t tag) 0
+abbrev pub opens-of : List ℕ → ℕ → ℕ
+opens-of t tag = cond (ltb tag kind-tag) (arity-of t tag) 0
 
-abbrev pub putAt : List ℕ → ℕ → Cell → List ℕ
-putAt o at c = set (set (set o at (c .tag)) (at + 1) (c .vars)) (at + 2) (c .allowed)
+abbrev pub put-cell : List ℕ → ℕ → Cell → List ℕ
+put-cell o at c = set (set (set o at (c .tag)) (at + 1) (c .vars)) (at + 2) (c .allowed)

@@ -2,5 +2,4 @@ pub mod Cell
 pub mod Coded
 pub mod Cursor
 pub mod Lockstep
-pub mod Mask
 pub mod RowList

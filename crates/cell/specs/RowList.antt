@@ -1,11 +1,11 @@
--- RowList.
+-- A list of rows in words: before each row the number of its words, behind the last a 0.
 use mathlib.Core.Path.{_≡_}
 use mathlib.Core.List.{List, [], _∷_, _++_}
 use Prim.Native.Nat.{ℕ, _+_, _≤_, _-_}
 use lib.ListN.{length, take, drop}
 use Rattle.signature.specs.Lists.{somes}
 use Rattle.cell.specs.Cell.{Kinds}
-use Rattle.cell.specs.Coded.{code, Typed}
+use Rattle.cell.specs.Coded.{row-code, Typed}
 use Rattle.row.specs.Row.{Row, combine}
 
 -- of anything that has words
@@ -14,15 +14,15 @@ each-with w [] = []
 each-with w (a ∷ l) = length (w a) ∷ (w a ++ each-with w l)
 
 abbrev pub entries : Kinds → ℕ → List Row → List ℕ
-entries K k rs = each-with (λ r. code K r k) rs
+entries K k rs = each-with (λ r. row-code K r k) rs
 
 -- the end is a row of no words
 abbrev pub list-code : Kinds → ℕ → List Row → List ℕ
 list-code K k rs = entries K k rs ++ (0 ∷ [])
 
 -- so many words are written in front, these
-abbrev pub Begins : List ℕ → ℕ → List ℕ → Type 0
-Begins w n o = (n ≡ length w) × (take n o ≡ w)
+abbrev pub WrittenFirst : List ℕ → ℕ → List ℕ → Type 0
+WrittenFirst w n o = (n ≡ length w) × (take n o ≡ w)
 
 -- one row with one, and the number of words in front
 pub record GivenOne (ar x y o : List ℕ) : Type 0 where
@@ -30,13 +30,13 @@ pub record GivenOne (ar x y o : List ℕ) : Type 0 where
   pub kind : ℕ
   pub r : Row
   pub s : Row
-  pub restX : List ℕ
-  pub restY : List ℕ
-  pub codeX : x ≡ code K r kind ++ restX
-  pub codeY : y ≡ code K s kind ++ restY
-  pub typedR : Typed K ar r kind
-  pub typedS : Typed K ar s kind
-  pub room : 1 + (length (code K r kind) + length (code K s kind)) ≤ length o
+  pub rest-x : List ℕ
+  pub rest-y : List ℕ
+  pub code-x : x ≡ row-code K r kind ++ rest-x
+  pub code-y : y ≡ row-code K s kind ++ rest-y
+  pub typed-r : Typed K ar r kind
+  pub typed-s : Typed K ar s kind
+  pub room : 1 + (length (row-code K r kind) + length (row-code K s kind)) ≤ length o
 
 abbrev pub one-entry : {ar x y o : List ℕ} → GivenOne ar x y o → List ℕ
 one-entry g = entries (g .K) (g .kind) (somes (combine (g .r) (g .s) ∷ []))

@@ -1,11 +1,15 @@
 // Rows as preorder cells of three words, a cursor over them, and two rows as one.
+use sets::set::ALL;
+use sets::set::meet;
+use sets::set::size;
 use signature::decoded::arity_of;
 ghost use mathlib.Core.Path.{_≡_};
 ghost use Prim.Native.Nat.{_+_, _≤_, _<_, _^_};
 ghost use lib.ListN.{length, set};
-ghost use Rattle.cell.specs.Cursor.{Room, lookAt, stepOf, nextOf, joinOf, opensOf, putAt};
+ghost use Rattle.cell.specs.Cell.{cell-width, kind-tag};
+ghost use Rattle.cell.specs.Cursor.{Room, look-at, past-column, next-of, join-of, opens-of, put-cell};
 ghost use Rattle.row.specs.Row.{combine as combined};
-ghost use Rattle.cell.specs.Coded.{code-of};
+ghost use Rattle.cell.specs.Coded.{row-code-of};
 ghost use Rattle.cell.specs.Lockstep.{GivenRows, Result};
 ghost use Rattle.cell.specs.RowList.{from};
 ghost use Rattle.signature.specs.Decoded.{decoded-length};
@@ -13,12 +17,13 @@ ghost use Rattle.signature.specs.Decoded.{decoded-length};
 // A tag below it names a constructor, any other is this and a kind.
 pub const KIND_TAG: u64 = 256;
 
-// The tag of a column that no cell stands for, and the set of all heads.
-const FREE: u64 = 512;
+// The tag of a column that no cell stands for: above each other, so that the other is kept.
+const FREE_TAG: u64 = 512;
 
-const ALL: u64 = 18446744073709551615;
+// The words of a cell.
+pub const CELL: usize = 3;
 
-// A cell: the constructor that is named, or 256 + the kind; the variables; the heads still allowed.
+// A cell: the constructor that is named, or KIND_TAG and the kind; the variables; the heads still allowed.
 pub struct Cell {
     pub tag: u64,
     pub vars: u64,
@@ -28,7 +33,7 @@ pub struct Cell {
 // The columns still to take: so many wildcards, then the cells from a word on.
 pub struct Cursor {
     pub at: usize,
-    pub virt: usize,
+    pub wildcards: usize,
 }
 
 pub enum Out {
@@ -39,12 +44,12 @@ pub enum Out {
 // The first column's cell.
 pub fn look(row: &[u64], c: Cursor) -> Cell
     requires { ⌜ Room (now row) c ⌝ }
-    ensures { λ r. ⌜ r ≡ lookAt (now (row .entry)) c ⌝ }
+    ensures { λ r. ⌜ r ≡ look-at (now (row .entry)) c ⌝ }
 {
-    let virt = c.virt;
-    if virt > 0 {
+    let wildcards = c.wildcards;
+    if wildcards > 0 {
         return Cell {
-            tag: FREE,
+            tag: FREE_TAG,
             vars: 0,
             allowed: ALL,
         };
@@ -59,26 +64,26 @@ pub fn look(row: &[u64], c: Cursor) -> Cell
 
 // Past the first column, with so many wildcards in its place.
 fn step(c: Cursor, more: usize) -> Cursor
-    requires { ⌜ (c .virt + more < 2 ^ 64) × (c .at + 3 < 2 ^ 64) ⌝ }
-    ensures { λ r. ⌜ r ≡ stepOf c more ⌝ }
+    requires { ⌜ (c .wildcards + more < 2 ^ 64) × (c .at + cell-width < 2 ^ 64) ⌝ }
+    ensures { λ r. ⌜ r ≡ past-column c more ⌝ }
 {
-    let virt = c.virt;
-    if virt > 0 {
+    let wildcards = c.wildcards;
+    if wildcards > 0 {
         return Cursor {
             at: c.at,
-            virt: virt - 1 + more,
+            wildcards: wildcards - 1 + more,
         };
     }
     Cursor {
-        at: c.at + 3,
-        virt: more,
+        at: c.at + CELL,
+        wildcards: more,
     }
 }
 
 // A constructor with n arguments is taken in the first column, whose tag is given.
 pub fn next(c: Cursor, tag: u64, n: usize) -> Cursor
-    requires { ⌜ (c .virt + n < 2 ^ 64) × (c .at + 3 < 2 ^ 64) ⌝ }
-    ensures { λ r. ⌜ r ≡ nextOf c tag n ⌝ }
+    requires { ⌜ (c .wildcards + n < 2 ^ 64) × (c .at + cell-width < 2 ^ 64) ⌝ }
+    ensures { λ r. ⌜ r ≡ next-of c tag n ⌝ }
 {
     if tag < KIND_TAG {
         return step(c, 0);
@@ -88,26 +93,28 @@ pub fn next(c: Cursor, tag: u64, n: usize) -> Cursor
 
 // Two cells of one column as one.
 pub fn join(a: Cell, b: Cell) -> Cell
-    ensures { λ r. ⌜ r ≡ joinOf a b ⌝ }
+    ensures { λ r. ⌜ r ≡ join-of a b ⌝ }
 {
+    let vars = sets::set::join(a.vars, b.vars);
+    let allowed = meet(a.allowed, b.allowed);
     if a.tag <= b.tag {
         return Cell {
             tag: a.tag,
-            vars: a.vars | b.vars,
-            allowed: a.allowed & b.allowed,
+            vars,
+            allowed,
         };
     }
     Cell {
         tag: b.tag,
-        vars: a.vars | b.vars,
-        allowed: a.allowed & b.allowed,
+        vars,
+        allowed,
     }
 }
 
 // How many columns a cell opens, by the table of a signature.
 pub fn opens(t: &[u16], tag: u64) -> usize
-    requires { ⌜ (tag < 256 → length (now t) ≡ decoded-length) ⌝ }
-    ensures { λ r. ⌜ r ≡ opensOf (now (t .entry)) tag ⌝ }
+    requires { ⌜ (tag < kind-tag → length (now t) ≡ decoded-length) ⌝ }
+    ensures { λ r. ⌜ r ≡ opens-of (now (t .entry)) tag ⌝ }
 {
     if tag < KIND_TAG {
         return arity_of(t, tag as usize) as usize;
@@ -116,8 +123,8 @@ pub fn opens(t: &[u16], tag: u64) -> usize
 }
 
 fn put(out: &mut [u64], at: usize, c: Cell)
-    requires { ⌜ at + 3 ≤ length (now out) ⌝ }
-    ensures { λ _. ⌜ now (out .exit) ≡ putAt (now (out .entry)) at c ⌝ }
+    requires { ⌜ at + cell-width ≤ length (now out) ⌝ }
+    ensures { λ _. ⌜ now (out .exit) ≡ put-cell (now (out .entry)) at c ⌝ }
 {
     out[at] = c.tag;
     out[at + 1] = c.vars;
@@ -127,21 +134,27 @@ fn put(out: &mut [u64], at: usize, c: Cell)
 // The two rows at the front of a and b as one, first in out, and how many words it has.
 pub fn combine(t: &[u16], a: &[u64], b: &[u64], out: &mut [u64]) -> Out
     requires { ⌜ GivenRows (now t) (now a) (now b) (now out) ⌝ }
-    ensures { λ r. ⌜ ((g : GivenRows (now (t .entry)) (now (a .entry)) (now (b .entry)) (now (out .entry))) → Result (code-of (g .K) (g .kind) (combined (g .r) (g .s))) r (now (out .entry)) (now (out .exit))) ⌝ }
+    ensures { λ r. ⌜ ((g : GivenRows (now (t .entry)) (now (a .entry)) (now (b .entry)) (now (out .entry))) → Result (row-code-of (g .K) (g .kind) (combined (g .r) (g .s))) r (now (out .entry)) (now (out .exit))) ⌝ }
 {
-    let mut x = Cursor { at: 0, virt: 0 };
-    let mut y = Cursor { at: 0, virt: 0 };
+    let mut x = Cursor {
+        at: 0,
+        wildcards: 0,
+    };
+    let mut y = Cursor {
+        at: 0,
+        wildcards: 0,
+    };
     let mut n = 0;
     let mut left = 1;
     while left > 0 {
         let p = look(a, x);
         let q = look(b, y);
         let c = join(p, q);
-        if c.allowed == 0 {
+        if size(c.allowed) == 0 {
             return Out::Dropped;
         }
         put(out, n, c);
-        n += 3;
+        n += CELL;
         let w = opens(t, c.tag);
         left = left - 1 + w;
         x = next(x, p.tag, w);

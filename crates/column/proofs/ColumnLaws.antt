@@ -2,7 +2,7 @@
 use mathlib.Core.Path.{_≡_, refl, sym, ap, subst, _∙_}
 use mathlib.Core.Logic.{_⊎_, inl, inr}
 use mathlib.Core.List.{List}
-use mathlib.Core.Bool.{Bool, true, false, not, _&&_, cond}
+use mathlib.Core.Bool.{Bool, true, false, not, _&&_}
 use Prim.Native.Nat.{ℕ, _+_, _-_, _*_, _≤_, _<_}
 use native.Mathlib.Omega.{arith}
 use borrow.Author.Tests.{lt-ltb, le-ltb}
@@ -11,13 +11,13 @@ use lib.ListN.{length, getD}
 use Rattle.signature.specs.Decoded.{Known, count-of, kind-of}
 use Rattle.signature.specs.Limits.{kind-limit}
 use Rattle.signature.specs.Lists.{memb}
-use Rattle.signature.specs.Set.{bit, set-limit}
+use Rattle.sets.specs.Set.{bit, members}
 use Rattle.signature.specs.Signature.{Signature, heads, arguments-at}
 use Rattle.signature.proofs.Heads.{kind-of-head, constructor-of}
 use Rattle.signature.proofs.KnownFacts.{words-of, is-constructor, few-constructors}
-use Rattle.signature.proofs.SetLaws.{bit-lt}
+use Rattle.sets.proofs.SetLaws.{bit-lt}
 use Rattle.signature.proofs.Tests.{eqb-eq, eqb-ne, true≢false}
-use Rattle.rowlist.proofs.Kinded.{few-heads, full-set, kinds-same}
+use Rattle.rowlist.proofs.Kinded.{kinds-same}
 use Rattle.path.specs.Alive.{member}
 use Rattle.path.specs.Standing.{refined-cell}
 use Rattle.path.specs.State.{kept-by, cell-of, start-of}
@@ -27,9 +27,6 @@ module _ {t : List ℕ} {tag : ℕ} (g : Seen t tag) where
   -- a kind's number is below 32
   pub kind-small : g .k < kind-limit
   kind-small = omega (arith, g .there, kinds-same (g .known), words-of (g .known) .few-kinds)
-
-  pub seen-few : count-of t (g .k) ≤ set-limit
-  seen-few = omega (arith, g .known .decoded .head-count (g .k) (g .there), few-heads (g .known) (g .k) (g .there))
 
   named-small : memb tag (heads (g .known .sig) (g .k)) ≡ true → tag < 256
   named-small e = let (js, q) = kind-of-head (g .known .sig) (g .k) tag e in omega (arith, is-constructor (g .known) (g .k) tag js q, few-constructors (g .known))
@@ -55,13 +52,10 @@ module _ {t : List ℕ} {tag : ℕ} (g : Seen t tag) where
   pub refined-named : (allowed : ℕ) → tag < 256 → true ≡ refined-cell (g .known .sig) (g .k) tag allowed
   refined-named allowed l = rw (lt-ltb tag 256 l)
 
-  pub seen-count : (n : ℕ) → 256 ≤ tag → n ≡ count-of t (tag - 256) → n ≤ set-limit
-  seen-count n l e = let q : tag - 256 ≡ g .k = omega (arith, seen-free l) in omega (arith, e, ap (count-of t) q, seen-few)
-
-  pub refined-free : (allowed s n : ℕ) → 256 ≤ tag → n ≡ count-of t (tag - 256) → ((j : ℕ) → bit s j ≡ cond (ltb j n) 1 0) → not (eqb allowed s) ≡ refined-cell (g .known .sig) (g .k) tag allowed
-  refined-free allowed s n l e h =
+  pub refined-free : (allowed n m : ℕ) → 256 ≤ tag → n ≡ length (members allowed) → m ≡ count-of t (tag - 256) → not (eqb n m) ≡ refined-cell (g .known .sig) (g .k) tag allowed
+  refined-free allowed n m l h e =
       let q : tag - 256 ≡ g .k = omega (arith, seen-free l) in
-      rw (le-ltb tag 256 l, full-set (g .known) (g .k) (g .there) s (λ j. h j ∙ ap (λ (m : ℕ). cond (ltb j m) 1 0) (e ∙ ap (count-of t) q)))
+      rw (le-ltb tag 256 l, h, e ∙ ap (count-of t) q ∙ g .known .decoded .head-count (g .k) (g .there))
 
   pub kind-saw : (allowed x : ℕ) (b : Bool) → b ≡ true → b ≡ refined-cell (g .known .sig) (g .k) tag allowed → x ≡ g .k → RowKind (g .known .sig) (g .k) tag allowed x
   kind-saw allowed x b e h i = record { plain = λ l. absurd (omega (arith, kind-small)); refines = λ l. (i, sym h ∙ e) }

@@ -8,9 +8,10 @@ use lib.ListN.{length, getD}
 use Rattle.signature.specs.Decoded.{Known}
 use Rattle.signature.specs.Limits.{kind-limit}
 use Rattle.signature.specs.Lists.{memb}
-use Rattle.signature.specs.Set.{set-limit}
+use Rattle.sets.specs.Set.{set-limit}
 use Rattle.signature.specs.Signature.{Signature, heads}
 use Rattle.pattern.specs.Limits.{pattern-limit}
+use Rattle.cell.specs.Cell.{cell-width, kind-tag}
 use Rattle.tree.specs.Limits.{row-limit}
 use Rattle.path.specs.Alive.{member, FirstAlive}
 use Rattle.path.specs.Standing.{refined-cell}
@@ -28,7 +29,7 @@ pub record Seen (t : List ℕ) (tag : ℕ) : Type 0 where
   pub known : Known t
   pub k : ℕ
   pub there : k < known .decoded .n
-  pub is : (tag ≡ 256 + k) ⊎ (memb tag (heads (known .sig) k) ≡ true)
+  pub is : (tag ≡ kind-tag + k) ⊎ (memb tag (heads (known .sig) k) ≡ true)
 
 -- what the look at a cell says: its kind k where it is refined, else kind-limit
 pub record RowKind (sig : Signature) (k tag allowed res : ℕ) : Type 0 where
@@ -54,8 +55,8 @@ pub record Looking (t a rows : List ℕ) (n : ℕ) (re cur : List ℕ) : Type 0 
   pub few : n ≤ row-limit
   pub cursors : n ≤ length cur
   pub long : row-stride * n ≤ length rows
-  pub cell : (r : ℕ) → r < n → member re r ≡ true → cell-of rows r (getD cur r 0) + 3 ≤ length a
-  pub tags : (r : ℕ) → r < n → member re r ≡ true → (tag-at a rows cur r ≡ 256 + k) ⊎ (memb (tag-at a rows cur r) (heads (known .sig) k) ≡ true)
+  pub cell : (r : ℕ) → r < n → member re r ≡ true → cell-of rows r (getD cur r 0) + cell-width ≤ length a
+  pub tags : (r : ℕ) → r < n → member re r ≡ true → (tag-at a rows cur r ≡ kind-tag + k) ⊎ (memb (tag-at a rows cur r) (heads (known .sig) k) ≡ true)
 
 -- whoever knows that learns what row r says, and what the column says
 abbrev pub KindOfRow : List ℕ → List ℕ → List ℕ → ℕ → List ℕ → List ℕ → ℕ → ℕ → Type 0
@@ -70,8 +71,8 @@ pub record Keeping (a rows : List ℕ) (n : ℕ) (re cur : List ℕ) (j : ℕ) :
   pub cursors : n ≤ length cur
   pub long : row-stride * n ≤ length rows
   pub bit-small : j < set-limit
-  pub cell : (r : ℕ) → r < n → member re r ≡ true → (0 < getD cur r 0) × (cell-of rows r (getD cur r 0 - 1) + 3 ≤ length a)
+  pub cell : (r : ℕ) → r < n → member re r ≡ true → (0 < getD cur r 0) × (cell-of rows r (getD cur r 0 - 1) + cell-width ≤ length a)
 
 -- the same of one row
 abbrev pub KeepingRow : List ℕ → List ℕ → List ℕ → List ℕ → ℕ → ℕ → Type 0
-KeepingRow a rows re cur j r = (r < row-limit) × (r < length cur) × (row-stride * r + row-stride ≤ length rows) × (j < set-limit) × (member re r ≡ true → (0 < getD cur r 0) × (cell-of rows r (getD cur r 0 - 1) + 3 ≤ length a))
+KeepingRow a rows re cur j r = (r < row-limit) × (r < length cur) × (row-stride * r + row-stride ≤ length rows) × (j < set-limit) × (member re r ≡ true → (0 < getD cur r 0) × (cell-of rows r (getD cur r 0 - 1) + cell-width ≤ length a))

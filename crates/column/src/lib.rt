@@ -1,11 +1,12 @@
 // The first column: of which kind it is where a row refines it, and which rows allow a head there.
+use cell::cell::CELL;
 use cell::cell::KIND_TAG;
 use path::alive::SET_WORDS;
 use path::alive::has;
 use path::alive::put;
 use path::rows::start_of;
-use sets::set::full;
 use sets::set::has as has_bit;
+use sets::set::size;
 use signature::decoded::count_of;
 use signature::decoded::kind_of;
 ghost use mathlib.Core.Path.{_≡_};
@@ -19,8 +20,6 @@ ghost use Rattle.column.specs.Column.{Seen, Looking, Keeping, KeepingRow
 // What stands for no kind.
 pub const NO_KIND: usize = 32;
 
-const CELL: usize = 3;
-
 // Whether a cell names or excludes a constructor of its kind.
 fn refined(t: &[u16], tag: u64, allowed: u64) -> bool
     requires { ⌜ Seen (now t) tag ⌝ }
@@ -30,7 +29,7 @@ fn refined(t: &[u16], tag: u64, allowed: u64) -> bool
         return true;
     }
     let k = (tag - KIND_TAG) as usize;
-    allowed != full(count_of(t, k) as u32)
+    size(allowed) != count_of(t, k) as u32
 }
 
 // The kind of a cell.

@@ -22,9 +22,9 @@ use Rattle.row.specs.Admitted.{refusal-of-pattern, Passed}
 use Rattle.row.specs.Row.{Row, rcons, rnil, rows-plus}
 use Rattle.row.proofs.PassedFacts.{passed-of}
 use Rattle.row.proofs.RowCount.{plus-count}
-use Rattle.cell.specs.Coded.{kinds-of, code}
+use Rattle.cell.specs.Coded.{kinds-of, row-code}
 use Rattle.cell.specs.RowList.{entries}
-use Rattle.overlap.proofs.Laws.{first-kind}
+use Rattle.rowlist.proofs.Kinded.{kind-zero}
 use Rattle.tree.specs.Tree.{Line}
 use Rattle.table.specs.Limits.{limits}
 use Rattle.table.specs.Matrix.{lines, lines-by}
@@ -71,7 +71,7 @@ module _ {t : List ℕ} (g : Known t) where
       let w = pattern-words (g .sig) (r .pattern) (h .pat) (h .read) in
       let n : length (pattern-code (h .pat)) ≤ pattern-limit = omega (arith, ap length (w .is-code), w .at-most) in
       subst (λ (o : Option Pattern). All (Fit (g .sig) t) (map (row-of (r .number) (r .plan)) (rows-by (g .sig) o))) (sym (h .read))
-      (all-map (row-of (r .number) (r .plan)) (λ (x : Row) (k : RowStands (g .sig) t x 0 × (length (code (kinds-of (g .sig)) x 0) ≤ 3 * pattern-limit)). record { good = k .0; short = k .1 }) (rows-fit g (h .pat) (w .well-formed) (first-kind g) (h .linear) n))
+      (all-map (row-of (r .number) (r .plan)) (λ (x : Row) (k : RowStands (g .sig) t x 0 × (length (row-code (kinds-of (g .sig)) x 0) ≤ 3 * pattern-limit)). record { good = k .0; short = k .1 }) (rows-fit g (h .pat) (w .well-formed) (kind-zero g) (h .linear) n))
 
   all-fit : (rs : List Rule) → all (λ r. eqb (refusal-of-pattern (g .sig) (r .pattern)) 0) rs ≡ true → All (Fit (g .sig) t) (rows-all (g .sig) rs)
   all-fit [] e = none-left

@@ -14,8 +14,8 @@ use Rattle.signature.proofs.KnownFacts.{at-below}
 use Rattle.signature.proofs.Tests.{none≢some, some-inj}
 use Rattle.pattern.specs.Limits.{pattern-limit}
 use Rattle.row.specs.Row.{Row}
-use Rattle.cell.specs.Coded.{kinds-of, code}
-use Rattle.cell.specs.Cursor.{opensOf}
+use Rattle.cell.specs.Coded.{kinds-of, row-code}
+use Rattle.cell.specs.Cursor.{opens-of}
 use Rattle.cell.specs.RowList.{entries}
 use Rattle.cell.proofs.Walk.{word-at}
 use Rattle.builder.proofs.NextLists.{words-filled}
@@ -36,7 +36,7 @@ last-or (z ∷ xs) x (suc q) y e = go (last-or xs x q y e)
     go (inr (a, b)) = inr (ap suc a, b)
 
 -- a row of the table stays where later rows are filled
-pub placed-same : (sig : Signature) (t a tab tab′ : List ℕ) (r q : ℕ) (e : RuleRow) → length (code (kinds-of sig) (e .row) 0) ≤ 3 * pattern-limit → q < r → Before (row-stride * r) tab tab′ → RowKept sig t a tab q e → RowKept sig t a tab′ q e
+pub placed-same : (sig : Signature) (t a tab tab′ : List ℕ) (r q : ℕ) (e : RuleRow) → length (row-code (kinds-of sig) (e .row) 0) ≤ 3 * pattern-limit → q < r → Before (row-stride * r) tab tab′ → RowKept sig t a tab q e → RowKept sig t a tab′ q e
 placed-same sig t a tab tab′ r q e s l b w = let i = w .indexed in record {
   start = w .start;
   rest = w .rest;
@@ -49,7 +49,7 @@ placed-same sig t a tab tab′ r q e s l b w = let i = w .indexed in record {
     plan-is = b (row-stride * q + 3) (omega arith) ∙ i .plan-is;
     counted = record {
       one = b (row-stride * q + 4 + 0) (omega arith) ∙ i .counted .one;
-      counts = λ j h. b (row-stride * q + 4 + (j + 1)) (omega arith) ∙ i .counted .counts j h ∙ ap (λ (z : ℕ). z - 1 + opensOf t (getD a (w .start + 3 * j) 0)) (sym (b (row-stride * q + 4 + j) (omega arith)));
+      counts = λ j h. b (row-stride * q + 4 + (j + 1)) (omega arith) ∙ i .counted .counts j h ∙ ap (λ (z : ℕ). z - 1 + opens-of t (getD a (w .start + 3 * j) 0)) (sym (b (row-stride * q + 4 + j) (omega arith)));
     };
   };
 }
@@ -111,7 +111,7 @@ module _ {t a : List ℕ} {from r room : ℕ} (g : GivenList t a from r room) (n
 
     module _ (x : Next) where
       abbrev its-code : List ℕ
-      its-code = code (kinds-of (g .known .sig)) (x .w) 0
+      its-code = row-code (kinds-of (g .known .sig)) (x .w) 0
 
       abbrev later : List ℕ
       later = codes (x .more) ++ (0 ∷ g .rest)

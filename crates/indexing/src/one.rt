@@ -1,4 +1,5 @@
 // A row in the table of rows.
+use cell::cell::CELL;
 use cell::cell::opens;
 use path::rows::OWN;
 use path::rows::ROW;
@@ -7,8 +8,6 @@ ghost use lib.ListN.{length};
 ghost use Rattle.path.specs.State.{row-stride};
 ghost use Rattle.path.specs.Rows.{GivenRow, RowCounted, RowIndexed, Before};
 ghost use Rattle.path.specs.Wrote.{word-limit};
-
-const CELL: usize = 3;
 
 // How many columns are row r's own at each of its cells.
 fn count_columns(t: &[u16], a: &[u64], start: usize, len: usize, r: usize, rows: &mut [u16])

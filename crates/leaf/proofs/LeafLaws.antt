@@ -8,8 +8,8 @@ use native.Mathlib.Omega.{arith}
 use lib.Dec.{eqb}
 use lib.ListN.{length, getD, drop, take, set, length-append, length-drop, drop-of-length-le}
 use lib.Seq.{take-all, length-take-le, drop-drop}
-use Rattle.signature.specs.Set.{bit}
-use Rattle.signature.proofs.SetLaws.{bit-lt}
+use Rattle.sets.specs.Set.{bit}
+use Rattle.sets.proofs.SetLaws.{bit-lt}
 use Rattle.signature.proofs.Tests.{eqb-eq, eqb-ne}
 use Rattle.pattern.specs.Limits.{variable-count}
 use Rattle.tree.specs.Tree.{hit}

@@ -5,7 +5,7 @@ use mathlib.Core.Bool.{cond}
 use Prim.Native.Nat.{ℕ, zero, suc, _+_, _*_, _≤_, _<_, min}
 use lib.Dec.{eqb}
 use lib.ListN.{length, getD, take, drop}
-use Rattle.signature.specs.Set.{bit}
+use Rattle.sets.specs.Set.{bit}
 use Rattle.pattern.specs.Limits.{pattern-limit, variable-count}
 use Rattle.tree.specs.Tree.{Tree, hit}
 use Rattle.tree.specs.Words.{pairs}

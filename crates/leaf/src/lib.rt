@@ -1,4 +1,5 @@
 // A leaf: a row's rule and plan, and which visit bound each of its variables.
+use cell::cell::CELL;
 use path::rows::ROW;
 use path::rows::start_of;
 use pattern::limits::PATTERN_WORDS;
@@ -10,14 +11,12 @@ use tree::words::HIT_WORDS;
 ghost use mathlib.Core.Path.{_≡_};
 ghost use Prim.Native.Nat.{ℕ, _+_, _*_, _≤_, _<_};
 ghost use lib.ListN.{length, getD};
-ghost use Rattle.signature.specs.Set.{set-limit};
+ghost use Rattle.sets.specs.Set.{set-limit};
 ghost use Rattle.path.specs.State.{rule-of, plan-of, row-stride, cell-of};
 ghost use Rattle.leaf.specs.Leaf.{Leaving, Pairing, Paired, Used, all-pairs, cell-pair, cell-pairs, leaf-of};
 ghost use Rattle.path.specs.Wrote.{Wrote, word-limit};
 
 const VARIABLE_COUNT: u16 = VARIABLES as u16;
-
-const CELL: usize = 3;
 
 fn rule_of(rows: &[u16], r: usize) -> u16
     requires { ⌜ row-stride * r + row-stride ≤ length (now rows) ⌝ }

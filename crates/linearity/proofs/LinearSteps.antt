@@ -8,13 +8,13 @@ use native.Mathlib.Omega.{arith}
 use lib.ListN.{length, drop, getD, length-append, length-drop}
 use lib.Seq.{drop-drop}
 use Rattle.signature.specs.Lists.{memb, is-empty}
-use Rattle.signature.specs.Set.{bit}
+use Rattle.sets.specs.Set.{bit}
 use Rattle.signature.proofs.Booleans.{and-true}
 use Rattle.signature.proofs.Members.{memb-append}
 use Rattle.pattern.specs.Given.{Opens}
 use Rattle.pattern.specs.Linear.{E, O, E-all, O-all, linear-plus, linear-minus, all-plus, all-minus, disjoint, same-set}
 use Rattle.pattern.specs.Linearity.{vars-at, behind}
-use Rattle.linearity.specs.Linearity.{linear-at, Holds, Judged, joint-at, joins, own-vars, var-small}
+use Rattle.linearity.specs.Linearity.{linear-at, Holds, Judged, joint-at, joins, own-vars}
 use Rattle.pattern.specs.Pattern.{Pattern, Patterns, pnil, pcons, head, and, or, wild, absurd-pat, neg, var, pattern-code, patterns-code}
 use Rattle.pattern.specs.Read.{Form, form}
 use Rattle.pattern.specs.Side.{Side, plus, minus}
@@ -24,7 +24,6 @@ use Rattle.linearity.specs.declared.linear.Joint.the-variants.{Apart, Ba
 use Rattle.linearity.specs.declared.linear.Part.{Part}
 use Rattle.linearity.specs.declared.linear.Part.the-variants.{Is, NotLinear}
 use Rattle.pattern.proofs.Opened.{shape, inner, inner-length, OpensAll, Uncons, uncons, none-open, opened, shape-is, fits-in, to-part}
-use Rattle.pattern.proofs.PatternBack.{Formed, formed, formed-head, formed-and, formed-or, formed-wild, formed-absurd, formed-not, formed-var, formed-other}
 use Rattle.pattern.proofs.ReadSteps.{part}
 use Rattle.linearity.proofs.VarSets.{holds-join, holds-same}
 
@@ -153,19 +152,6 @@ start s {t} {ws} g f f-is s′ jt set k a b h m =
       linear = rw (a, b) (w .0);
       vars = rw a (w .1);
     }
-
-small-of : (w : ℕ) (f : Form) → Formed w f → var-small f
-small-of w f (formed-head l) = tt
-small-of w f (formed-and e) = tt
-small-of w f (formed-or e) = tt
-small-of w f (formed-wild e) = tt
-small-of w f (formed-absurd e) = tt
-small-of w f (formed-not e) = tt
-small-of w f (formed-var x e l) = l
-small-of w f formed-other = tt
-
-pub variable-small : (w : ℕ) (f : Form) → f ≡ form w → var-small f
-variable-small w f e = subst var-small (sym e) (small-of w (form w) (formed w))
 
 -- the j-th of k parts
 module _ (s : Side) {t ws : List ℕ} {p : Pattern} {s′ : Side} {jt : Joint} {set i : ℕ} (k j : ℕ) (l : Left s t ws p s′ jt set i (k - j) j) (below : j < k) where

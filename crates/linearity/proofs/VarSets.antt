@@ -6,12 +6,12 @@ use Prim.Native.Nat.{ℕ, _<_, _^_, min, max}
 use native.Mathlib.Omega.{arith}
 use lib.Dec.{eqb}
 use Rattle.signature.specs.Lists.{memb, all, is-empty}
-use Rattle.signature.specs.Set.{bit}
-use Rattle.signature.proofs.Booleans.{and-left, and-right, not-true}
+use Rattle.sets.specs.Set.{bit}
+use Rattle.signature.proofs.Booleans.{and-left, and-right, not-true, both-ways}
 use Rattle.signature.proofs.ListFacts.{is-all}
 use Rattle.signature.proofs.Members.{memb-append, all-memb, all-of}
-use Rattle.signature.proofs.SetLaws.{bit-zero, no-member}
-use Rattle.signature.proofs.SetLaws as sets
+use Rattle.sets.proofs.SetLaws.{bit-zero, no-member}
+use Rattle.sets.proofs.SetLaws as sets
 use Rattle.signature.proofs.Tests.{eqb-self, eqb-no, true≢false}
 use Rattle.pattern.specs.Linear.{disjoint, same-set}
 use Rattle.linearity.specs.Linearity.{Holds, own-vars}
@@ -34,8 +34,8 @@ tick-same false false e = refl
 pub holds-none : Holds 0 []
 holds-none x = bit-zero x
 
-pub holds-one : (r i : ℕ) → ((j : ℕ) → bit r j ≡ cond (eqb j i) 1 (bit 0 j)) → Holds r (i ∷ [])
-holds-one r i h x = h x ∙ ap (cond (eqb x i) 1) (bit-zero x) ∙ go (eqb x i)
+pub holds-one : (r i : ℕ) → ((j : ℕ) → bit r j ≡ cond (eqb j i) 1 0) → Holds r (i ∷ [])
+holds-one r i h x = h x ∙ go (eqb x i)
   where
     go : (b : Bool) → cond b 1 0 ≡ tick (b || false)
     go true = refl
@@ -79,16 +79,11 @@ apart-is v a b xs ys l h f g = decided (disjoint xs ys) v 0 to back
     back e = test-all (λ x. not (memb x ys)) xs (λ x m. bit-apart (memb x xs) (memb x ys) (sym (bits x) ∙ ap (λ z. bit z x) e ∙ bit-zero x) m)
 
 -- equal sets
-iff-same : (a b : Bool) → (a ≡ true → b ≡ true) → (b ≡ true → a ≡ true) → a ≡ b
-iff-same true b f g = sym (f refl)
-iff-same false true f g = g refl
-iff-same false false f g = refl
-
 pub alike-is : (a b : ℕ) (xs ys : List ℕ) → a < 2 ^ 64 → b < 2 ^ 64 → Holds a xs → Holds b ys → eqb a b ≡ same-set xs ys
 alike-is a b xs ys la lb f g = decided (same-set xs ys) a b to back
   where
     to : same-set xs ys ≡ true → a ≡ b
-    to d = sets.same-set a b la lb (λ x m. f x ∙ ap tick (iff-same (memb x xs) (memb x ys)
+    to d = sets.same-set a b la lb (λ x m. f x ∙ ap tick (both-ways (memb x xs) (memb x ys)
         (all-memb (λ y. memb y ys) x xs (and-left (all (λ y. memb y ys) xs) (all (λ y. memb y xs) ys) d))
         (all-memb (λ y. memb y xs) x ys (and-right (all (λ y. memb y ys) xs) (all (λ y. memb y xs) ys) d))) ∙ sym (g x))
 
@@ -132,6 +127,6 @@ own-plain true is-absurd e = holds-none
 own-plain true is-not e = holds-none
 own-plain true is-other e = holds-none
 
-pub own-var : (b : Bool) (x r : ℕ) → b ≡ true → ((j : ℕ) → bit r j ≡ cond (eqb j x) 1 (bit 0 j)) → Holds r (own-vars (side-of b) (is-var x))
+pub own-var : (b : Bool) (x r : ℕ) → b ≡ true → ((j : ℕ) → bit r j ≡ cond (eqb j x) 1 0) → Holds r (own-vars (side-of b) (is-var x))
 own-var true x r e h = holds-one r x h
 own-var false x r e h = true≢false (sym e)

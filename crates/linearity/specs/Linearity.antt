@@ -2,12 +2,11 @@
 use mathlib.Core.Path.{_≡_}
 use mathlib.Core.List.{List, [], _∷_}
 use mathlib.Core.Bool.{Bool, true, false, cond}
-use Prim.Native.Nat.{ℕ, _<_}
+use Prim.Native.Nat.{ℕ}
 use lib.Dec.{eqb}
 use lib.ListN.{length}
 use Rattle.signature.specs.Lists.{memb, is-empty}
-use Rattle.signature.specs.Set.{bit}
-use Rattle.pattern.specs.Limits.{variable-count}
+use Rattle.sets.specs.Set.{bit}
 use Rattle.pattern.specs.Linear.{linear-plus, linear-minus, disjoint, same-set}
 use Rattle.pattern.specs.Linearity.{vars-at}
 use Rattle.pattern.specs.Pattern.{Pattern, pattern-code}
@@ -68,14 +67,3 @@ own-vars plus is-absurd = []
 own-vars plus is-not = []
 own-vars plus is-other = []
 own-vars minus f = []
-
--- a variable is one of the 16
-abbrev pub var-small : Form → Type 0
-var-small (is-head c) = Unit {0}
-var-small (is-var x) = x < variable-count
-var-small is-and = Unit {0}
-var-small is-or = Unit {0}
-var-small is-wild = Unit {0}
-var-small is-absurd = Unit {0}
-var-small is-not = Unit {0}
-var-small is-other = Unit {0}

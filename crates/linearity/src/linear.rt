@@ -1,8 +1,13 @@
 // Whether a pattern is linear-plus (refusal 8). A set of variables is a u64 with bit x for variable x.
 use pattern::token::Word;
 use pattern::token::classify;
+use pattern::token::own_words;
 use pattern::token::parts;
 use pattern::token::side_behind;
+use sets::set::join;
+use sets::set::meet;
+use sets::set::only;
+use sets::set::size;
 ghost use mathlib.Core.Path.{_≡_};
 ghost use mathlib.Core.Bool.{true, false};
 ghost use mathlib.Core.List.{List};
@@ -10,8 +15,8 @@ ghost use Prim.Native.Nat.{ℕ};
 ghost use Rattle.pattern.specs.Given.{Patterned, Opens};
 ghost use Rattle.pattern.specs.Linear.{linear-plus};
 ghost use Rattle.pattern.specs.Linearity.{side-of};
-ghost use Rattle.linearity.specs.Linearity.{Holds, Judged, joint-at, joins, own-vars, var-small};
-ghost use Rattle.pattern.specs.Word.{form-of};
+ghost use Rattle.linearity.specs.Linearity.{Holds, Judged, joint-at, joins, own-vars};
+ghost use Rattle.pattern.specs.Word.{form-of, var-small};
 
 // The set of a part at a side, E or O, and how many words the part takes.
 pub enum Part {
@@ -79,7 +84,7 @@ fn own_set(w: Word, plus: bool) -> u64
         Word::Wild => 0,
         Word::Absurd => 0,
         Word::Not => 0,
-        Word::Var(x) => sets::set::with(0, x as u32),
+        Word::Var(x) => only(x as u32),
         Word::Other => 0,
     }
 }
@@ -89,14 +94,14 @@ fn goes_with(joint: Joint, j: u16, set: u64, m: u64) -> bool
     ensures { λ r. ⌜ ((xs ys : List ℕ) → Holds set xs → Holds m ys → r ≡ joins joint j xs ys) ⌝ }
 {
     match joint {
-        Joint::Apart => sets::set::meet(set, m) == 0,
+        Joint::Apart => size(meet(set, m)) == 0,
         Joint::Alike => {
             if j == 0 {
                 return true;
             }
             set == m
         }
-        Joint::Bare => m == 0,
+        Joint::Bare => size(m) == 0,
     }
 }
 
@@ -110,7 +115,7 @@ fn linear_at(t: &[u16], p: &[u16], plus: bool) -> Part
     let side = side_behind(w, plus);
     let joint = joint_of(w, plus);
     let mut set = own_set(w, plus);
-    let mut at = 1;
+    let mut at = own_words(w);
     let mut i = 0;
     while i < count {
         let Part::Is(m, used) = linear_at(t, &p[at..], side) else {
@@ -119,7 +124,7 @@ fn linear_at(t: &[u16], p: &[u16], plus: bool) -> Part
         if !goes_with(joint, i, set, m) {
             return Part::NotLinear;
         }
-        set = sets::set::join(set, m);
+        set = join(set, m);
         at += used;
         i += 1;
     }

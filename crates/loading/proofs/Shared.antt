@@ -19,10 +19,10 @@ use Rattle.row.specs.Row.{Row, combine, each}
 use Rattle.cell.specs.Coded.{kinds-of}
 use Rattle.cell.specs.RowList.{from}
 use Rattle.cell.proofs.Walk.{from-is}
-use Rattle.rowlist.specs.Product.{Typed-all}
+use Rattle.rowlist.specs.Product.{AllTyped}
 use Rattle.rowlist.proofs.Typing.{typed-rows}
 use Rattle.overlap.specs.Lists.{TwoLists}
-use Rattle.overlap.proofs.Laws.{first-kind}
+use Rattle.rowlist.proofs.Kinded.{kind-zero}
 use Rattle.loading.specs.Lists.{rows-by, rows-for, list-for, lists-for, GivenLists}
 
 -- two patterns share a booking where their rows meet
@@ -38,12 +38,12 @@ shares-rows sig us ws = go (read-pattern sig us) (read-pattern sig ws)
     go (some p) none = none-with (rows-by sig (some p))
     go (some p) (some q) = refl
 
-pub typed-for : {t : List ℕ} (g : Known t) (ws : List ℕ) → Typed-all (kinds-of (g .sig)) t 0 (rows-for (g .sig) ws)
+pub typed-for : {t : List ℕ} (g : Known t) (ws : List ℕ) → AllTyped (kinds-of (g .sig)) t 0 (rows-for (g .sig) ws)
 typed-for {t} g ws = go (read-pattern (g .sig) ws) refl
   where
-    go : (o : Option Pattern) → read-pattern (g .sig) ws ≡ o → Typed-all (kinds-of (g .sig)) t 0 (rows-by (g .sig) o)
+    go : (o : Option Pattern) → read-pattern (g .sig) ws ≡ o → AllTyped (kinds-of (g .sig)) t 0 (rows-by (g .sig) o)
     go none e = tt
-    go (some p) e = typed-rows g p true 0 (first-kind g) (pattern-words (g .sig) ws p e .well-formed)
+    go (some p) e = typed-rows g p true 0 (kind-zero g) (pattern-words (g .sig) ws p e .well-formed)
 
 module _ {t lists : List ℕ} {n at : ℕ} (g : GivenLists t lists n at) where
   -- j lists are past, the next begins behind the word at i
@@ -105,12 +105,12 @@ module _ {t lists : List ℕ} {n at : ℕ} (g : GivenLists t lists n at) where
         kind = 0;
         rs = rows-for (g .known .sig) (next .us);
         ss = rows-for (g .known .sig) (g .ws);
-        restX = lists-for (g .known .sig) (next .others) ++ g .rest;
-        restY = g .rest′;
-        codeX = from-is lists (i + 1) ∙ behind;
-        codeY = g .last;
-        typedR = typed-for (g .known) (next .us);
-        typedS = typed-for (g .known) (g .ws);
+        rest-x = lists-for (g .known .sig) (next .others) ++ g .rest;
+        rest-y = g .rest′;
+        code-x = from-is lists (i + 1) ∙ behind;
+        code-y = g .last;
+        typed-r = typed-for (g .known) (next .us);
+        typed-s = typed-for (g .known) (g .ws);
       }
 
       module _ (r : Bool) (gave : (q : TwoLists t (from lists (i + 1)) (from lists at)) → r ≡ not (is-empty (somes (each combine (q .rs) (q .ss))))) where

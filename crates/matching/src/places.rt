@@ -2,8 +2,11 @@
 use crate::span::span;
 use crate::takes::all_fit;
 use crate::takes::fits;
+use pattern::limits::UNBOUND;
+use pattern::limits::VARIABLES;
 use pattern::token::Word;
 use pattern::token::classify;
+use pattern::token::own_words;
 use signature::decoded::arity_of;
 ghost use mathlib.Core.Path.{_≡_};
 ghost use mathlib.Core.Bool.{true};
@@ -17,10 +20,6 @@ ghost use Rattle.pattern.specs.Places.{bind-all, unbound};
 ghost use Rattle.matching.specs.Asked.{Asked};
 ghost use Rattle.matching.specs.Bound.{bound, join};
 ghost use Rattle.matching.specs.Given.{Given, GivenTwo, GivenAll};
-
-pub const VARIABLES: usize = 16;
-
-pub const UNBOUND: u16 = 65535;
 
 // The 16 places of the rule with the pattern p, which takes the booking b.
 pub fn places(t: &[u16], p: &[u16], b: &[u16]) -> [u16; VARIABLES]
@@ -39,24 +38,25 @@ fn bind(t: &[u16], p: &[u16], b: &[u16], at: u16, out: &mut [u16])
     ensures { λ _. ⌜ ((g : Given (now (t .entry)) (now (p .entry)) (now (b .entry))) → now (out .exit) ≡ bind-all (bound (decide (g .pattern) (g .value) at)) (now (out .entry))) ⌝ }
 {
     let w = classify(p[0]);
+    let own = own_words(w);
     match w {
         Word::Head(c) => {
             if b[0] != c {
                 return;
             }
             let n = arity_of(t, c as usize);
-            bind_all(t, &p[1..], &b[1..], at + 1, n, out);
+            bind_all(t, &p[own..], &b[1..], at + 1, n, out);
         }
         Word::And => {
-            bind_two(t, &p[1..], b, at, true, out);
+            bind_two(t, &p[own..], b, at, true, out);
         }
         Word::Or => {
-            bind_two(t, &p[1..], b, at, false, out);
+            bind_two(t, &p[own..], b, at, false, out);
         }
         Word::Wild => {}
         Word::Absurd => {}
         Word::Not => {
-            bind(t, &p[1..], b, at, out);
+            bind(t, &p[own..], b, at, out);
         }
         Word::Var(x) => {
             let i = x as usize;

@@ -1,5 +1,6 @@
 // Where a pattern ends.
 use pattern::token::classify;
+use pattern::token::own_words;
 use pattern::token::parts;
 ghost use mathlib.Core.Path.{_≡_};
 ghost use lib.ListN.{length};
@@ -16,7 +17,7 @@ pub fn span(t: &[u16], p: &[u16]) -> usize
     while left > 0 {
         let w = classify(p[at]);
         left = left - 1 + parts(t, w) as usize;
-        at += 1;
+        at += own_words(w);
     }
     at
 }

@@ -2,6 +2,7 @@
 use crate::span::span;
 use pattern::token::Word;
 use pattern::token::classify;
+use pattern::token::own_words;
 use signature::decoded::arity_of;
 ghost use mathlib.Core.Path.{_≡_};
 ghost use Prim.Native.Nat.{ℕ};
@@ -24,19 +25,20 @@ pub(crate) fn fits(t: &[u16], p: &[u16], b: &[u16]) -> bool
     ensures { λ r. ⌜ ((g : Given (now (t .entry)) (now (p .entry)) (now (b .entry))) (i : ℕ) → r ≡ is-fit (decide (g .pattern) (g .value) i)) ⌝ }
 {
     let w = classify(p[0]);
+    let own = own_words(w);
     match w {
         Word::Head(c) => {
             if b[0] != c {
                 return false;
             }
             let n = arity_of(t, c as usize);
-            all_fit(t, &p[1..], &b[1..], n)
+            all_fit(t, &p[own..], &b[1..], n)
         }
-        Word::And => two_fit(t, &p[1..], b, true),
-        Word::Or => two_fit(t, &p[1..], b, false),
+        Word::And => two_fit(t, &p[own..], b, true),
+        Word::Or => two_fit(t, &p[own..], b, false),
         Word::Wild => true,
         Word::Absurd => false,
-        Word::Not => !fits(t, &p[1..], b),
+        Word::Not => !fits(t, &p[own..], b),
         Word::Var(_x) => true,
         Word::Other => false,
     }

@@ -24,7 +24,7 @@ use Rattle.signature.proofs.Heads.{args-same}
 use Rattle.signature.proofs.KnownFacts.{argument-is, argument-small, is-constructor, few-arguments}
 use Rattle.overlap.specs.Least.{GivenHead, Written, fewest}
 
--- ---- words of values
+-- words of values
 mutual
   pub code-size : (v : Value) → length (code v) ≡ size v
   code-size (con c vs) = ap suc (codes-size vs)
@@ -41,7 +41,7 @@ long sig n (suc d) = counted-length (λ j. min over-small (best sig (least d sig
 pub fewest-cons : {t : List ℕ} (g : Known t) (k : ℕ) (ks : List ℕ) → k < g .decoded .n → fewest g (k ∷ ks) ≡ least-size (g .sig) (g .decoded .n) k + fewest g ks
 fewest-cons g k ks l = rw (at-getD (least small-size (g .sig) (g .decoded .n)) k (omega (arith, long (g .sig) (g .decoded .n) small-size))) refl
 
--- ---- in the loop: w is written behind the first word, and the kinds still to come
+-- in the loop: w is written behind the first word, and the kinds still to come
 pub record Mid {t : List ℕ} {c : ℕ} {o₀ : List ℕ} (g : GivenHead t c o₀) (at j : ℕ) (o todo : List ℕ) : Type 0 where
   pub w : List ℕ
   pub size : at ≡ suc (length w)

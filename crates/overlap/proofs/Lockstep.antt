@@ -12,9 +12,9 @@ use Rattle.cell.specs.declared.cell.Cursor.{Cursor}
 use Rattle.cell.specs.declared.cell.Out.{Out}
 use Rattle.cell.specs.declared.cell.Out.the-variants.{Dropped, Kept}
 use Rattle.cell.specs.Cell.{Kinds}
-use Rattle.cell.specs.Coded.{code, code-of}
+use Rattle.cell.specs.Coded.{row-code, row-code-of}
 use Rattle.signature.specs.Decoded.{decoded-length}
-use Rattle.cell.specs.Cursor.{putAt, nextOf, lookAt, joinOf, opensOf}
+use Rattle.cell.specs.Cursor.{put-cell, next-of, look-at, join-of, opens-of}
 use Rattle.cell.specs.Lockstep.{GivenRows, Result}
 use Rattle.row.specs.Row.{Row, combine}
 use Rattle.cell.proofs.LockstepFacts.{Given, as-cells, of-rows}
@@ -24,7 +24,7 @@ use Rattle.overlap.specs.Pair.{TwoRows}
 
 -- room that nobody writes to
 abbrev pub spare : {ar a b : List ℕ} → TwoRows ar a b → List ℕ
-spare g = replicate (length (code (g .K) (g .r) (g .kind)) + length (code (g .K) (g .s) (g .kind))) 0
+spare g = replicate (length (row-code (g .K) (g .r) (g .kind)) + length (row-code (g .K) (g .s) (g .kind))) 0
 
 unfoldable pub roomy : {ar a b : List ℕ} (g : TwoRows ar a b) → GivenRows ar a b (spare g)
 roomy g = record {
@@ -32,12 +32,12 @@ roomy g = record {
   kind = g .kind;
   r = g .r;
   s = g .s;
-  restA = g .restA;
-  restB = g .restB;
-  codeA = g .codeA;
-  codeB = g .codeB;
-  typedR = g .typedR;
-  typedS = g .typedS;
+  rest-a = g .rest-a;
+  rest-b = g .rest-b;
+  code-a = g .code-a;
+  code-b = g .code-b;
+  typed-r = g .typed-r;
+  typed-s = g .typed-s;
   room = rw length-replicate (omega arith);
 }
 
@@ -58,16 +58,16 @@ apart n e = omega (arith, ap kept e)
     kept (Kept n) = 1
     kept Dropped = 0
 
-kept-some : (K : Kinds) (k n : ℕ) (m : Option Row) (o o' : List ℕ) → Result (code-of K k m) (Kept n) o o' → true ≡ is-some m
+kept-some : (K : Kinds) (k n : ℕ) (m : Option Row) (o o' : List ℕ) → Result (row-code-of K k m) (Kept n) o o' → true ≡ is-some m
 kept-some K k n none o o' h = absurd (apart n h)
 kept-some K k n (some t) o o' h = refl
 
-dropped-none : (K : Kinds) (k : ℕ) (m : Option Row) (o o' : List ℕ) → Result (code-of K k m) Dropped o o' → false ≡ is-some m
+dropped-none : (K : Kinds) (k : ℕ) (m : Option Row) (o o' : List ℕ) → Result (row-code-of K k m) Dropped o o' → false ≡ is-some m
 dropped-none K k none o o' h = refl
 dropped-none K k (some t) o o' h = absurd (apart _ (sym (h .0)))
 
 spare-length : {ar a b : List ℕ} (g : TwoRows ar a b) → length (spare g) ≤ length a + length b
-spare-length g = rw (length-replicate, g .codeA, g .codeB) (simp length-append (omega arith))
+spare-length g = rw (length-replicate, g .code-a, g .code-b) (simp length-append (omega arith))
 
 -- a turn: where the next one begins
 pub record Step {ar a b : List ℕ} (g : TwoRows ar a b) (x y : Cursor) (left w : ℕ) (x' y' : Cursor) : Type 0 where
@@ -83,7 +83,7 @@ module _ {ar a b : List ℕ} (g : TwoRows ar a b) (x y : Cursor) (left : ℕ) (m
     pub in-front : Front (given g) x y (m .0) left
     in-front = front (given g) x y (m .0) left (m .1) h (m .2)
 
-    module _ (p q c : Cell) (ep : p ≡ lookAt a x) (eq : q ≡ lookAt b y) (ec : c ≡ joinOf p q) where
+    module _ (p q c : Cell) (ep : p ≡ look-at a x) (eq : q ≡ look-at b y) (ec : c ≡ join-of p q) where
       pub known-here : c .tag < 256 → length ar ≡ decoded-length
       known-here = known-of (given g) x y (m .0) left (m .1) p q c ep eq ec h in-front
 
@@ -91,15 +91,15 @@ module _ {ar a b : List ℕ} (g : TwoRows ar a b) (x y : Cursor) (left : ℕ) (m
       unfolding given roomy
       none-met e = dropped-none (g .K) (g .kind) (combine (g .r) (g .s)) _ _ (of-rows (roomy g) _ _ _ (out-of (given g) x y (m .0) left (m .1) p q c ep eq ec h (m .2) e))
 
-      module _ (w : ℕ) (e : ¬ (c .allowed ≡ 0)) (f : w ≡ opensOf ar (c .tag)) where
+      module _ (w : ℕ) (e : ¬ (c .allowed ≡ 0)) (f : w ≡ opens-of ar (c .tag)) where
         turn-of : Turned (given g) x y (m .0) left (m .1) p q c w
         turn-of = turned (given g) x y (m .0) left (m .1) p q c ep eq ec h w (m .2) e f
 
         pub few-left : left + w ≤ length a + length b + 1
         few-left = omega (arith, turn-of .few, spare-length g)
 
-        pub step : (x' y' : Cursor) → x' ≡ nextOf x (p .tag) w → y' ≡ nextOf y (q .tag) w → Step g x y left w x' y'
+        pub step : (x' y' : Cursor) → x' ≡ next-of x (p .tag) w → y' ≡ next-of y (q .tag) w → Step g x y left w x' y'
         step x' y' ex ey = record {
-          now = (m .0 + 3, putAt (m .1) (m .0) c, again (given g) x y (m .0) left (m .1) p q c w x' y' _ turn-of ex ey refl);
+          now = (m .0 + 3, put-cell (m .1) (m .0) c, again (given g) x y (m .0) left (m .1) p q c w x' y' _ turn-of ex ey refl);
           less = less (given g) x y (m .0) left (m .1) p q c w x' y' turn-of ex ey;
         }

@@ -10,17 +10,16 @@ use Rattle.signature.specs.Decoded.{Known, first-of}
 use Rattle.signature.specs.Lawful.{of-kind}
 use Rattle.signature.specs.Limits.{small-size, argument-limit, kind-limit}
 use Rattle.signature.specs.Lists.{All, none-left, also, first, is-empty, memb}
-use Rattle.signature.specs.Set.{bit, Lowest}
+use Rattle.sets.specs.Set.{bit, Lowest, set-of, Within}
 use Rattle.signature.specs.Signature.{arguments-at, heads}
 use Rattle.signature.proofs.Heads.{kind-of-head, args-same}
 use Rattle.signature.proofs.KnownFacts.{is-constructor, few-arguments, words-of}
 use Rattle.signature.proofs.LeastValue.{least-at-most}
 use Rattle.signature.proofs.Tests.{true≢false}
-use Rattle.cell.specs.Mask.{mask, Within}
 use Rattle.rowlist.proofs.Kinded.{kinds-same}
-use Rattle.cell.proofs.Masks.{bit-mask, one-if, mask-some}
+use Rattle.sets.proofs.ListSets.{bit-set-of, one-if, set-some}
 use Rattle.rowlist.proofs.Typing.{args-there}
-use Rattle.overlap.specs.Least.{GivenHead, Written, GivenPlace, Placed, fewest}
+use Rattle.overlap.specs.Least.{GivenHead, Written, GivenPlace, ValueWritten, fewest}
 use Rattle.overlap.proofs.LeastFacts.{fewest-cons}
 
 -- at most 6 words an argument
@@ -39,9 +38,9 @@ module _ {t : List ℕ} {k allowed : ℕ} {o : List ℕ} (g : GivenPlace t k all
   pub some-allowed : 0 < allowed
   some-allowed = go (g .cs) (g .set-is) (g .some-head) (g .within)
     where
-      go : (cs : List ℕ) → allowed ≡ mask (first (heads (g .known .sig) k)) cs → is-empty cs ≡ false → Within (first (heads (g .known .sig) k)) cs → 0 < allowed
+      go : (cs : List ℕ) → allowed ≡ set-of (first (heads (g .known .sig) k)) cs → is-empty cs ≡ false → Within (first (heads (g .known .sig) k)) cs → 0 < allowed
       go [] e n w = true≢false n
-      go (c ∷ cs) e n w = pos allowed (λ z. mask-some (first (heads (g .known .sig) k)) c cs w (sym e ∙ z))
+      go (c ∷ cs) e n w = pos allowed (λ z. set-some (first (heads (g .known .sig) k)) c cs w (sym e ∙ z))
         where
           pos : (m : ℕ) → ¬ (m ≡ 0) → 0 < m
           pos m h = omega (arith, h)
@@ -54,7 +53,7 @@ module _ {t : List ℕ} {k allowed : ℕ} {o : List ℕ} (g : GivenPlace t k all
     allowed-head =
         let f = first (heads (g .known .sig) k) in
         let z : c ≡ f + r = e ∙ ap (λ (n : ℕ). n + r) (g .known .decoded .first-head k (g .there)) in
-        rw z (one-yes (memb (f + r) (g .cs)) (sym (bit-mask f r (g .cs) (g .within)) ∙ ap (λ (s : ℕ). bit s r) (sym (g .set-is)) ∙ low .member))
+        rw z (one-yes (memb (f + r) (g .cs)) (sym (bit-set-of f r (g .cs) (g .within)) ∙ ap (λ (s : ℕ). bit s r) (sym (g .set-is)) ∙ low .member))
 
     pub args-few : (ks : List ℕ) → arguments-at (g .known .sig) k c ≡ some ks → fewest (g .known) ks ≤ small-size * argument-limit
     args-few ks h =
@@ -66,7 +65,7 @@ module _ {t : List ℕ} {k allowed : ℕ} {o : List ℕ} (g : GivenPlace t k all
         let q = kind-of-head (g .known .sig) k c (g .of-kind-k c allowed-head) in
         record { known = g .known; kind = k; ks = q .0; is = q .1; room = omega (arith, args-few (q .0) (q .1), g .room) }
 
-    pub placed : (n : ℕ) (o' : List ℕ) → ((q : GivenHead t c o) → Written q n o') → Placed g n o'
+    pub placed : (n : ℕ) (o' : List ℕ) → ((q : GivenHead t c o) → Written q n o') → ValueWritten g n o'
     unfolding head-given
     placed n o' f =
         let W = f head-given in

@@ -9,8 +9,8 @@ use lib.ListN.{length, drop, length-drop, getD, length-append}
 use lib.Seq.{drop-drop, drop-at}
 use Rattle.signature.specs.Lists.{In, in-here, in-there, any, is-some, is-empty, somes}
 use Rattle.cell.specs.Cell.{Kinds}
-use Rattle.cell.specs.Coded.{code, Typed}
-use Rattle.rowlist.specs.Product.{Typed-all, ones}
+use Rattle.cell.specs.Coded.{row-code, Typed}
+use Rattle.rowlist.specs.Product.{AllTyped, with-each}
 use Rattle.row.specs.Row.{Row, combine, each}
 use Rattle.cell.specs.RowList.{list-code, entries, from}
 use Rattle.cell.proofs.Walk.{word-at, code-long, from-is}
@@ -24,12 +24,12 @@ pub record Task (ar y : List ℕ) : Type 0 where
   pub rows : List Row
   pub rest : List ℕ
   pub code-is : y ≡ list-code K kind rows ++ rest
-  pub typed : Typed-all K ar kind rows
+  pub typed : AllTyped K ar kind rows
   pub test : Row → Bool
 
 pub record Mid {ar y : List ℕ} (g : Task ar y) (at : ℕ) (todo : List Row) : Type 0 where
   pub code-is : drop at y ≡ list-code (g .K) (g .kind) todo ++ g .rest
-  pub typed : Typed-all (g .K) ar (g .kind) todo
+  pub typed : AllTyped (g .K) ar (g .kind) todo
   pub same : any (g .test) (g .rows) ≡ any (g .test) todo
   pub members : (s : Row) → In s todo → In s (g .rows)
 
@@ -44,7 +44,7 @@ pub record Head {ar y : List ℕ} (g : Task ar y) (at : ℕ) (s : Row) : Type 0 
   pub rest : List ℕ
   pub typed : Typed (g .K) ar s (g .kind)
   pub member : In s (g .rows)
-  pub code-is : from y (at + 1) ≡ code (g .K) s (g .kind) ++ rest
+  pub code-is : from y (at + 1) ≡ row-code (g .K) s (g .kind) ++ rest
 
 module _ {ar y : List ℕ} (g : Task ar y) (at : ℕ) where
   there-at : (todo : List Row) → Mid g at todo → at < length y
@@ -61,7 +61,7 @@ module _ {ar y : List ℕ} (g : Task ar y) (at : ℕ) where
   pub end : Now g at → getD y at 0 ≤ 0 → any (g .test) (g .rows) ≡ false
   end m z = end-at (m .0) (m .1) z
 
-  next-row : (s : Row) (todo : List Row) → Mid g at (s ∷ todo) → drop (at + 1) y ≡ code (g .K) s (g .kind) ++ (list-code (g .K) (g .kind) todo ++ g .rest)
+  next-row : (s : Row) (todo : List Row) → Mid g at (s ∷ todo) → drop (at + 1) y ≡ row-code (g .K) s (g .kind) ++ (list-code (g .K) (g .kind) todo ++ g .rest)
   next-row s todo m = word-at y at _ _ (m .code-is) .2 ∙ (simp append-assoc)
 
   head-at : (s : Row) (todo : List Row) → Mid g at (s ∷ todo) → Head g at s
@@ -91,13 +91,13 @@ module _ {ar y : List ℕ} (g : Task ar y) (at : ℕ) where
   past-at : (todo : List Row) → Mid g at todo → 0 < getD y at 0 → ((s : Row) → Head g at s → false ≡ g .test s) → Now g (at + 1 + getD y at 0) × (at + 1 + getD y at 0 ≤ length y)
   past-at [] m h f = absurd (omega (arith, word-at y at 0 (g .rest) (m .code-is) .0))
   past-at (s ∷ todo) m h f =
-      let len : getD y at 0 ≡ length (code (g .K) s (g .kind)) = word-at y at _ _ (m .code-is) .0 in
+      let len : getD y at 0 ≡ length (row-code (g .K) s (g .kind)) = word-at y at _ _ (m .code-is) .0 in
       let there : at < length y = word-at y at _ _ (m .code-is) .1 in
       let nr = next-row s todo m in (
         (
           todo,
           record {
-            code-is = sym (drop-drop (getD y at 0) (at + 1) y) ∙ ap (drop (getD y at 0)) nr ∙ drop-at (code (g .K) s (g .kind)) (list-code (g .K) (g .kind) todo ++ g .rest) (getD y at 0) (sym len);
+            code-is = sym (drop-drop (getD y at 0) (at + 1) y) ∙ ap (drop (getD y at 0)) nr ∙ drop-at (row-code (g .K) s (g .kind)) (list-code (g .K) (g .kind) todo ++ g .rest) (getD y at 0) (sym len);
             typed = m .typed .1;
             same = m .same ∙ ap (λ (b : Bool). b || any (g .test) todo) (sym (f s (head-at s todo m)));
             members = λ q i. m .members q (in-there i);
@@ -109,12 +109,12 @@ module _ {ar y : List ℕ} (g : Task ar y) (at : ℕ) where
   pub past : Now g at → 0 < getD y at 0 → ((s : Row) → Head g at s → false ≡ g .test s) → Now g (at + 1 + getD y at 0) × (at + 1 + getD y at 0 ≤ length y)
   past m h f = past-at (m .0) (m .1) h f
 
--- ---- the two tests
-pub any-ones : (r : Row) (ss : List Row) → any (λ s. is-some (combine r s)) ss ≡ not (is-empty (ones r ss))
+-- the two tests
+pub any-ones : (r : Row) (ss : List Row) → any (λ s. is-some (combine r s)) ss ≡ not (is-empty (with-each r ss))
 any-ones r [] = refl
 any-ones r (s ∷ ss) = go (combine r s) (any-ones r ss)
   where
-    go : (m : Option Row) → any (λ s. is-some (combine r s)) ss ≡ not (is-empty (ones r ss)) → (is-some m || any (λ s. is-some (combine r s)) ss) ≡ not (is-empty (somes (m ∷ map (combine r) ss)))
+    go : (m : Option Row) → any (λ s. is-some (combine r s)) ss ≡ not (is-empty (with-each r ss)) → (is-some m || any (λ s. is-some (combine r s)) ss) ≡ not (is-empty (somes (m ∷ map (combine r) ss)))
     go none e = e
     go (some t) e = refl
 
@@ -123,26 +123,26 @@ empty-append [] b = refl
 empty-append (none ∷ a) b = empty-append a b
 empty-append (some t ∷ a) b = refl
 
-pub any-each : (rs ss : List Row) → any (λ r. not (is-empty (ones r ss))) rs ≡ not (is-empty (somes (each combine rs ss)))
+pub any-each : (rs ss : List Row) → any (λ r. not (is-empty (with-each r ss))) rs ≡ not (is-empty (somes (each combine rs ss)))
 any-each [] ss = refl
-any-each (r ∷ rs) ss = ap (λ (b : Bool). not (is-empty (ones r ss)) || b) (any-each rs ss) ∙ empty-append (map (combine r) ss) (each combine rs ss)
+any-each (r ∷ rs) ss = ap (λ (b : Bool). not (is-empty (with-each r ss)) || b) (any-each rs ss) ∙ empty-append (map (combine r) ss) (each combine rs ss)
 
 unfoldable pub row-task : {ar x y : List ℕ} → RowByList ar x y → Task ar y
-row-task g = record { K = g .K; kind = g .kind; rows = g .ss; rest = g .restY; code-is = g .codeY; typed = g .typedS; test = λ s. is-some (combine (g .r) s) }
+row-task g = record { K = g .K; kind = g .kind; rows = g .ss; rest = g .rest-y; code-is = g .code-y; typed = g .typed-s; test = λ s. is-some (combine (g .r) s) }
 
 unfoldable pub list-task : {ar x y : List ℕ} → TwoLists ar x y → Task ar x
-list-task g = record { K = g .K; kind = g .kind; rows = g .rs; rest = g .restX; code-is = g .codeX; typed = g .typedR; test = λ r. not (is-empty (ones r (g .ss))) }
+list-task g = record { K = g .K; kind = g .kind; rows = g .rs; rest = g .rest-x; code-is = g .code-x; typed = g .typed-r; test = λ r. not (is-empty (with-each r (g .ss))) }
 
 module _ {ar x y : List ℕ} (g : RowByList ar x y) (at : ℕ) where
   unfoldable two-rows : (s : Row) → Head (row-task g) at s → TwoRows ar x (from y (at + 1))
   unfolding row-task
-  two-rows s h = record { K = g .K; kind = g .kind; r = g .r; s = s; restA = g .restX; restB = h .rest; codeA = g .codeX; codeB = h .code-is; typedR = g .typedR; typedS = h .typed }
+  two-rows s h = record { K = g .K; kind = g .kind; r = g .r; s = s; rest-a = g .rest-x; rest-b = h .rest; code-a = g .code-x; code-b = h .code-is; typed-r = g .typed-r; typed-s = h .typed }
 
   module _ (m : Now (row-task g) at) where
     pub given1 : 0 < getD y at 0 → TwoRows ar x (from y (at + 1))
     given1 h = let q = head (row-task g) at m h in two-rows (q .0) (q .1)
 
-    pub found1 : 0 < getD y at 0 → ((q : TwoRows ar x (from y (at + 1))) → true ≡ is-some (combine (q .r) (q .s))) → true ≡ not (is-empty (ones (g .r) (g .ss)))
+    pub found1 : 0 < getD y at 0 → ((q : TwoRows ar x (from y (at + 1))) → true ≡ is-some (combine (q .r) (q .s))) → true ≡ not (is-empty (with-each (g .r) (g .ss)))
     unfolding row-task two-rows
     found1 h f = sym (found (row-task g) at m h (λ s q. f (two-rows s q))) ∙ any-ones (g .r) (g .ss)
 
@@ -150,24 +150,24 @@ module _ {ar x y : List ℕ} (g : RowByList ar x y) (at : ℕ) where
     unfolding row-task two-rows
     past1 h f = past (row-task g) at m h (λ s q. f (two-rows s q))
 
-    pub end1 : getD y at 0 ≤ 0 → false ≡ not (is-empty (ones (g .r) (g .ss)))
+    pub end1 : getD y at 0 ≤ 0 → false ≡ not (is-empty (with-each (g .r) (g .ss)))
     unfolding row-task
     end1 z = sym (end (row-task g) at m z) ∙ any-ones (g .r) (g .ss)
 
 module _ {ar x y : List ℕ} (g : TwoLists ar x y) (at : ℕ) where
   unfoldable row-by-list : (r : Row) → Head (list-task g) at r → RowByList ar (from x (at + 1)) y
   unfolding list-task
-  row-by-list r h = record { K = g .K; kind = g .kind; r = r; ss = g .ss; restX = h .rest; restY = g .restY; codeX = h .code-is; codeY = g .codeY; typedR = h .typed; typedS = g .typedS }
+  row-by-list r h = record { K = g .K; kind = g .kind; r = r; ss = g .ss; rest-x = h .rest; rest-y = g .rest-y; code-x = h .code-is; code-y = g .code-y; typed-r = h .typed; typed-s = g .typed-s }
 
   module _ (m : Now (list-task g) at) where
     pub given2 : 0 < getD x at 0 → RowByList ar (from x (at + 1)) y
     given2 h = let q = head (list-task g) at m h in row-by-list (q .0) (q .1)
 
-    pub found2 : 0 < getD x at 0 → ((q : RowByList ar (from x (at + 1)) y) → true ≡ not (is-empty (ones (q .r) (q .ss)))) → true ≡ not (is-empty (somes (each combine (g .rs) (g .ss))))
+    pub found2 : 0 < getD x at 0 → ((q : RowByList ar (from x (at + 1)) y) → true ≡ not (is-empty (with-each (q .r) (q .ss)))) → true ≡ not (is-empty (somes (each combine (g .rs) (g .ss))))
     unfolding list-task row-by-list
     found2 h f = sym (found (list-task g) at m h (λ s q. f (row-by-list s q))) ∙ any-each (g .rs) (g .ss)
 
-    pub past2 : 0 < getD x at 0 → ((q : RowByList ar (from x (at + 1)) y) → false ≡ not (is-empty (ones (q .r) (q .ss)))) → Now (list-task g) (at + 1 + getD x at 0) × (at + 1 + getD x at 0 ≤ length x)
+    pub past2 : 0 < getD x at 0 → ((q : RowByList ar (from x (at + 1)) y) → false ≡ not (is-empty (with-each (q .r) (q .ss)))) → Now (list-task g) (at + 1 + getD x at 0) × (at + 1 + getD x at 0 ≤ length x)
     unfolding list-task row-by-list
     past2 h f = past (list-task g) at m h (λ s q. f (row-by-list s q))
 

@@ -23,10 +23,10 @@ pub record TwoPatterns (t x y : List ℕ) : Type 0 where
   pub q : Pattern
   pub words-p : PatternWords (known .sig) us p
   pub words-q : PatternWords (known .sig) ws q
-  pub restX : List ℕ
-  pub restY : List ℕ
-  pub codeX : x ≡ list-code (kinds-of (known .sig)) 0 (rows-plus (known .sig) 0 p) ++ restX
-  pub codeY : y ≡ list-code (kinds-of (known .sig)) 0 (rows-plus (known .sig) 0 q) ++ restY
+  pub rest-x : List ℕ
+  pub rest-y : List ℕ
+  pub code-x : x ≡ list-code (kinds-of (known .sig)) 0 (rows-plus (known .sig) 0 p) ++ rest-x
+  pub code-y : y ≡ list-code (kinds-of (known .sig)) 0 (rows-plus (known .sig) 0 q) ++ rest-y
 
 pub record Laws : Type 0 where
   -- 12: their lists meet exactly where some lawful booking fits both

@@ -13,7 +13,7 @@ use Rattle.signature.specs.Read.{least, total}
 use Rattle.signature.specs.Signature.{arguments-at, heads}
 use Rattle.signature.specs.Value.{Values, con, code, size, sizes}
 use Rattle.row.specs.Limits.{place-words}
-use Rattle.cell.specs.Mask.{mask, Within}
+use Rattle.sets.specs.Set.{set-of, Within}
 
 -- the fewest words of arguments of these kinds
 abbrev pub fewest : {t : List ℕ} → Known t → List ℕ → ℕ
@@ -40,14 +40,14 @@ pub record GivenPlace (t : List ℕ) (k allowed : ℕ) (o : List ℕ) : Type 0 w
   pub known : Known t
   pub there : k < known .decoded .n
   pub cs : List ℕ
-  pub set-is : allowed ≡ mask (first (heads (known .sig) k)) cs
+  pub set-is : allowed ≡ set-of (first (heads (known .sig) k)) cs
   pub some-head : is-empty cs ≡ false
   pub within : Within (first (heads (known .sig) k)) cs
   pub of-kind-k : (c : ℕ) → memb c cs ≡ true → memb c (heads (known .sig) k) ≡ true
   pub room : place-words ≤ length o
 
 -- a value under an allowed head is written in front, and nothing else
-pub record Placed {t : List ℕ} {k allowed : ℕ} {o : List ℕ} (g : GivenPlace t k allowed o) (n : ℕ) (o' : List ℕ) : Type 0 where
+pub record ValueWritten {t : List ℕ} {k allowed : ℕ} {o : List ℕ} (g : GivenPlace t k allowed o) (n : ℕ) (o' : List ℕ) : Type 0 where
   pub c : ℕ
   pub vs : Values
   pub may : memb c (g .cs) ≡ true

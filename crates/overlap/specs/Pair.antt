@@ -3,7 +3,7 @@ use mathlib.Core.Path.{_≡_}
 use mathlib.Core.List.{List, _++_}
 use Prim.Native.Nat.{ℕ}
 use Rattle.cell.specs.Cell.{Kinds}
-use Rattle.cell.specs.Coded.{code, Typed}
+use Rattle.cell.specs.Coded.{row-code, Typed}
 use Rattle.row.specs.Row.{Row}
 
 pub record TwoRows (ar a b : List ℕ) : Type 0 where
@@ -11,9 +11,9 @@ pub record TwoRows (ar a b : List ℕ) : Type 0 where
   pub kind : ℕ
   pub r : Row
   pub s : Row
-  pub restA : List ℕ
-  pub restB : List ℕ
-  pub codeA : a ≡ code K r kind ++ restA
-  pub codeB : b ≡ code K s kind ++ restB
-  pub typedR : Typed K ar r kind
-  pub typedS : Typed K ar s kind
+  pub rest-a : List ℕ
+  pub rest-b : List ℕ
+  pub code-a : a ≡ row-code K r kind ++ rest-a
+  pub code-b : b ≡ row-code K s kind ++ rest-b
+  pub typed-r : Typed K ar r kind
+  pub typed-s : Typed K ar s kind

@@ -9,7 +9,8 @@ ghost use mathlib.Core.Path.{_≡_};
 ghost use mathlib.Core.List.{_∷_};
 ghost use Prim.Native.Nat.{_<_, _≤_, _-_};
 ghost use lib.ListN.{length, drop};
-ghost use Rattle.overlap.specs.Least.{GivenHead, Written, GivenPlace, Placed};
+ghost use Rattle.cell.specs.Cell.{kind-tag};
+ghost use Rattle.overlap.specs.Least.{GivenHead, Written, GivenPlace, ValueWritten};
 
 // A constructor and the least values of its arguments, first in out; how many words.
 fn with_least(t: &[u16], c: u16, out: &mut [u16]) -> usize
@@ -32,7 +33,7 @@ fn with_least(t: &[u16], c: u16, out: &mut [u16]) -> usize
 // A value of kind k under the lowest head that is allowed, first in out; how many words.
 fn lowest_value(t: &[u16], k: usize, allowed: u64, out: &mut [u16]) -> usize
     requires { ⌜ GivenPlace (now t) k allowed (now out) ⌝ }
-    ensures { λ r. ⌜ ((g : GivenPlace (now (t .entry)) k allowed (now (out .entry))) → Placed g r (now (out .exit))) ⌝ }
+    ensures { λ r. ⌜ ((g : GivenPlace (now (t .entry)) k allowed (now (out .entry))) → ValueWritten g r (now (out .exit))) ⌝ }
 {
     let c = first_of(t, k) + lowest(allowed) as u16;
     with_least(t, c, out)
@@ -40,9 +41,9 @@ fn lowest_value(t: &[u16], k: usize, allowed: u64, out: &mut [u16]) -> usize
 
 // What a cell stands for, first in out: the constructor that it names, or a value under an allowed head; how many words.
 pub fn place(t: &[u16], tag: u64, allowed: u64, out: &mut [u16]) -> usize
-    requires { ⌜ (1 ≤ length (now out)) × (256 ≤ tag → GivenPlace (now t) (tag - 256) allowed (now out)) ⌝ }
-    ensures named { λ r. ⌜ (tag < 256 → (r ≡ 1) × (now (out .exit) ≡ tag ∷ drop 1 (now (out .entry)))) ⌝ }
-    ensures unnamed { λ r. ⌜ (256 ≤ tag → (g : GivenPlace (now (t .entry)) (tag - 256) allowed (now (out .entry))) → Placed g r (now (out .exit))) ⌝ }
+    requires { ⌜ (1 ≤ length (now out)) × (kind-tag ≤ tag → GivenPlace (now t) (tag - kind-tag) allowed (now out)) ⌝ }
+    ensures named { λ r. ⌜ (tag < kind-tag → (r ≡ 1) × (now (out .exit) ≡ tag ∷ drop 1 (now (out .entry)))) ⌝ }
+    ensures unnamed { λ r. ⌜ (kind-tag ≤ tag → (g : GivenPlace (now (t .entry)) (tag - kind-tag) allowed (now (out .entry))) → ValueWritten g r (now (out .exit))) ⌝ }
 {
     if tag < KIND_TAG {
         out[0] = tag as u16;

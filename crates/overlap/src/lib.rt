@@ -1,4 +1,4 @@
-// Whether two patterns share a booking, and which.
+// Whether two lists of rows share a booking; the least value under an allowed constructor.
 pub mod least;
 pub mod lists;
 pub mod pair;

@@ -4,13 +4,13 @@ ghost use mathlib.Core.Path.{_≡_};
 ghost use mathlib.Core.Bool.{not};
 ghost use Rattle.signature.specs.Lists.{is-empty, somes};
 ghost use Rattle.row.specs.Row.{combine, each};
-ghost use Rattle.rowlist.specs.Product.{ones};
+ghost use Rattle.rowlist.specs.Product.{with-each};
 ghost use Rattle.overlap.specs.Lists.{RowByList, TwoLists};
 
 // Whether the row at the front of x meets some row of the list y.
 fn row_meets(t: &[u16], x: &[u64], y: &[u64]) -> bool
     requires { ⌜ RowByList (now t) (now x) (now y) ⌝ }
-    ensures { λ r. ⌜ ((g : RowByList (now (t .entry)) (now (x .entry)) (now (y .entry))) → r ≡ not (is-empty (ones (g .r) (g .ss)))) ⌝ }
+    ensures { λ r. ⌜ ((g : RowByList (now (t .entry)) (now (x .entry)) (now (y .entry))) → r ≡ not (is-empty (with-each (g .r) (g .ss)))) ⌝ }
 {
     let mut at = 0;
     while y[at] > 0 {

@@ -4,6 +4,7 @@ use cell::cell::join;
 use cell::cell::look;
 use cell::cell::next;
 use cell::cell::opens;
+use sets::set::size;
 ghost use mathlib.Core.Path.{_≡_};
 ghost use Rattle.signature.specs.Lists.{is-some};
 ghost use Rattle.row.specs.Row.{combine};
@@ -14,14 +15,20 @@ pub fn rows_meet(t: &[u16], a: &[u64], b: &[u64]) -> bool
     requires { ⌜ TwoRows (now t) (now a) (now b) ⌝ }
     ensures { λ r. ⌜ ((g : TwoRows (now (t .entry)) (now (a .entry)) (now (b .entry))) → r ≡ is-some (combine (g .r) (g .s))) ⌝ }
 {
-    let mut x = Cursor { at: 0, virt: 0 };
-    let mut y = Cursor { at: 0, virt: 0 };
+    let mut x = Cursor {
+        at: 0,
+        wildcards: 0,
+    };
+    let mut y = Cursor {
+        at: 0,
+        wildcards: 0,
+    };
     let mut left = 1;
     while left > 0 {
         let p = look(a, x);
         let q = look(b, y);
         let c = join(p, q);
-        if c.allowed == 0 {
+        if size(c.allowed) == 0 {
             return false;
         }
         let w = opens(t, c.tag);

@@ -8,8 +8,8 @@ use borrow.Author.Tests.{ltb-true, ltb-false}
 use lib.Dec.{eqb, ltb}
 use lib.ListN.{length, getD, set}
 use lib.Seq.{getD-set-same, getD-set-other}
-use Rattle.signature.specs.Set.{bit, Lowest}
-use Rattle.signature.proofs.SetLaws.{bit-zero}
+use Rattle.sets.specs.Set.{bit, Lowest}
+use Rattle.sets.proofs.SetLaws.{bit-zero}
 use Rattle.signature.proofs.Tests.{eqb-eq, eqb-ne, eqb-no, eqb-self}
 use Rattle.tree.specs.Limits.{row-limit}
 use Rattle.path.specs.Alive.{member, FirstAlive}

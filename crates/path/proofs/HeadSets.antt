@@ -6,15 +6,16 @@ use Prim.Native.Nat.{ℕ, _+_, _-_, _≤_, _<_}
 use native.Mathlib.Omega.{arith}
 use borrow.Author.Tests.{eq-eqb}
 use lib.Dec.{eqb}
+use lib.ListN.{length}
 use Rattle.signature.specs.Lists.{memb, all, first}
-use Rattle.signature.specs.Set.{bit}
+use Rattle.sets.specs.Set.{bit, members, set-of, Within}
 use Rattle.signature.specs.Signature.{Signature, heads}
-use Rattle.signature.proofs.Booleans.{and-left, and-right, or-false}
+use Rattle.signature.proofs.Booleans.{or-false, both-ways}
 use Rattle.signature.proofs.Members.{all-memb, all-of, all-self}
 use Rattle.signature.proofs.Tests.{eqb-eq, eqb-self}
-use Rattle.cell.specs.Mask.{mask, Within}
-use Rattle.cell.proofs.Masks.{one-if, bit-mask, bit-ext}
-use Rattle.pattern.specs.Limits.{pattern-limit}
+use Rattle.sets.proofs.ListSets.{one-if, bit-set-of, same-bits, set-lt, within-one}
+use Rattle.sets.proofs.SetLaws.{size-among}
+use Rattle.signature.specs.Limits.{heads-limit}
 use Rattle.path.specs.Standing.{Among}
 
 pub one-yes : (b : Bool) → one-if b ≡ 1 → b ≡ true
@@ -26,28 +27,15 @@ one-no true e = absurd (omega (arith, e))
 one-no false e = refl
 
 -- whether c is a member, by the bit of its number
-pub bit-memb : (f c : ℕ) (cs : List ℕ) → Within f cs → f ≤ c → bit (mask f cs) (c - f) ≡ one-if (memb c cs)
-bit-memb f c cs w l = let q : f + (c - f) ≡ c = omega arith in bit-mask f (c - f) cs w ∙ (rw q)
+pub bit-memb : (f c : ℕ) (cs : List ℕ) → Within f cs → f ≤ c → bit (set-of f cs) (c - f) ≡ one-if (memb c cs)
+bit-memb f c cs w l = let q : f + (c - f) ≡ c = omega arith in bit-set-of f (c - f) cs w ∙ (rw q)
 
-pub bit-only : (f c d : ℕ) → f ≤ d → d < f + pattern-limit → f ≤ c → bit (mask f (d ∷ [])) (c - f) ≡ one-if (eqb c d)
+pub bit-only : (f c d : ℕ) → f ≤ d → d < f + heads-limit → f ≤ c → bit (set-of f (d ∷ [])) (c - f) ≡ one-if (eqb c d)
 bit-only f c d l h m = bit-memb f c (d ∷ []) (l, h, tt) m ∙ ap one-if (or-false (eqb c d))
 
-both-ways : (a b : Bool) → (a ≡ true → b ≡ true) → (b ≡ true → a ≡ true) → a ≡ b
-both-ways true b f g = sym (f refl)
-both-ways false true f g = g refl
-both-ways false false f g = refl
-
 -- a set that has all that the other has is the other
-same-sets : (f : ℕ) (cs ds : List ℕ) → Within f cs → Within f ds → Among cs ds → all (λ c. memb c cs) ds ≡ true → mask f cs ≡ mask f ds
-same-sets f cs ds w z a h = bit-ext _ _ (λ i. bit-mask f i cs w ∙ ap one-if (both-ways (memb (f + i) cs) (memb (f + i) ds) (λ e. a (f + i) e) (λ e. all-memb (λ c. memb c cs) (f + i) ds h e)) ∙ sym (bit-mask f i ds z))
-
-low-within : (f c : ℕ) (cs : List ℕ) → Within f cs → memb c cs ≡ true → f ≤ c
-low-within f c [] w e = absurd (let z : _≡_ {A = ℕ} 0 1 = cc in omega arith)
-low-within f c (d ∷ cs) w e = go (λ q. low-within f c cs (w .2) q) (eqb c d) refl e
-  where
-    go : (memb c cs ≡ true → f ≤ c) → (b : Bool) → eqb c d ≡ b → (b || memb c cs) ≡ true → f ≤ c
-    go ih true q e = omega (arith, eqb-eq c d q, w .0)
-    go ih false q e = ih e
+same-sets : (f : ℕ) (cs ds : List ℕ) → Within f cs → Within f ds → Among cs ds → all (λ c. memb c cs) ds ≡ true → set-of f cs ≡ set-of f ds
+same-sets f cs ds w z a h = same-bits _ _ (λ i. bit-set-of f i cs w ∙ ap one-if (both-ways (memb (f + i) cs) (memb (f + i) ds) (λ e. a (f + i) e) (λ e. all-memb (λ c. memb c cs) (f + i) ds h e)) ∙ sym (bit-set-of f i ds z))
 
 one-inj : (a b : Bool) → one-if a ≡ one-if b → a ≡ b
 one-inj true true e = refl
@@ -55,10 +43,19 @@ one-inj true false e = absurd (omega (arith, e))
 one-inj false true e = absurd (omega (arith, e))
 one-inj false false e = refl
 
-sets-same : (f : ℕ) (cs ds : List ℕ) → Within f cs → Within f ds → mask f cs ≡ mask f ds → all (λ c. memb c cs) ds ≡ true
+sets-same : (f : ℕ) (cs ds : List ℕ) → Within f cs → Within f ds → set-of f cs ≡ set-of f ds → all (λ c. memb c cs) ds ≡ true
 sets-same f cs ds w z e = all-self ds cs (all-of ds (λ c h.
-    one-inj (memb c cs) true (sym (bit-memb f c cs w (low-within f c ds z h)) ∙ ap (λ (n : ℕ). bit n (c - f)) e ∙ bit-memb f c ds z (low-within f c ds z h) ∙ ap one-if h)))
+    one-inj (memb c cs) true (sym (bit-memb f c cs w (within-one f c ds z h .0)) ∙ ap (λ (n : ℕ). bit n (c - f)) e ∙ bit-memb f c ds z (within-one f c ds z h .0) ∙ ap one-if h)))
 
--- a place allows all heads of its kind exactly where its set is the kind's
-pub full-is : (f : ℕ) (cs ds : List ℕ) → Within f cs → Within f ds → Among cs ds → eqb (mask f cs) (mask f ds) ≡ all (λ c. memb c cs) ds
-full-is f cs ds w z a = both-ways _ _ (λ e. sets-same f cs ds w z (eqb-eq (mask f cs) (mask f ds) e)) (λ e. eq-eqb (mask f cs) (mask f ds) (same-sets f cs ds w z a e))
+-- a place allows all heads of its kind exactly where its set has as many members
+pub full-is : (f : ℕ) (cs ds : List ℕ) → Within f cs → Within f ds → Among cs ds → length (members (set-of f ds)) ≡ length ds → eqb (length (members (set-of f cs))) (length ds) ≡ all (λ c. memb c cs) ds
+full-is f cs ds w z a n = both-ways _ _
+    (λ e. sets-same f cs ds w z (size-among _ _ (set-lt f cs w) (set-lt f ds z) bits (eqb-eq _ _ e ∙ sym n)))
+    (λ e. eq-eqb _ _ (ap (λ (s : ℕ). length (members s)) (same-sets f cs ds w z a e) ∙ n))
+  where
+    less : (a b : Bool) → (a ≡ true → b ≡ true) → one-if a ≤ one-if b
+    less true b h = rw (h refl) (omega arith)
+    less false b h = omega arith
+
+    bits : (i : ℕ) → bit (set-of f cs) i ≤ bit (set-of f ds) i
+    bits i = rw (bit-set-of f i cs w, bit-set-of f i ds z) (less (memb (f + i) cs) (memb (f + i) ds) (a (f + i)))

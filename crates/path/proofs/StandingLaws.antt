@@ -7,8 +7,8 @@ use lib.ListN.{length, drop, length-append}
 use Rattle.signature.specs.Lists.{first}
 use Rattle.signature.specs.Signature.{Signature, arguments}
 use Rattle.row.specs.Row.{Row, Rows, rnil, rcons, open-row, open-rows}
-use Rattle.cell.specs.Cell.{wordss, words}
-use Rattle.cell.specs.Coded.{kinds-of, cells, cellss}
+use Rattle.cell.specs.Cell.{all-words, words}
+use Rattle.cell.specs.Coded.{kinds-of, cells, all-cells}
 use Rattle.tree.specs.Tree.{rappend}
 use Rattle.path.specs.Standing.{RowStands, RowsStand, At}
 
@@ -28,7 +28,7 @@ module _ (sig : Signature) (t : List ℕ) where
   goods-append (rcons q qs) [] rs ks g h = absurd g
   goods-append (rcons q qs) (j ∷ js) rs ks g h = (g .0, goods-append qs js rs ks (g .1) h)
 
-  words-append : (qs : Rows) (js : List ℕ) (rs : Rows) (ks : List ℕ) → RowsStand sig t qs js → wordss (cellss (kinds-of sig) (rappend qs rs) (js ++ ks)) ≡ wordss (cellss (kinds-of sig) qs js) ++ wordss (cellss (kinds-of sig) rs ks)
+  words-append : (qs : Rows) (js : List ℕ) (rs : Rows) (ks : List ℕ) → RowsStand sig t qs js → all-words (all-cells (kinds-of sig) (rappend qs rs) (js ++ ks)) ≡ all-words (all-cells (kinds-of sig) qs js) ++ all-words (all-cells (kinds-of sig) rs ks)
   words-append rnil [] rs ks g = refl
   words-append rnil (j ∷ js) rs ks g = absurd g
   words-append (rcons q qs) [] rs ks g = absurd g
@@ -52,8 +52,8 @@ module _ (sig : Signature) (t : List ℕ) where
 
   -- cells of arguments in front
   pub entered : (a : List ℕ) (stop at : ℕ) (qs : Rows) (js : List ℕ) (rs : Rows) (ks rest : List ℕ) → RowsStand sig t qs js → RowsStand sig t rs ks
-      → drop at a ≡ wordss (cellss (kinds-of sig) qs js) ++ (wordss (cellss (kinds-of sig) rs ks) ++ rest) → at ≤ length a
-      → at + (length (wordss (cellss (kinds-of sig) qs js)) + length (wordss (cellss (kinds-of sig) rs ks))) ≡ stop → At sig t a stop at (length js + length ks) (js ++ ks) (rappend qs rs)
+      → drop at a ≡ all-words (all-cells (kinds-of sig) qs js) ++ (all-words (all-cells (kinds-of sig) rs ks) ++ rest) → at ≤ length a
+      → at + (length (all-words (all-cells (kinds-of sig) qs js)) + length (all-words (all-cells (kinds-of sig) rs ks))) ≡ stop → At sig t a stop at (length js + length ks) (js ++ ks) (rappend qs rs)
   entered a stop at qs js rs ks rest g h e l n = let w = words-append qs js rs ks g in record {
     virt = [];
     mine = js ++ ks;
@@ -62,7 +62,7 @@ module _ (sig : Signature) (t : List ℕ) where
     kinds-are = refl;
     columns-are = refl;
     good = goods-append qs js rs ks g h;
-    code-is = e ∙ sym (append-assoc (wordss (cellss (kinds-of sig) qs js)) _ rest) ∙ ap (λ (z : List ℕ). z ++ rest) (sym w);
+    code-is = e ∙ sym (append-assoc (all-words (all-cells (kinds-of sig) qs js)) _ rest) ∙ ap (λ (z : List ℕ). z ++ rest) (sym w);
     within = l;
     own-is = sym (length-append js ks);
     ends = rw w (simp length-append n);
@@ -108,10 +108,10 @@ module _ (sig : Signature) (t : List ℕ) where
     pub is : rs ≡ rcons r qs
     pub good : RowStands sig t r k
     pub goods : RowsStand sig t qs ks
-    pub code-is : drop at a ≡ words (cells (kinds-of sig) r k) ++ (wordss (cellss (kinds-of sig) qs ks) ++ rest)
-    pub ends : at + (length (words (cells (kinds-of sig) r k)) + length (wordss (cellss (kinds-of sig) qs ks))) ≡ stop
+    pub code-is : drop at a ≡ words (cells (kinds-of sig) r k) ++ (all-words (all-cells (kinds-of sig) qs ks) ++ rest)
+    pub ends : at + (length (words (cells (kinds-of sig) r k)) + length (all-words (all-cells (kinds-of sig) qs ks))) ≡ stop
 
-  real-row : (a : List ℕ) (stop at k : ℕ) (ks : List ℕ) (rs : Rows) (rest : List ℕ) → RowsStand sig t rs (k ∷ ks) → drop at a ≡ wordss (cellss (kinds-of sig) rs (k ∷ ks)) ++ rest → at + length (wordss (cellss (kinds-of sig) rs (k ∷ ks))) ≡ stop → RealAt a stop at k ks rs
+  real-row : (a : List ℕ) (stop at k : ℕ) (ks : List ℕ) (rs : Rows) (rest : List ℕ) → RowsStand sig t rs (k ∷ ks) → drop at a ≡ all-words (all-cells (kinds-of sig) rs (k ∷ ks)) ++ rest → at + length (all-words (all-cells (kinds-of sig) rs (k ∷ ks))) ≡ stop → RealAt a stop at k ks rs
   real-row a stop at k ks rnil rest g e n = absurd g
   real-row a stop at k ks (rcons r qs) rest g e n = record {
     r = r;
@@ -121,7 +121,7 @@ module _ (sig : Signature) (t : List ℕ) where
     good = g .0;
     goods = g .1;
     code-is = e ∙ append-assoc (words (cells (kinds-of sig) r k)) _ rest;
-    ends = ap (λ (z : ℕ). at + z) (sym (length-append (words (cells (kinds-of sig) r k)) (wordss (cellss (kinds-of sig) qs ks)))) ∙ n;
+    ends = ap (λ (z : ℕ). at + z) (sym (length-append (words (cells (kinds-of sig) r k)) (all-words (all-cells (kinds-of sig) qs ks)))) ∙ n;
   }
 
   real-go : (a : List ℕ) (stop at own k : ℕ) (ks : List ℕ) (rs : Rows) (h : At sig t a stop at own (k ∷ ks) rs) (vs : List ℕ) → h .virt ≡ vs → own ≡ suc (length ks) → RealAt a stop at k ks rs
@@ -130,8 +130,8 @@ module _ (sig : Signature) (t : List ℕ) where
       let i : rs ≡ h .qs = h .columns-are ∙ ap (λ (z : List ℕ). rappend (open-rows sig z) (h .qs)) e in
       rw i (real-row a stop at k ks (h .qs) (h .rest)
       (subst (λ (z : List ℕ). RowsStand sig t (h .qs) z) (sym q) (h .good))
-      (h .code-is ∙ ap (λ (z : List ℕ). wordss (cellss (kinds-of sig) (h .qs) z) ++ h .rest) (sym q))
-      (ap (λ (z : List ℕ). at + length (wordss (cellss (kinds-of sig) (h .qs) z))) q ∙ h .ends))
+      (h .code-is ∙ ap (λ (z : List ℕ). all-words (all-cells (kinds-of sig) (h .qs) z) ++ h .rest) (sym q))
+      (ap (λ (z : List ℕ). at + length (all-words (all-cells (kinds-of sig) (h .qs) z))) q ∙ h .ends))
   real-go a stop at own k ks rs h (j ∷ vs) e l =
       let q : k ∷ ks ≡ j ∷ (vs ++ h .mine) = h .kinds-are ∙ ap (λ (z : List ℕ). z ++ h .mine) e in
       absurd (omega (arith, h .own-is, ap length q, length-append vs (h .mine)))

@@ -9,13 +9,13 @@ use native.Mathlib.Omega.{arith}
 use lib.Dec.{eqb}
 use lib.ListN.{length, getD, length-append}
 use Rattle.signature.specs.Lists.{_>>=_, memb, first}
-use Rattle.signature.specs.Set.{bit}
+use Rattle.rowlist.proofs.Kinded.{Sized}
+use Rattle.sets.specs.Set.{bit, Within, set-of}
 use Rattle.signature.specs.Signature.{Signature, heads, arguments}
-use Rattle.signature.proofs.SetLaws.{bit-lt}
+use Rattle.sets.proofs.SetLaws.{bit-lt}
 use Rattle.signature.proofs.Tests.{eqb-eq, eqb-ne, none≢some, some-inj}
 use Rattle.row.specs.Row.{Rows}
-use Rattle.cell.specs.Cursor.{opensOf}
-use Rattle.cell.specs.Mask.{Within, mask}
+use Rattle.cell.specs.Cursor.{opens-of}
 use Rattle.tree.specs.Tree.{Line, inserts, after, taken, passed, refined}
 use Rattle.path.specs.Standing.{At, refined-cell}
 use Rattle.path.specs.State.{Indexed, LineAt, RowIs, State, Raised, real-of, keep-of, cell-of, own-of, stop-of, visit-of, bound, one-if}
@@ -76,11 +76,11 @@ module _ (sig : Signature) (t a rows : List ℕ) (n : ℕ) where
   own-most : (vis : List ℕ) (r q k : ℕ) (ks : List ℕ) (l : Line) → LineAt sig t a rows n vis r q (k ∷ ks) l → own-of rows r q ≤ suc (length ks)
   own-most vis r q k ks l w = omega (arith, w .here .own-is, ap length (w .here .kinds-are), length-append (w .here .virt) (w .here .mine))
 
-  own-next : Indexed t a rows n → (r q : ℕ) → r < n → cell-of rows r q + 3 ≤ stop-of rows r → own-of rows r q - 1 + opensOf t (getD a (cell-of rows r q) 0) ≡ own-of rows r (suc q)
+  own-next : Indexed t a rows n → (r q : ℕ) → r < n → cell-of rows r q + 3 ≤ stop-of rows r → own-of rows r q - 1 + opens-of t (getD a (cell-of rows r q) 0) ≡ own-of rows r (suc q)
   own-next ok r q l h = sym (ok .counts r q l h) ∙ ap (λ (m : ℕ). own-of rows r m) (let e : q + 1 ≡ suc q = omega arith in e)
 
   next-cell : Indexed t a rows n → (r q : ℕ) (ks : List ℕ) (v : ℕ) (o : Option (List ℕ × Rows)) → r < n → cell-of rows r q + 3 ≤ stop-of rows r
-      → Next sig t a (stop-of rows r) (cell-of rows r q + 3) (own-of rows r q - 1 + opensOf t (getD a (cell-of rows r q) 0)) ks v o
+      → Next sig t a (stop-of rows r) (cell-of rows r q + 3) (own-of rows r q - 1 + opens-of t (getD a (cell-of rows r q) 0)) ks v o
       → Next sig t a (stop-of rows r) (cell-of rows r (suc q)) (own-of rows r (suc q)) ks v o
   next-cell ok r q ks v o l h g =
       let e : cell-of rows r q + 3 ≡ cell-of rows r (suc q) = omega arith in
@@ -142,7 +142,7 @@ module _ (sig : Signature) (t a rows : List ℕ) (n : ℕ) where
       row-pass ok vis vis′ v r (getD cur r 0) (getD cur′ r 0) k ks l (alive r) (f r) _ (s r l) (λ x e. m r x l e) refl (g .cursor r l) (λ p x. g .others r p l x) (λ x. g .visit r l x)
 
   -- refined, by the cells of the real rows
-  pub row-refined : (vis : List ℕ) (r q k : ℕ) (ks : List ℕ) → Within (first (heads sig k)) (heads sig k) → (b : Bool) (o : Option Line) (e : Bool) (s : Line) → RowIs sig t a rows n b o vis r q (k ∷ ks) → o ≡ some s
+  pub row-refined : (vis : List ℕ) (r q k : ℕ) (ks : List ℕ) → Sized sig k → (b : Bool) (o : Option Line) (e : Bool) (s : Line) → RowIs sig t a rows n b o vis r q (k ∷ ks) → o ≡ some s
       → eqb (own-of rows r q) (suc (length ks)) ≡ e
       → refined sig k (s .cells) ≡ ((b && e) && refined-cell sig k (getD a (cell-of rows r q) 0) (getD a (cell-of rows r q + 2) 0))
   row-refined vis r q k ks z b none e s w i x = none≢some i

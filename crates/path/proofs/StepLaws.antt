@@ -10,17 +10,17 @@ use borrow.Author.Tests.{lt-ltb, le-ltb}
 use lib.Dec.{eqb}
 use lib.ListN.{length, getD, drop}
 use Rattle.signature.specs.Lists.{memb, first, require, _>>=_}
-use Rattle.signature.specs.Set.{bit}
+use Rattle.rowlist.proofs.Kinded.{Sized}
+use Rattle.sets.specs.Set.{bit, set-of, Within}
 use Rattle.signature.specs.Signature.{Signature, heads, arguments}
 use Rattle.signature.proofs.Heads.{open-refs}
 use Rattle.signature.proofs.Tests.{eqb-eq, eqb-no, eqb-self, true≢false}
 use Rattle.row.specs.Row.{Row, Rows, named, free, rcons, open-rows}
-use Rattle.cell.specs.Cell.{wordss, words}
-use Rattle.cell.specs.Coded.{kinds-of, cells, cellss}
-use Rattle.cell.specs.Cursor.{opensOf}
-use Rattle.cell.specs.Mask.{mask, Within}
+use Rattle.cell.specs.Cell.{all-words, words}
+use Rattle.cell.specs.Coded.{kinds-of, cells, all-cells}
+use Rattle.cell.specs.Cursor.{opens-of}
 use Rattle.cell.proofs.Columns.{three-at, Three}
-use Rattle.cell.proofs.Masks.{mask-nil}
+use Rattle.sets.proofs.ListSets.{set-nil}
 use Rattle.tree.specs.Tree.{rappend, taken, passed, refined}
 use Rattle.path.specs.Standing.{RowStands, RowsStand, At, refined-cell}
 use Rattle.path.specs.Variables.{Once}
@@ -46,7 +46,7 @@ module _ (sig : Signature) (t : List ℕ) where
     pub vs : List ℕ
     pub rs : Rows
     pub is : o ≡ some (vs, rs)
-    pub vars-are : mask 0 vs ≡ vars
+    pub vars-are : set-of 0 vs ≡ vars
     pub once : Once vs
     pub here : At sig t a stop at own ks rs
 
@@ -56,10 +56,10 @@ module _ (sig : Signature) (t : List ℕ) where
     pub virt-taken : (c : ℕ) → memb c (heads sig k) ≡ true → own < suc (length ks) → Next a stop at own (arguments sig c ++ ks) 0 (taken sig (arguments sig c) c rs)
     virt-taken c m l =
         let w = is-virt sig t a stop at own k ks rs h l in
-        rw (w .is, m) (record { vs = []; rs = rappend (open-rows sig (arguments sig c)) (w .cols); is = refl; vars-are = mask-nil 0; once = tt; here = opened sig t a stop at own (arguments sig c) ks (w .cols) (w .here) })
+        rw (w .is, m) (record { vs = []; rs = rappend (open-rows sig (arguments sig c)) (w .cols); is = refl; vars-are = set-nil 0; once = tt; here = opened sig t a stop at own (arguments sig c) ks (w .cols) (w .here) })
 
     pub virt-passed : own < suc (length ks) → Next a stop at own ks 0 (passed rs)
-    virt-passed l = let w = is-virt sig t a stop at own k ks rs h l in rw (w .is) (record { vs = []; rs = w .cols; is = refl; vars-are = mask-nil 0; once = tt; here = w .here })
+    virt-passed l = let w = is-virt sig t a stop at own k ks rs h l in rw (w .is) (record { vs = []; rs = w .cols; is = refl; vars-are = set-nil 0; once = tt; here = w .here })
 
     pub virt-refined : own < suc (length ks) → refined sig k rs ≡ false
     virt-refined l = let w = is-virt sig t a stop at own k ks rs h l in rw (w .is, open-refs sig k)
@@ -68,44 +68,44 @@ module _ (sig : Signature) (t : List ℕ) where
 
   pub record CellAt (a : List ℕ) (stop at k : ℕ) (r : Row) (rest : List ℕ) : Type 0 where
     pub tag : getD a at 0 ≡ row-tag r k
-    pub vars : getD a (at + 1) 0 ≡ mask 0 (row-vars r)
-    pub allowed : getD a (at + 2) 0 ≡ mask (first (heads sig k)) (row-heads r)
+    pub vars : getD a (at + 1) 0 ≡ set-of 0 (row-vars r)
+    pub allowed : getD a (at + 2) 0 ≡ set-of (first (heads sig k)) (row-heads r)
     pub room : at + 3 ≤ length a
     pub before : at + 3 ≤ stop
 
   cell-of : (a : List ℕ) (stop at k : ℕ) (r : Row) (rest : List ℕ) (n : ℕ) → drop at a ≡ words (cells (kinds-of sig) r k) ++ rest → at + (length (words (cells (kinds-of sig) r k)) + n) ≡ stop → CellAt a stop at k r rest
-  cell-of a stop at k (named vs c rs) rest n e s = let h = three-at a at c (mask 0 vs) (mask (first (heads sig k)) (c ∷ [])) _ e in record { tag = h .one; vars = h .two; allowed = h .three; room = h .room; before = omega arith }
-  cell-of a stop at k (free vs cs) rest n e s = let h = three-at a at (256 + k) (mask 0 vs) (mask (first (heads sig k)) cs) _ e in record { tag = h .one; vars = h .two; allowed = h .three; room = h .room; before = omega arith }
+  cell-of a stop at k (named vs c rs) rest n e s = let h = three-at a at c (set-of 0 vs) (set-of (first (heads sig k)) (c ∷ [])) _ e in record { tag = h .one; vars = h .two; allowed = h .three; room = h .room; before = omega arith }
+  cell-of a stop at k (free vs cs) rest n e s = let h = three-at a at (256 + k) (set-of 0 vs) (set-of (first (heads sig k)) cs) _ e in record { tag = h .one; vars = h .two; allowed = h .three; room = h .room; before = omega arith }
 
   module _ (a : List ℕ) (stop at k : ℕ) (ks : List ℕ) (rs : Rows) (w : RealAt sig t a stop at k ks rs) where
-    pub its-cell : CellAt a stop at k (w .r) (wordss (cellss (kinds-of sig) (w .qs) ks) ++ w .rest)
-    its-cell = cell-of a stop at k (w .r) _ (length (wordss (cellss (kinds-of sig) (w .qs) ks))) (w .code-is) (w .ends)
+    pub its-cell : CellAt a stop at k (w .r) (all-words (all-cells (kinds-of sig) (w .qs) ks) ++ w .rest)
+    its-cell = cell-of a stop at k (w .r) _ (length (all-words (all-cells (kinds-of sig) (w .qs) ks))) (w .code-is) (w .ends)
 
   -- the columns behind a cell that names c, and behind one that names none
   pub after-named : (a : List ℕ) (stop at own k : ℕ) (ks : List ℕ) (qs : Rows) (rest vs : List ℕ) (c : ℕ) (ps : Rows) → RowStands sig t (named vs c ps) k → RowsStand sig t qs ks
-      → drop at a ≡ words (cells (kinds-of sig) (named vs c ps) k) ++ (wordss (cellss (kinds-of sig) qs ks) ++ rest)
-      → at + (length (words (cells (kinds-of sig) (named vs c ps) k)) + length (wordss (cellss (kinds-of sig) qs ks))) ≡ stop → own ≡ suc (length ks)
-      → At sig t a stop (at + 3) (own - 1 + opensOf t (getD a at 0)) (arguments sig c ++ ks) (rappend ps qs)
+      → drop at a ≡ words (cells (kinds-of sig) (named vs c ps) k) ++ (all-words (all-cells (kinds-of sig) qs ks) ++ rest)
+      → at + (length (words (cells (kinds-of sig) (named vs c ps) k)) + length (all-words (all-cells (kinds-of sig) qs ks))) ≡ stop → own ≡ suc (length ks)
+      → At sig t a stop (at + 3) (own - 1 + opens-of t (getD a at 0)) (arguments sig c ++ ks) (rappend ps qs)
   after-named a stop at own k ks qs rest vs c ps g h e s o =
-      let b = three-at a at c (mask 0 vs) (mask (first (heads sig k)) (c ∷ [])) _ e in
-      let n : own - 1 + opensOf t (getD a at 0) ≡ length (arguments sig c) + length ks = rw (b .one, lt-ltb c 256 (g .0 .tag)) (omega (arith, g .0 .arity)) in
+      let b = three-at a at c (set-of 0 vs) (set-of (first (heads sig k)) (c ∷ [])) _ e in
+      let n : own - 1 + opens-of t (getD a at 0) ≡ length (arguments sig c) + length ks = rw (b .one, lt-ltb c 256 (g .0 .tag)) (omega (arith, g .0 .arity)) in
       rw n (entered sig t a stop (at + 3) ps (arguments sig c) qs ks rest (g .3) h (b .after) (b .room) (omega arith))
 
   pub after-free : (a : List ℕ) (stop at own k : ℕ) (js ks : List ℕ) (qs : Rows) (rest vs cs : List ℕ) → RowsStand sig t qs ks
-      → drop at a ≡ words (cells (kinds-of sig) (free vs cs) k) ++ (wordss (cellss (kinds-of sig) qs ks) ++ rest)
-      → at + (3 + length (wordss (cellss (kinds-of sig) qs ks))) ≡ stop → own ≡ suc (length ks)
-      → At sig t a stop (at + 3) (own - 1 + opensOf t (getD a at 0)) (js ++ ks) (rappend (open-rows sig js) qs)
+      → drop at a ≡ words (cells (kinds-of sig) (free vs cs) k) ++ (all-words (all-cells (kinds-of sig) qs ks) ++ rest)
+      → at + (3 + length (all-words (all-cells (kinds-of sig) qs ks))) ≡ stop → own ≡ suc (length ks)
+      → At sig t a stop (at + 3) (own - 1 + opens-of t (getD a at 0)) (js ++ ks) (rappend (open-rows sig js) qs)
   after-free a stop at own k js ks qs rest vs cs h e s o =
-      let b = three-at a at (256 + k) (mask 0 vs) (mask (first (heads sig k)) cs) _ e in
-      let n : own - 1 + opensOf t (getD a at 0) ≡ length ks = rw (b .one, le-ltb (256 + k) 256 (omega arith)) (omega arith) in
+      let b = three-at a at (256 + k) (set-of 0 vs) (set-of (first (heads sig k)) cs) _ e in
+      let n : own - 1 + opens-of t (getD a at 0) ≡ length ks = rw (b .one, le-ltb (256 + k) 256 (omega arith)) (omega arith) in
       rw n (opened sig t a stop (at + 3) (length ks) js ks qs (record { virt = []; mine = ks; qs = qs; rest = rest; kinds-are = refl; columns-are = refl; good = h; code-is = b .after; within = b .room; own-is = refl; ends = omega arith }))
 
   -- a head that the cell allows is taken
   take-cell : (a : List ℕ) (stop at own c k : ℕ) (ks : List ℕ) (r : Row) (qs : Rows) (rest : List ℕ) → first (heads sig k) ≤ c → RowStands sig t r k → RowsStand sig t qs ks
-      → drop at a ≡ words (cells (kinds-of sig) r k) ++ (wordss (cellss (kinds-of sig) qs ks) ++ rest)
-      → at + (length (words (cells (kinds-of sig) r k)) + length (wordss (cellss (kinds-of sig) qs ks))) ≡ stop → own ≡ suc (length ks)
-      → bit (mask (first (heads sig k)) (row-heads r)) (c - first (heads sig k)) ≡ 1
-      → Next a stop (at + 3) (own - 1 + opensOf t (getD a at 0)) (arguments sig c ++ ks) (mask 0 (row-vars r)) (taken sig (arguments sig c) c (rcons r qs))
+      → drop at a ≡ words (cells (kinds-of sig) r k) ++ (all-words (all-cells (kinds-of sig) qs ks) ++ rest)
+      → at + (length (words (cells (kinds-of sig) r k)) + length (all-words (all-cells (kinds-of sig) qs ks))) ≡ stop → own ≡ suc (length ks)
+      → bit (set-of (first (heads sig k)) (row-heads r)) (c - first (heads sig k)) ≡ 1
+      → Next a stop (at + 3) (own - 1 + opens-of t (getD a at 0)) (arguments sig c ++ ks) (set-of 0 (row-vars r)) (taken sig (arguments sig c) c (rcons r qs))
   take-cell a stop at own c k ks (named vs d ps) qs rest l g h e s o b =
       let i : c ≡ d = eqb-eq c d (one-yes (eqb c d) (sym (bit-only (first (heads sig k)) c d (g .0 .low) (g .0 .high) l) ∙ b)) in
       rw (i, eqb-self d) (record { vs = vs; rs = rappend ps qs; is = refl; vars-are = refl; once = g .2; here = after-named a stop at own k ks qs rest vs d ps g h e s o })
@@ -114,7 +114,7 @@ module _ (sig : Signature) (t : List ℕ) where
       rw i (record { vs = vs; rs = rappend (open-rows sig (arguments sig c)) qs; is = refl; vars-are = refl; once = g .3; here = after-free a stop at own k (arguments sig c) ks qs rest vs cs h e s o })
 
   -- a head that it excludes drops the line
-  drop-cell : (c k : ℕ) (r : Row) (qs : Rows) → first (heads sig k) ≤ c → RowStands sig t r k → bit (mask (first (heads sig k)) (row-heads r)) (c - first (heads sig k)) ≡ 0 → taken sig (arguments sig c) c (rcons r qs) ≡ none
+  drop-cell : (c k : ℕ) (r : Row) (qs : Rows) → first (heads sig k) ≤ c → RowStands sig t r k → bit (set-of (first (heads sig k)) (row-heads r)) (c - first (heads sig k)) ≡ 0 → taken sig (arguments sig c) c (rcons r qs) ≡ none
   drop-cell c k (named vs d ps) qs l g b =
       let e : eqb c d ≡ false = one-no (eqb c d) (sym (bit-only (first (heads sig k)) c d (g .0 .low) (g .0 .high) l) ∙ b) in
       let f : eqb d c ≡ false = eqb-no d c (λ z. true≢false (sym (eqb-self d) ∙ ap (λ (n : ℕ). eqb n d) z ∙ e)) in
@@ -125,15 +125,15 @@ module _ (sig : Signature) (t : List ℕ) where
 
   -- a cell that is not refined is passed over
   pass-cell : (a : List ℕ) (stop at own k : ℕ) (ks : List ℕ) (r : Row) (qs : Rows) (rest : List ℕ) → refined sig k (rcons r qs) ≡ false → RowStands sig t r k → RowsStand sig t qs ks
-      → drop at a ≡ words (cells (kinds-of sig) r k) ++ (wordss (cellss (kinds-of sig) qs ks) ++ rest)
-      → at + (length (words (cells (kinds-of sig) r k)) + length (wordss (cellss (kinds-of sig) qs ks))) ≡ stop → own ≡ suc (length ks)
-      → Next a stop (at + 3) (own - 1 + opensOf t (getD a at 0)) ks (mask 0 (row-vars r)) (passed (rcons r qs))
+      → drop at a ≡ words (cells (kinds-of sig) r k) ++ (all-words (all-cells (kinds-of sig) qs ks) ++ rest)
+      → at + (length (words (cells (kinds-of sig) r k)) + length (all-words (all-cells (kinds-of sig) qs ks))) ≡ stop → own ≡ suc (length ks)
+      → Next a stop (at + 3) (own - 1 + opens-of t (getD a at 0)) ks (set-of 0 (row-vars r)) (passed (rcons r qs))
   pass-cell a stop at own k ks (named vs d ps) qs rest f g h e s o = true≢false f
   pass-cell a stop at own k ks (free vs cs) qs rest f g h e s o = record { vs = vs; rs = qs; is = refl; vars-are = refl; once = g .3; here = after-free a stop at own k [] ks qs rest vs cs h e s o }
 
-  refined-is : (k : ℕ) (r : Row) (qs : Rows) → Within (first (heads sig k)) (heads sig k) → RowStands sig t r k → refined sig k (rcons r qs) ≡ refined-cell sig k (row-tag r k) (mask (first (heads sig k)) (row-heads r))
+  refined-is : (k : ℕ) (r : Row) (qs : Rows) → Sized sig k → RowStands sig t r k → refined sig k (rcons r qs) ≡ refined-cell sig k (row-tag r k) (set-of (first (heads sig k)) (row-heads r))
   refined-is k (named vs d ps) qs w g = rw (lt-ltb d 256 (g .0 .tag))
-  refined-is k (free vs cs) qs w g = rw (le-ltb (256 + k) 256 (omega arith)) (ap not (sym (full-is (first (heads sig k)) cs (heads sig k) (g .1) w (g .2))))
+  refined-is k (free vs cs) qs w g = rw (le-ltb (256 + k) 256 (omega arith)) (ap not (sym (full-is (first (heads sig k)) cs (heads sig k) (g .1) (w .0) (g .2) (w .1))))
 
   tag-is : (k : ℕ) (r : Row) → RowStands sig t r k → (row-tag r k ≡ 256 + k) ⊎ (memb (row-tag r k) (heads sig k) ≡ true)
   tag-is k (named vs d ps) g = inr (g .1)
@@ -147,7 +147,7 @@ module _ (sig : Signature) (t : List ℕ) where
     real-room = (its-cell a stop at k ks rs real .room, its-cell a stop at k ks rs real .before)
 
     pub real-taken : (c : ℕ) → first (heads sig k) ≤ c → bit (getD a (at + 2) 0) (c - first (heads sig k)) ≡ 1
-        → Next a stop (at + 3) (own - 1 + opensOf t (getD a at 0)) (arguments sig c ++ ks) (getD a (at + 1) 0) (taken sig (arguments sig c) c rs)
+        → Next a stop (at + 3) (own - 1 + opens-of t (getD a at 0)) (arguments sig c ++ ks) (getD a (at + 1) 0) (taken sig (arguments sig c) c rs)
     real-taken c l b =
         let w = real in
         let e = its-cell a stop at k ks rs w in
@@ -159,13 +159,13 @@ module _ (sig : Signature) (t : List ℕ) where
         let e = its-cell a stop at k ks rs w in
         rw (w .is) (drop-cell c k (w .r) (w .qs) l (w .good) (ap (λ (n : ℕ). bit n (c - first (heads sig k))) (sym (e .allowed)) ∙ b))
 
-    pub real-passed : refined sig k rs ≡ false → Next a stop (at + 3) (own - 1 + opensOf t (getD a at 0)) ks (getD a (at + 1) 0) (passed rs)
+    pub real-passed : refined sig k rs ≡ false → Next a stop (at + 3) (own - 1 + opens-of t (getD a at 0)) ks (getD a (at + 1) 0) (passed rs)
     real-passed f =
         let w = real in
         let e = its-cell a stop at k ks rs w in
         rw (w .is, e .vars) (pass-cell a stop at own k ks (w .r) (w .qs) (w .rest) (ap (refined sig k) (sym (w .is)) ∙ f) (w .good) (w .goods) (w .code-is) (w .ends) o)
 
-    pub real-refined : Within (first (heads sig k)) (heads sig k) → refined sig k rs ≡ refined-cell sig k (getD a at 0) (getD a (at + 2) 0)
+    pub real-refined : Sized sig k → refined sig k rs ≡ refined-cell sig k (getD a at 0) (getD a (at + 2) 0)
     real-refined z =
         let w = real in
         let e = its-cell a stop at k ks rs w in

@@ -8,12 +8,11 @@ use native.Mathlib.Omega.{arith}
 use lib.Bits.{bitOr}
 use lib.Dec.{eqb, leb}
 use Rattle.signature.specs.Lists.{memb}
-use Rattle.signature.specs.Set.{bit}
-use Rattle.signature.proofs.SetLaws.{bit-or, bit-one-same, bit-one-other, bit-lt, bit-zero}
+use Rattle.sets.specs.Set.{bit, set-of, Within}
+use Rattle.sets.proofs.SetLaws.{bit-or, bit-one-same, bit-one-other, bit-lt, bit-zero}
 use Rattle.signature.proofs.Tests.{eqb-eq, eqb-ne, eqb-no, eqb-self, leb-yes, leb-no, le-of, lt-of-not}
 use Rattle.pattern.specs.Limits.{variable-count}
-use Rattle.cell.specs.Mask.{mask, Within}
-use Rattle.cell.proofs.Masks.{one-if, bit-mask, mask-nil}
+use Rattle.sets.proofs.ListSets.{one-if, bit-set-of, set-nil}
 use Rattle.tree.specs.Tree.{insert, inserts}
 use Rattle.path.specs.Variables.{variables, variables-from, Once}
 
@@ -79,14 +78,14 @@ variables-are m = refl
 pub no-variables : variables 0 ≡ []
 no-variables = variables-are 0 ∙ none-from 0 variable-count
 
-mask-more : (x : ℕ) (vs : List ℕ) → mask 0 (x ∷ vs) ≡ bitOr (2 ^ x) (mask 0 vs)
-unfolding mask
+mask-more : (x : ℕ) (vs : List ℕ) → set-of 0 (x ∷ vs) ≡ bitOr (2 ^ x) (set-of 0 vs)
+unfolding set-of
 mask-more x vs = let q : x - 0 ≡ x = omega arith in rw q
 
-pub once-rising : (t : ℕ) (vs : List ℕ) (bs : List (ℕ × ℕ)) → Once vs → inserts t vs bs ≡ inserts t (variables (mask 0 vs)) bs
-once-rising t [] bs o = rw (mask-nil 0, no-variables)
+pub once-rising : (t : ℕ) (vs : List ℕ) (bs : List (ℕ × ℕ)) → Once vs → inserts t vs bs ≡ inserts t (variables (set-of 0 vs)) bs
+once-rising t [] bs o = rw (set-nil 0, no-variables)
 once-rising t (x ∷ vs) bs o =
-    let z : bit (mask 0 vs) x ≡ 0 = bit-mask 0 x vs (once-within vs (o .2)) ∙ (rw (zero-add x, o .1)) in
-    ap (insert (x, t)) (once-rising t vs bs (o .2) ∙ ap (λ (ws : List ℕ). inserts t ws bs) (variables-are (mask 0 vs)))
-    ∙ put-from t x (mask 0 vs) 0 variable-count bs z (omega arith) (omega (arith, o .0))
-    ∙ ap (λ (ws : List ℕ). inserts t ws bs) (sym (variables-are (bitOr (2 ^ x) (mask 0 vs))) ∙ ap variables (sym (mask-more x vs)))
+    let z : bit (set-of 0 vs) x ≡ 0 = bit-set-of 0 x vs (once-within vs (o .2)) ∙ (rw (zero-add x, o .1)) in
+    ap (insert (x, t)) (once-rising t vs bs (o .2) ∙ ap (λ (ws : List ℕ). inserts t ws bs) (variables-are (set-of 0 vs)))
+    ∙ put-from t x (set-of 0 vs) 0 variable-count bs z (omega arith) (omega (arith, o .0))
+    ∙ ap (λ (ws : List ℕ). inserts t ws bs) (sym (variables-are (bitOr (2 ^ x) (set-of 0 vs))) ∙ ap variables (sym (mask-more x vs)))

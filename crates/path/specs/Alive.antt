@@ -5,7 +5,7 @@ use mathlib.Core.Bool.{Bool, true, false}
 use Prim.Native.Nat.{ℕ, _/_, _%_, _≤_, _<_}
 use lib.Dec.{eqb}
 use lib.ListN.{getD}
-use Rattle.signature.specs.Set.{bit, set-limit}
+use Rattle.sets.specs.Set.{bit, set-limit}
 
 -- the words of a set of them
 abbrev pub set-words : ℕ

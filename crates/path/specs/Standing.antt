@@ -8,9 +8,9 @@ use lib.ListN.{length, drop}
 use Rattle.signature.specs.Lists.{memb, first}
 use Rattle.signature.specs.Signature.{Signature, heads, arguments}
 use Rattle.row.specs.Row.{Row, Rows, named, free, rnil, rcons, open-rows}
-use Rattle.cell.specs.Cell.{wordss}
-use Rattle.cell.specs.Coded.{Known, kinds-of, cellss}
-use Rattle.cell.specs.Mask.{Within, mask}
+use Rattle.cell.specs.Cell.{kind-tag, all-words}
+use Rattle.cell.specs.Coded.{HeadOfKind, kinds-of, all-cells}
+use Rattle.sets.specs.Set.{Within, members}
 use Rattle.tree.specs.Tree.{rappend}
 use Rattle.path.specs.Variables.{Once}
 
@@ -18,15 +18,15 @@ use Rattle.path.specs.Variables.{Once}
 abbrev pub Among : List ℕ → List ℕ → Type 0
 Among cs ds = (c : ℕ) → memb c cs ≡ true → memb c ds ≡ true
 
--- a cell's test: it names a constructor, or excludes one of its kind
+-- a cell's test: it names a constructor, or excludes one of its kind, for its set has not as many members as the kind has heads
 abbrev pub refined-cell : Signature → ℕ → ℕ → ℕ → Bool
-refined-cell sig k tag allowed = ltb tag 256 || not (eqb allowed (mask (first (heads sig k)) (heads sig k)))
+refined-cell sig k tag allowed = ltb tag kind-tag || not (eqb (length (members allowed)) (length (heads sig k)))
 
 module _ (sig : Signature) (t : List ℕ) where
   -- a row of kind k whose constructors are of the kinds of their places
   abbrev mutual
     pub RowStands : Row → ℕ → Type 0
-    RowStands (named vs c rs) k = Known (kinds-of sig) t k c × (memb c (heads sig k) ≡ true) × Once vs × RowsStand rs (arguments sig c)
+    RowStands (named vs c rs) k = HeadOfKind (kinds-of sig) t k c × (memb c (heads sig k) ≡ true) × Once vs × RowsStand rs (arguments sig c)
     RowStands (free vs cs) k = (k < 256) × Within (first (heads sig k)) cs × Among cs (heads sig k) × Once vs
 
     pub RowsStand : Rows → List ℕ → Type 0
@@ -44,7 +44,7 @@ module _ (sig : Signature) (t : List ℕ) where
     pub kinds-are : ks ≡ virt ++ mine
     pub columns-are : rs ≡ rappend (open-rows sig virt) qs
     pub good : RowsStand qs mine
-    pub code-is : drop at a ≡ wordss (cellss (kinds-of sig) qs mine) ++ rest
+    pub code-is : drop at a ≡ all-words (all-cells (kinds-of sig) qs mine) ++ rest
     pub within : at ≤ length a
     pub own-is : own ≡ length mine
-    pub ends : at + length (wordss (cellss (kinds-of sig) qs mine)) ≡ stop
+    pub ends : at + length (all-words (all-cells (kinds-of sig) qs mine)) ≡ stop

@@ -6,10 +6,11 @@ use mathlib.Core.Bool.{Bool, true, false, _&&_, not}
 use Prim.Native.Nat.{ℕ, zero, suc, _+_, _-_, _*_, _≤_, _<_}
 use lib.Dec.{eqb}
 use lib.ListN.{length, getD, set}
-use Rattle.signature.specs.Set.{bit}
+use Rattle.sets.specs.Set.{bit}
 use Rattle.signature.specs.Signature.{Signature}
 use Rattle.pattern.specs.Limits.{pattern-limit}
-use Rattle.cell.specs.Cursor.{opensOf}
+use Rattle.cell.specs.Cell.{cell-width}
+use Rattle.cell.specs.Cursor.{opens-of}
 use Rattle.tree.specs.Tree.{Line, inserts}
 use Rattle.path.specs.Standing.{At}
 use Rattle.path.specs.Variables.{variables}
@@ -46,12 +47,12 @@ own-of rows r q = getD rows (row-stride * r + row-head + q) 0
 
 -- the word where cell q of row r begins
 abbrev pub cell-of : List ℕ → ℕ → ℕ → ℕ
-cell-of rows r q = start-of rows r + 3 * q
+cell-of rows r q = start-of rows r + cell-width * q
 
 pub record Indexed (t a rows : List ℕ) (n : ℕ) : Type 0 where
   pub long : row-stride * n ≤ length rows
-  pub counts : (r q : ℕ) → r < n → cell-of rows r q + 3 ≤ stop-of rows r → own-of rows r (q + 1) ≡ own-of rows r q - 1 + opensOf t (getD a (cell-of rows r q) 0)
-  pub within : (r : ℕ) → r < n → (stop-of rows r ≤ length a) × (stop-of rows r ≤ start-of rows r + 3 * pattern-limit)
+  pub counts : (r q : ℕ) → r < n → cell-of rows r q + cell-width ≤ stop-of rows r → own-of rows r (q + 1) ≡ own-of rows r q - 1 + opens-of t (getD a (cell-of rows r q) 0)
+  pub within : (r : ℕ) → r < n → (stop-of rows r ≤ length a) × (stop-of rows r ≤ start-of rows r + cell-width * pattern-limit)
 
 -- visits: a word for each cell of each row
 

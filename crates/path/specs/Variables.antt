@@ -5,7 +5,7 @@ use mathlib.Core.Bool.{false, cond}
 use Prim.Native.Nat.{ℕ, zero, suc, _<_}
 use lib.Dec.{eqb}
 use Rattle.signature.specs.Lists.{memb}
-use Rattle.signature.specs.Set.{bit}
+use Rattle.sets.specs.Set.{bit}
 use Rattle.pattern.specs.Limits.{variable-count}
 
 -- the members of a set from i on, n numbers looked at, rising

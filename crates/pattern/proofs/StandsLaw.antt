@@ -12,7 +12,8 @@ use Rattle.signature.proofs.Booleans.{and-left, and-right}
 use Rattle.signature.proofs.Tests.{le-of, lt-of-not, leb-yes, true≢false}
 use Rattle.pattern.specs.Limits.{part-weight-limit}
 use Rattle.pattern.specs.Pattern.{Pattern, Patterns, pnil, pcons, head, and, or, wild, absurd-pat, neg, var}
-use Rattle.pattern.specs.Side.{Side, TooHeavy, plus, minus, other, weight-at, light-at, light-all, Stands, StandsIn, itself, in-not, in-and-left, in-and-right, in-or-left, in-or-right, in-head, in-first, in-rest}
+use Rattle.pattern.specs.Side.{Side, TooHeavy, plus, minus, other, weight-at, light-at, Stands, StandsIn, itself, in-not, in-and-left, in-and-right, in-or-left, in-or-right, in-head, in-first, in-rest}
+use Rattle.pattern.proofs.Sides.{light-all}
 use Rattle.pattern.specs.Weight.{light-plus}
 use Rattle.pattern.specs.WellFormed.{WellFormed, AllWellFormed, well-not, well-and, well-or, well-head, well-cons}
 

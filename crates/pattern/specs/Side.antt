@@ -7,7 +7,7 @@ use Prim.Native.Nat.{ℕ, _<_}
 use Rattle.signature.specs.Signature.{arguments-at, Signature}
 use Rattle.pattern.specs.Limits.{part-weight-limit}
 use Rattle.pattern.specs.Pattern.{Pattern, Patterns, head, and, or, neg, pcons}
-use Rattle.pattern.specs.Weight.{weight-plus, weight-minus, light-plus, light-minus, light-all-plus, light-all-minus}
+use Rattle.pattern.specs.Weight.{weight-plus, weight-minus, light-plus, light-minus}
 
 pub data Side : Type 0 where
   plus minus : Side
@@ -20,14 +20,10 @@ abbrev pub weight-at : Side → Pattern → ℕ
 weight-at plus p = weight-plus p
 weight-at minus p = weight-minus p
 
--- each part, at the side on which it stands, weighs at most 64: of a part at a side, and of arguments at a side
+-- each part of a part at a side weighs at most 64 at the side on which it stands
 abbrev pub light-at : Side → Pattern → Bool
 light-at plus p = light-plus p
 light-at minus p = light-minus p
-
-abbrev pub light-all : Side → Patterns → Bool
-light-all plus ps = light-all-plus ps
-light-all minus ps = light-all-minus ps
 
 module _ (sig : Signature) where
   -- the parts of a pattern: in the part p of kind k at side s stands the part q, of kind j at side r

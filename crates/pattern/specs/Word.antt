@@ -3,6 +3,7 @@ use mathlib.Core.List.{List}
 use Prim.Native.Nat.{ℕ, _<_}
 use Rattle.signature.specs.Decoded.{arity-of}
 use Rattle.signature.specs.Limits.{constructor-limit}
+use Rattle.pattern.specs.Limits.{variable-count}
 use Rattle.pattern.specs.Read.{Form, is-head, is-var, is-and, is-or, is-wild, is-absurd, is-not, is-other}
 use Rattle.pattern.specs.declared.token.Word.{Word}
 use Rattle.pattern.specs.declared.token.Word.the-variants.{Head, And, Or, Wild, Absurd, Not, Var, Other}
@@ -16,6 +17,10 @@ form-of Absurd = is-absurd
 form-of Not = is-not
 form-of (Var x) = is-var x
 form-of Other = is-other
+
+-- how many words of its own a pattern has before its parts
+abbrev pub own-words : Form → ℕ
+own-words f = 1
 
 -- t is the table of a signature
 abbrev pub part-count : List ℕ → Form → ℕ
@@ -38,3 +43,14 @@ head-small is-wild = Unit {0}
 head-small is-absurd = Unit {0}
 head-small is-not = Unit {0}
 head-small is-other = Unit {0}
+
+-- a variable is one of the 16
+abbrev pub var-small : Form → Type 0
+var-small (is-head c) = Unit {0}
+var-small (is-var x) = x < variable-count
+var-small is-and = Unit {0}
+var-small is-or = Unit {0}
+var-small is-wild = Unit {0}
+var-small is-absurd = Unit {0}
+var-small is-not = Unit {0}
+var-small is-other = Unit {0}

@@ -7,4 +7,4 @@ pub const LAST_INDEX: usize = 15;
 
 pub const UNBOUND: u16 = 65535;
 
-pub const PART_WEIGHT: usize = 64;
+pub const PART_WEIGHT: u16 = 64;

@@ -4,7 +4,7 @@ ghost use lib.ListN.{length};
 ghost use Rattle.signature.specs.Decoded.{decoded-length};
 ghost use Rattle.pattern.specs.Linearity.{side-of, behind};
 ghost use Rattle.pattern.specs.Read.{form};
-ghost use Rattle.pattern.specs.Word.{form-of, part-count, head-small};
+ghost use Rattle.pattern.specs.Word.{form-of, own-words, part-count, head-small};
 
 pub const LAST_HEAD: u16 = 255;
 
@@ -53,6 +53,13 @@ pub fn parts(t: &[u16], w: Word) -> u16
         Word::Var(_x) => 0,
         Word::Other => 0,
     }
+}
+
+// A pattern's own words before its parts: one, whatever the first is.
+pub fn own_words(w: Word) -> usize
+    ensures { λ r. ⌜ r ≡ own-words (form-of w) ⌝ }
+{
+    1
 }
 
 // The side of the parts behind a word.

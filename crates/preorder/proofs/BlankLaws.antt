@@ -9,7 +9,7 @@ use lib.Dec.{eqb}
 use lib.ListN.{length, getD, drop, take, set, replicate, length-append, length-replicate, length-drop, drop-of-length-le}
 use lib.Seq.{take-at, drop-at, take-all, drop-drop}
 use Rattle.signature.specs.Limits.{kind-limit}
-use Rattle.signature.proofs.SetLaws.{bit-zero}
+use Rattle.sets.proofs.SetLaws.{bit-zero}
 use Rattle.signature.proofs.Tests.{eqb-no, true≢false}
 use Rattle.tree.proofs.RunFacts.{some-word}
 use Rattle.tree.specs.Tree.{Tree, skip}

@@ -10,7 +10,7 @@ use lib.ListN.{length, getD, length-append}
 use Rattle.signature.specs.Decoded.{first-of, count-of, arity-of}
 use Rattle.signature.specs.Limits.{argument-limit, constructor-limit, heads-limit, kind-limit}
 use Rattle.signature.specs.Lists.{_>>=_, All, first}
-use Rattle.signature.specs.Set.{bit}
+use Rattle.sets.specs.Set.{bit}
 use Rattle.signature.specs.Signature.{heads, arguments}
 use Rattle.signature.proofs.ListFacts.{all-append, all-first}
 use Rattle.pattern.specs.Limits.{pattern-limit}

@@ -36,7 +36,7 @@ pub record Part (b f m : ℕ) (child : ℕ → Tree) (o₀ o : List ℕ) (at j :
   pub head : A ++ links (rest child f m j) (b + at) ≡ 2 ∷ (f ∷ (m ∷ links (rest child f m 0) (b + (3 + m))))
   pub body : F ++ layout-all (rest child f m j) (b + at) ≡ layout-all (rest child f m 0) (b + (3 + m))
   pub list : o ≡ A ++ (G ++ (F ++ drop at o₀))
-  pub lenA : length A ≡ 3 + j
+  pub len-a : length A ≡ 3 + j
   pub lenG : length G ≡ m - j
   pub lenF : at ≡ 3 + m + length F
   pub total : at + words-all (rest child f m j) ≡ 3 + (m + words-all (rest child f m 0))
@@ -52,7 +52,7 @@ part-none b f m child (x ∷ (y ∷ (z ∷ e))) h = record {
   head = refl;
   body = refl;
   list = rw (← drop-drop m 3 (2 ∷ (f ∷ (m ∷ e))), take-append-drop m e);
-  lenA = refl;
+  len-a = refl;
   lenG = length-take-le m e (omega arith) ∙ (let q : m ≡ m - 0 = omega arith in q);
   lenF = omega arith;
   total = omega arith;
@@ -61,7 +61,7 @@ part-none b f m child (x ∷ (y ∷ (z ∷ e))) h = record {
 tail-is : {b f m : ℕ} {child : ℕ → Tree} {o₀ o : List ℕ} {at j : ℕ} → j ≤ m → Part b f m child o₀ o at j → drop at o ≡ drop at o₀
 tail-is {o₀ = o₀} {at = at} h p =
     rw (p .list, ← append-assoc (p .G) (p .F) (drop at o₀), ← append-assoc (p .A) (p .G ++ p .F) (drop at o₀))
-    (drop-at (p .A ++ (p .G ++ p .F)) (drop at o₀) at (simp length-append (omega (arith, p .lenA, p .lenG, p .lenF))))
+    (drop-at (p .A ++ (p .G ++ p .F)) (drop at o₀) at (simp length-append (omega (arith, p .len-a, p .lenG, p .lenF))))
 
 -- the link is set, behind the child's words X
 link-set : (A G F X D : List ℕ) (g x link : ℕ) → length A ≡ link
@@ -80,7 +80,7 @@ part-more b f m child o₀ o ys at j u p h e g0 = go (p .G) refl
     go : (G : List ℕ) → p .G ≡ G → Part b f m child o₀ (set (take at o ++ (ys ++ drop (length o - at) (drop at o))) (3 + j) (b + at)) (at + u) (j + 1)
     go [] q = absurd (omega (arith, p .lenG, ap length q))
     go (g ∷ G) q =
-        let front : take at o ≡ p .A ++ ((g ∷ G) ++ p .F) = ap (take at) (p .list ∙ (simp append-assoc)) ∙ take-at (p .A ++ (p .G ++ p .F)) (drop at o₀) at (simp length-append (omega (arith, p .lenA, p .lenG, p .lenF))) ∙ ap (λ (l : List ℕ). p .A ++ (l ++ p .F)) q in
+        let front : take at o ≡ p .A ++ ((g ∷ G) ++ p .F) = ap (take at) (p .list ∙ (simp append-assoc)) ∙ take-at (p .A ++ (p .G ++ p .F)) (drop at o₀) at (simp length-append (omega (arith, p .len-a, p .lenG, p .lenF))) ∙ ap (λ (l : List ℕ). p .A ++ (l ++ p .F)) q in
         let end : drop (length o - at) (drop at o) ≡ [] = drop-of-length-le (drop at o) {i = length o - at} (simp length-drop (omega arith)) in
         let whole : take (length o - at) (drop at o) ≡ drop at o = take-all (length o - at) (drop at o) (simp length-drop (omega arith)) in
         let mid : ys ≡ X ++ drop (at + u) o₀ = g0 ∙ (rw (whole, tail-is (omega arith) p, drop-drop (words (child (f + j))) at o₀, ← e)) in
@@ -92,8 +92,8 @@ part-more b f m child o₀ o ys at j u p h e g0 = go (p .G) refl
           F = p .F ++ X;
           head = append-assoc (p .A) ((b + at) ∷ []) _ ∙ ap (λ (l : List ℕ). p .A ++ l) (ap (λ (n : ℕ). (b + at) ∷ links (rest child f m (j + 1)) n) (sym step) ∙ ap (λ (ts : Trees). links ts (b + at)) (sym next)) ∙ p .head;
           body = append-assoc (p .F) X _ ∙ ap (λ (l : List ℕ). p .F ++ l) (ap (λ (n : ℕ). X ++ layout-all (rest child f m (j + 1)) n) (sym step) ∙ ap (λ (ts : Trees). layout-all ts (b + at)) (sym next)) ∙ p .body;
-          list = rw (front, mid, end) (link-set (p .A) G (p .F) X (drop (at + u) o₀) g (b + at) (3 + j) (p .lenA));
-          lenA = simp length-append (omega (arith, p .lenA));
+          list = rw (front, mid, end) (link-set (p .A) G (p .F) X (drop (at + u) o₀) g (b + at) (3 + j) (p .len-a));
+          len-a = simp length-append (omega (arith, p .len-a));
           lenG = omega (arith, p .lenG, ap length q);
           lenF = simp length-append (omega (arith, p .lenF, length-layout (child (f + j)) (b + at)));
           total = omega (arith, p .total, ap words-all next);

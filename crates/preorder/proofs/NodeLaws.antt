@@ -15,7 +15,7 @@ use Rattle.signature.proofs.Booleans.{and-left, and-right}
 use Rattle.signature.proofs.ListFacts.{rest-of}
 use Rattle.signature.proofs.Tests.{eqb-eq, none≢some, true≢false}
 use Rattle.pattern.specs.Limits.{pattern-limit}
-use Rattle.rowlist.proofs.Kinded.{within-kind}
+use Rattle.rowlist.proofs.Kinded.{sized-kind}
 use Rattle.tree.proofs.RunFacts.{some-word}
 use Rattle.tree.specs.Tree.{Tree, Line, default, hit, test, skip, refined, taken, passed, after, compile, children}
 use Rattle.tree.specs.Words.{words, layout}
@@ -110,7 +110,7 @@ module _ {t a rows : List ℕ} {n : ℕ} {s cur vis : List ℕ} {ncols vn base l
       → refined (g .known .sig) k (l .cells) ≡ (member re r && refined-cell (g .known .sig) k (getD a (cell-of rows r (getD cur r 0)) 0) (getD a (cell-of rows r (getD cur r 0) + 2) 0))
   refined-is re k ks e u h r l i x =
       let st = subst (λ (z : List ℕ). State (g .known .sig) t a rows n (member s) cur vis z (g .f)) e (g .state) in
-      row-refined (g .known .sig) t a rows n vis r (getD cur r 0) k ks (within-kind (g .known) k u) (member s r) (g .f r) _ l (st r i) x refl
+      row-refined (g .known .sig) t a rows n vis r (getD cur r 0) k ks (sized-kind (g .known) k u) (member s r) (g .f r) _ l (st r i) x refl
       ∙ ap (λ (b : Bool). b && refined-cell (g .known .sig) k (getD a (cell-of rows r (getD cur r 0)) 0) (getD a (cell-of rows r (getD cur r 0) + 2) 0)) (real-same re k ks e h r i)
 
   pub none-refined : (re : List ℕ) (k res : ℕ) (ks : List ℕ) → g .ks ≡ k ∷ ks → k < g .known .decoded .n → ((r : ℕ) → r < n → member re r ≡ real-of rows (member s) cur ncols r)

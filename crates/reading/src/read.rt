@@ -1,6 +1,8 @@
 // Whether words are a pattern of kind 0 (refusal 7).
+use pattern::limits::PATTERN_WORDS;
 use pattern::token::Word;
 use pattern::token::classify;
+use pattern::token::own_words;
 use pattern::token::parts;
 use signature::decoded::argument_of;
 use signature::decoded::constructors_of;
@@ -14,9 +16,6 @@ ghost use Rattle.signature.specs.Lists.{is-some};
 ghost use Rattle.reading.specs.End.{end-of, may-begin, kind-behind};
 ghost use Rattle.pattern.specs.Read.{read-one, read-pattern};
 ghost use Rattle.pattern.specs.Word.{form-of, head-small};
-
-// 1 to 64 words.
-pub const PATTERN_WORDS: usize = 64;
 
 // How many words a pattern takes.
 pub enum End {
@@ -76,7 +75,7 @@ fn read_one(t: &[u16], p: &[u16], k: u16) -> End
         return End::Bad;
     }
     let n = parts(t, w) as usize;
-    let mut at = 1;
+    let mut at = own_words(w);
     let mut j = 0;
     while j < n {
         let End::At(m) = read_one(t, &p[at..], part_kind(t, w, k, j)) else {

@@ -1,7 +1,8 @@
-pub mod Admitted
-pub mod Limits
-pub mod Overlap
+-- Rows. Read: Row, RowFits, Limits, Overlap, Admitted, Laws, Cases.
 pub mod Row
 pub mod RowFits
+pub mod Limits
+pub mod Overlap
+pub mod Admitted
 pub mod Laws
 pub mod Cases

@@ -9,7 +9,7 @@ use lib.Seq.{take-at, take-suc, take-suc-set, drop-drop, drop-at}
 use native.Mathlib.Numerals.{add-one}
 use Rattle.rowlist.specs.Grow.{words-list, Filled, RowFirst, ListFirst, GivenAppend, GivenAppends, GivenGrow, appends, appends-room, grown}
 use Rattle.rowlist.specs.Product.{Product}
-use Rattle.cell.specs.RowList.{Begins, from}
+use Rattle.cell.specs.RowList.{WrittenFirst, from}
 use Rattle.rowlist.proofs.Products.{end-word}
 use Rattle.cell.proofs.Walk.{word-at, Task, Now, Head, Turned, yields, start, head, turn, end}
 
@@ -24,7 +24,7 @@ append-given g = (row-long (g .left), row-long (g .right), g .room)
 
 -- a number, then a row, then a row
 pub appended : {x y : List ℕ} {n m : ℕ} (o o₁ o₂ : List ℕ) (g : GivenAppend x n y m (length o)) → take (1 + n) o₁ ≡ take 1 o ++ take n x → take (1 + n + m) o₂ ≡ take (1 + n) o₁ ++ take m y → length o₂ ≡ length o
-    → Begins (words-list ((g .left .row ++ g .right .row) ∷ [])) (1 + n + m) (set o₂ 0 (n + m))
+    → WrittenFirst (words-list ((g .left .row ++ g .right .row) ∷ [])) (1 + n + m) (set o₂ 0 (n + m))
 appended [] o₁ o₂ g e f l = absurd (omega (arith, g .room))
 appended (a ∷ o) o₁ [] g e f l = absurd (omega (arith, l))
 appended {x} {y} {n} {m} (a ∷ o) o₁ (b ∷ o₂) g e f l =
@@ -35,7 +35,7 @@ appended {x} {y} {n} {m} (a ∷ o) o₁ (b ∷ o₂) g e f l =
       rw (i, append-nil) (ap₂ (λ (j : ℕ) (z : List ℕ). j ∷ z) (simp length-append (omega (arith, g .left .size, g .right .size))) (ap (drop 1) all)),
     )
 
--- ---- one with each
+-- one with each
 abbrev one-of : {A : Type 0} → A → List A
 one-of a = a ∷ []
 
@@ -79,16 +79,16 @@ module _ {x y : List ℕ} {n : ℕ} (o₀ : List ℕ) (g : GivenAppends x n y (l
     all-given m h = let q = head (all-task g) at used o m h in all-head (q .0) (q .1)
 
     pub all-turn : (r : ℕ) (ys : List ℕ) → Now (all-task g) at used o → 0 < getD y at 0
-        → ((q : GivenAppend x n (from y (at + 1)) (getD y at 0) (length (from o used))) → Begins (words-list ((q .left .row ++ q .right .row) ∷ [])) r ys)
+        → ((q : GivenAppend x n (from y (at + 1)) (getD y at 0) (length (from o used))) → WrittenFirst (words-list ((q .left .row ++ q .right .row) ∷ [])) r ys)
         → length ys ≡ length (from o used) → Turned (all-task g) at used r o ys
     unfolding all-task all-head
     all-turn r ys m h f l = turn (all-task g) at used o r ys m h (λ s q. f (all-head s q)) l
 
-    pub all-end : Now (all-task g) at used o → getD y at 0 ≤ 0 → Begins (words-list (appends (g .left .row) (g .right .rows))) used o
+    pub all-end : Now (all-task g) at used o → getD y at 0 ≤ 0 → WrittenFirst (words-list (appends (g .left .row) (g .right .rows))) used o
     unfolding all-task
-    all-end m z = subst (λ (l : List (List ℕ)). Begins (words-list l) used o) (yields-map (g .left .row) (g .right .rows)) (end (all-task g) at used o m z .0)
+    all-end m z = subst (λ (l : List (List ℕ)). WrittenFirst (words-list l) used o) (yields-map (g .left .row) (g .right .rows)) (end (all-task g) at used o m z .0)
 
--- ---- each with each
+-- each with each
 pub appends-small : (v : List ℕ) (ws : List (List ℕ)) → length (words-list (appends v ws)) ≤ appends-room v ws
 appends-small v [] = omega arith
 appends-small v (w ∷ ws) = simp length-append (omega (arith, appends-small v ws))
@@ -134,7 +134,7 @@ module _ {x y : List ℕ} (o₀ : List ℕ) (g : GivenGrow x y (length o₀)) wh
     grow-given m h = let q = head (grow-task g) at used o m h in grow-head (q .0) (q .1)
 
     pub grow-turn : (r : ℕ) (ys : List ℕ) → Now (grow-task g) at used o → 0 < getD x at 0
-        → ((q : GivenAppends (from x (at + 1)) (getD x at 0) y (length (from o used))) → Begins (words-list (appends (q .left .row) (q .right .rows))) r ys)
+        → ((q : GivenAppends (from x (at + 1)) (getD x at 0) y (length (from o used))) → WrittenFirst (words-list (appends (q .left .row) (q .right .rows))) r ys)
         → length ys ≡ length (from o used) → Turned (grow-task g) at used r o ys
     unfolding grow-task grow-head
     grow-turn r ys m h f l = turn (grow-task g) at used o r ys m h (λ s q. f (grow-head s q)) l
@@ -148,9 +148,9 @@ module _ {x y : List ℕ} (o₀ : List ℕ) (g : GivenGrow x y (length o₀)) wh
     grow-end m z =
         let e = end (grow-task g) at used o m z in
         end-word o (words-list (grown (g .left .rows) (g .right .rows))) used
-        (subst (λ (l : List (List ℕ)). Begins (words-list l) used o) (yields-grown (g .left .rows) (g .right .rows)) (e .0)) (e .1)
+        (subst (λ (l : List (List ℕ)). WrittenFirst (words-list l) used o) (yields-grown (g .left .rows) (g .right .rows)) (e .0)) (e .1)
 
--- ---- a copy
+-- a copy
 pub copy-step : (x o d : List ℕ) (at i : ℕ) → i < length x → at + i < length o → take (at + i) o ≡ d ++ take i x → take (at + (i + 1)) (set o (at + i) (getD x i 0)) ≡ d ++ take (i + 1) x
 copy-step x o d at i l k e =
     let z : at + (i + 1) ≡ suc (at + i) = omega arith in
@@ -162,7 +162,7 @@ copy-start x o at = rw (add-zero at, append-nil)
 pub copy-end : (n i at : ℕ) (x o d : List ℕ) → i ≤ n → n ≤ i → take (at + i) o ≡ d ++ take i x → take (at + n) o ≡ d ++ take n x
 copy-end n i at x o d l k e = let z : n ≡ i = omega arith in rw z e
 
--- ---- a count
+-- a count
 pub record Counting {y : List ℕ} (g : ListFirst y) (n at : ℕ) : Type 0 where
   pub todo : List (List ℕ)
   pub code-is : drop at y ≡ (words-list todo ++ (0 ∷ [])) ++ g .rest

@@ -4,7 +4,7 @@ use mathlib.Core.Path.{_≡_, refl, ap, _∙_, sym, subst}
 use mathlib.Core.List.{List}
 use mathlib.Core.Option.{some}
 use mathlib.Core.Bool.{Bool, true, false, cond}
-use Prim.Native.Nat.{ℕ, zero, suc, _+_, _≤_, _<_}
+use Prim.Native.Nat.{ℕ, zero, suc, _+_, _-_, _^_, _≤_, _<_}
 use native.Mathlib.Nat.{add-zero}
 use native.Mathlib.Omega.{arith}
 use lib.Dec.{eqb, ltb}
@@ -12,7 +12,7 @@ use lib.ListN.{length}
 use Rattle.signature.specs.Decoded.{Known, count-of}
 use Rattle.signature.specs.Lawful.{KindsRise, rise-end, rise-same, rise-next, KindsStart, start-0}
 use Rattle.signature.specs.Lists.{memb, is-empty, first}
-use Rattle.signature.specs.Set.{bit}
+use Rattle.sets.specs.Set.{bit, set-of, Within, members}
 use Rattle.signature.specs.Signature.{Signature, heads, arguments-at}
 use Rattle.signature.proofs.Heads.{Consecutive, consecutive-nil, consecutive-cons, consecutive-of, has-head, has-kind, constructor-of}
 use Rattle.signature.proofs.KnownFacts.{words-of, arity-is, is-constructor, few-constructors, long}
@@ -20,9 +20,9 @@ use Rattle.signature.proofs.LawfulFacts.{kinds-kind}
 use Rattle.signature.proofs.SignatureBack.{is-kinds}
 use Rattle.signature.proofs.Tests.{some-inj, eqb-self, eqb-no, eqb-eq, true≢false, ltb-yes, ltb-no}
 use Rattle.rowlist.specs.Sides.{Open}
-use Rattle.cell.specs.Coded.{kinds-of, Known as KnownHead}
-use Rattle.cell.specs.Mask.{mask, Within}
-use Rattle.cell.proofs.Masks.{bit-ext, bit-mask, one-if}
+use Rattle.cell.specs.Coded.{kinds-of, HeadOfKind}
+use Rattle.sets.proofs.SetLaws.{bit-below, size-below}
+use Rattle.sets.proofs.ListSets.{same-bits, bit-set-of, one-if}
 
 first-run : {f : ℕ} {xs : List ℕ} → Consecutive f xs → is-empty xs ≡ false → first xs ≡ f
 first-run consecutive-nil e = true≢false e
@@ -50,6 +50,10 @@ memb-run zero (consecutive-cons {f = f} {xs = xs} r) = rw (add-zero f, eqb-self 
 memb-run (suc i) (consecutive-cons {f = f} {xs = xs} r) =
     let z : f + suc i ≡ suc f + i = omega arith in
     rw (z, eqb-no (suc f + i) f (omega arith)) (memb-run i r ∙ sym (ltb-next i (length xs) (ltb i (length xs)) refl))
+
+-- the heads of a kind are counted by their set
+abbrev pub Sized : Signature → ℕ → Type 0
+Sized sig k = Within (first (heads sig k)) (heads sig k) × (length (members (set-of (first (heads sig k)) (heads sig k))) ≡ length (heads sig k))
 
 rise-some : {k n : ℕ} {cs : Signature} → KindsRise k cs n → 0 < n
 rise-some (rise-end e) = omega (arith, e)
@@ -82,7 +86,7 @@ module _ {t : List ℕ} (g : Known t) where
     pub within-kind : Within (first (heads (g .sig) k)) (heads (g .sig) k)
     within-kind = within-run (first (heads (g .sig) k)) run-of (omega arith) (omega (arith, few-heads))
 
-    pub open-kind : Open (kinds-of (g .sig)) (g .sig) k (256 + k) (mask (first (heads (g .sig) k)) (heads (g .sig) k))
+    pub open-kind : Open (kinds-of (g .sig)) (g .sig) k (256 + k) (set-of (first (heads (g .sig) k)) (heads (g .sig) k))
     open-kind = record {
       kind = omega (arith, kinds-same, words-of g .few-kinds);
       some = some-head;
@@ -92,17 +96,24 @@ module _ {t : List ℕ} (g : Known t) where
     }
 
     -- the set of the numbers below the count of the kind's heads is that of the heads
-    pub full-set : (s : ℕ) → ((j : ℕ) → bit s j ≡ cond (ltb j (count-of t k)) 1 0) → s ≡ mask (first (heads (g .sig) k)) (heads (g .sig) k)
-    full-set s h = bit-ext _ _ (λ i.
+    pub full-set : (s : ℕ) → ((j : ℕ) → bit s j ≡ cond (ltb j (count-of t k)) 1 0) → s ≡ set-of (first (heads (g .sig) k)) (heads (g .sig) k)
+    full-set s h = same-bits _ _ (λ i.
         h i
         ∙ ap (λ (n : ℕ). cond (ltb i n) 1 0) (g .decoded .head-count k l)
         ∙ one-is (ltb i (length (heads (g .sig) k)))
         ∙ ap one-if (sym (memb-run i run-of))
-        ∙ sym (bit-mask (first (heads (g .sig) k)) i (heads (g .sig) k) within-kind))
+        ∙ sym (bit-set-of (first (heads (g .sig) k)) i (heads (g .sig) k) within-kind))
       where
         one-is : (b : Bool) → cond b 1 0 ≡ one-if b
         one-is true = refl
         one-is false = refl
+
+    -- of which there are as many as heads
+    pub sized-kind : Sized (g .sig) k
+    sized-kind = (
+      within-kind,
+      ap (λ (s : ℕ). length (members s)) (sym (full-set (2 ^ count-of t k - 1) (bit-below (count-of t k)))) ∙ size-below (count-of t k) (omega (arith, g .decoded .head-count k l, few-heads)) ∙ g .decoded .head-count k l,
+    )
 
   pub kind-there : (k c : ℕ) (ks : List ℕ) → arguments-at (g .sig) k c ≡ some ks → k < g .decoded .n
   kind-there k c ks e =
@@ -110,7 +121,7 @@ module _ {t : List ℕ} (g : Known t) where
       let z = kinds-kind (g .sig) (g .decoded .n) c (q .0) (g .decoded .kinds-are) (q .1) in
       omega (arith, z, eqb-eq (q .0 .kind) k (q .2))
 
-  pub known-head : (k c : ℕ) (ks : List ℕ) → arguments-at (g .sig) k c ≡ some ks → KnownHead (kinds-of (g .sig)) t k c
+  pub known-head : (k c : ℕ) (ks : List ℕ) → arguments-at (g .sig) k c ≡ some ks → HeadOfKind (kinds-of (g .sig)) t k c
   known-head k c ks e =
       let l = kind-there k c ks e in
       let b = run-bounds c (run-of k l) (has-kind (g .sig) k c ks e) in

@@ -12,13 +12,13 @@ use Rattle.signature.proofs.Tests.{times-less, true≢false}
 use Rattle.rowlist.specs.Next.{GivenNext, GivenNextMinus, GivenNextAt, next-made, next-rows, Short}
 use Rattle.rowlist.specs.Grow.{words-list, ListFirst, GivenGrow, GivenAppends, Filled, grown, appends, grown-room, appends-room}
 use Rattle.rowlist.specs.Product.{Product}
-use Rattle.cell.specs.RowList.{from, Begins}
+use Rattle.cell.specs.RowList.{from, WrittenFirst}
 use Rattle.rowlist.proofs.Products.{no-list}
 use Rattle.rowlist.proofs.Growing.{appends-small}
 use Rattle.rowlist.proofs.Products.{end-word}
 use Rattle.cell.proofs.Walk.{back, part-back, back-length, from-is, each-append}
 
--- ---- the room
+-- the room
 pub appends-le : (v : List ℕ) (ws : List (List ℕ)) (a j : ℕ) → length v ≤ a → Short j ws → appends-room v ws ≤ length ws * (1 + (a + j))
 appends-le v [] a j h s = omega arith
 appends-le v (w ∷ ws) a j h s = rw (suc-mul (length ws) (1 + (a + j))) (omega (arith, appends-le v ws a j h (s .1), s .0))
@@ -98,8 +98,8 @@ module _ {lists : List ℕ} {at : ℕ} (tag full : ℕ) (o : List ℕ) (g : Give
           },
         )
 
-    module _ (m k : ℕ) (ys : List ℕ) (e : k ≡ length (from o₁ n)) (l : length ys ≡ length (from o₁ n)) (f' : (q : GivenAppends (from lists 1) (getD lists 0 0) (from lists at) k) → Begins (words-list (appends (q .left .row) (q .right .rows))) m ys) where
-      made-first : Begins (words-list (appends (g .v) (g .next .right .rows))) m ys
+    module _ (m k : ℕ) (ys : List ℕ) (e : k ≡ length (from o₁ n)) (l : length ys ≡ length (from o₁ n)) (f' : (q : GivenAppends (from lists 1) (getD lists 0 0) (from lists at) k) → WrittenFirst (words-list (appends (q .left .row) (q .right .rows))) m ys) where
+      made-first : WrittenFirst (words-list (appends (g .v) (g .next .right .rows))) m ys
       unfolding first-given
       made-first = f' (first-given k e .1)
 
@@ -114,14 +114,14 @@ module _ {lists : List ℕ} {at : ℕ} (tag full : ℕ) (o : List ℕ) (g : Give
           let A = words-list (grown (g .next .left .rows) (W ∷ [])) in
           let B = words-list (appends (g .v) (g .next .right .rows)) in
           let t : take n o₁ ≡ A = sym (take-take n (n + 1) o₁ (omega arith)) ∙ ap (take n) (made-wild .list) ∙ take-at A (0 ∷ []) n (sym (made-wild .size)) in
-          let b : Begins (A ++ B) (n + m) (back o₁ n ys) = (simp length-append (omega (arith, made-wild .size, made-first .0)), part-back o₁ ys A B (drop (length o₁ - n) (drop n o₁)) n m (first-given k e .0) t made-first) in
+          let b : WrittenFirst (A ++ B) (n + m) (back o₁ n ys) = (simp length-append (omega (arith, made-wild .size, made-first .0)), part-back o₁ ys A B (drop (length o₁ - n) (drop n o₁)) n m (first-given k e .0) t made-first) in
           let r : words-list (next-rows false W (g .next .left .rows) (g .next .right .rows)) ≡ A ++ B =
           ap (λ (l : List (List ℕ)). words-list (next-rows false W l (g .next .right .rows))) (g .first)
           ∙ each-append (λ (w : List ℕ). w) (grown (g .v ∷ g .vs) (W ∷ [])) (appends (g .v) (g .next .right .rows))
           ∙ ap (λ (l : List (List ℕ)). words-list (grown l (W ∷ [])) ++ B) (sym (g .first)) in
           subst (λ (l : List ℕ). Product l (n + m) (set (back o₁ n ys) (n + m) 0)) (sym r) (end-word (back o₁ n ys) (A ++ B) (n + m) b minus-end)
 
--- ---- by the side
+-- by the side
 module _ (lists : List ℕ) (at k : ℕ) where
   pub at-plus : (b : Bool) → b ≡ true → GivenNextAt b lists at k → GivenNext lists at k
   at-plus true e g = g

@@ -13,7 +13,7 @@ use lib.Seq.{drop-at, take-at}
 use Rattle.rowlist.specs.Grow.{words-list}
 use Rattle.rowlist.specs.Next.{GivenOthers, others-code}
 use Rattle.rowlist.specs.Product.{Product}
-use Rattle.cell.specs.RowList.{from, Begins}
+use Rattle.cell.specs.RowList.{from, WrittenFirst}
 use Rattle.cell.proofs.Walk.{from-is}
 
 code-short : (tag rest : ℕ) → length (others-code tag rest) ≤ 4
@@ -24,10 +24,10 @@ code-short tag rest = go (eqb rest 0)
     go false = omega arith
 
 -- the row of the other heads
-pub no-other : (tag rest : ℕ) (o : List ℕ) → rest ≡ 0 → Begins (others-code tag rest) 0 o
+pub no-other : (tag rest : ℕ) (o : List ℕ) → rest ≡ 0 → WrittenFirst (others-code tag rest) 0 o
 no-other tag rest o z = rw z (refl, refl)
 
-pub some-other : (tag rest : ℕ) (o : List ℕ) → ¬ (rest ≡ 0) → 4 ≤ length o → Begins (others-code tag rest) 4 (set (set (set (set o 0 3) 1 tag) 2 0) 3 rest)
+pub some-other : (tag rest : ℕ) (o : List ℕ) → ¬ (rest ≡ 0) → 4 ≤ length o → WrittenFirst (others-code tag rest) 4 (set (set (set (set o 0 3) 1 tag) 2 0) 3 rest)
 some-other tag rest o z h = rw (ne-eqb rest 0 z) (refl, four o h)
   where
     four : (o : List ℕ) → 4 ≤ length o → take 4 (set (set (set (set o 0 3) 1 tag) 2 0) 3 rest) ≡ 3 ∷ (tag ∷ (0 ∷ (rest ∷ [])))
@@ -82,7 +82,7 @@ module _ {used : ℕ} {o : List ℕ} {m : ℕ} (g : GivenOthers used o m) where
       omega (arith, left-is),
     )
 
-    pub others-made : (tag rest n : ℕ) (o₁ o' : List ℕ) → Begins (others-code tag rest) n o₁ → take (n + (used + 1 - (getD w 0 0 + 1))) o' ≡ take n o₁ ++ take (used + 1 - (getD w 0 0 + 1)) (from w (getD w 0 0 + 1))
+    pub others-made : (tag rest n : ℕ) (o₁ o' : List ℕ) → WrittenFirst (others-code tag rest) n o₁ → take (n + (used + 1 - (getD w 0 0 + 1))) o' ≡ take n o₁ ++ take (used + 1 - (getD w 0 0 + 1)) (from w (getD w 0 0 + 1))
         → Product (others-code tag rest ++ words-list (g .vs)) (n + (used + 1 - (getD w 0 0 + 1)) - 1) o'
     others-made tag rest n o₁ o' b e =
         let i : n + (used + 1 - (getD w 0 0 + 1)) - 1 + 1 ≡ n + (used + 1 - (getD w 0 0 + 1)) = omega (arith, left-is) in

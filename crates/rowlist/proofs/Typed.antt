@@ -8,11 +8,11 @@ use lib.Dec.{eqb}
 use Rattle.signature.specs.Lists.{require, _>>=_, is-empty, memb, keep, somes}
 use Rattle.signature.proofs.Tests.{eqb-eq}
 use Rattle.cell.specs.Cell.{Kinds}
-use Rattle.cell.specs.Coded.{Typed, Known, Typeds}
-use Rattle.cell.specs.Mask.{Within}
-use Rattle.rowlist.specs.Product.{Typed-all}
+use Rattle.cell.specs.Coded.{Typed, HeadOfKind, Typeds}
+use Rattle.sets.specs.Set.{Within}
+use Rattle.rowlist.specs.Product.{AllTyped}
 use Rattle.row.specs.Row.{Row, Rows, named, rcons, free, combines, combine, rnil, each}
-use Rattle.cell.proofs.Masks.{within-keep}
+use Rattle.sets.proofs.ListSets.{within-keep}
 
 -- each row that is there has it
 abbrev pub If-some : {A : Type 0} → (A → Type 0) → Option A → Type 0
@@ -24,7 +24,7 @@ module _ (K : Kinds) (ar : List ℕ) where
   typed-require true t k h = h
   typed-require false t k h = tt
 
-  typed-named : (zs : List ℕ) (c k : ℕ) (m : Option Rows) → Known K ar k c → If-some (λ ts. Typeds K ar ts (K .args c)) m → If-some (λ t. Typed K ar t k) (m >>= λ ts. some (named zs c ts))
+  typed-named : (zs : List ℕ) (c k : ℕ) (m : Option Rows) → HeadOfKind K ar k c → If-some (λ ts. Typeds K ar ts (K .args c)) m → If-some (λ t. Typed K ar t k) (m >>= λ ts. some (named zs c ts))
   typed-named zs c k none h t = tt
   typed-named zs c k (some ts) h t = (h, t)
 
@@ -38,7 +38,7 @@ module _ (K : Kinds) (ar : List ℕ) where
   typed-free zs [] k l w = tt
   typed-free zs (e ∷ es) k l w = (l, refl, w)
 
-  typed-nn : (b : Bool) (zs : List ℕ) (c d k : ℕ) (rs ss : Rows) → eqb c d ≡ b → Known K ar k c → Typeds K ar rs (K .args c) → Typeds K ar ss (K .args d)
+  typed-nn : (b : Bool) (zs : List ℕ) (c d k : ℕ) (rs ss : Rows) → eqb c d ≡ b → HeadOfKind K ar k c → Typeds K ar rs (K .args c) → Typeds K ar ss (K .args d)
       → ((ks : List ℕ) → Typeds K ar rs ks → Typeds K ar ss ks → If-some (λ ts. Typeds K ar ts ks) (combines rs ss))
       → If-some (λ t. Typed K ar t k) (require b >>= λ u. combines rs ss >>= λ ts. some (named zs c ts))
   typed-nn true zs c d k rs ss e h t u ih =
@@ -59,18 +59,18 @@ module _ (K : Kinds) (ar : List ℕ) where
     typed-combines (rcons r rs) (rcons s ss) [] t u = absurd t
     typed-combines (rcons r rs) (rcons s ss) (k ∷ ks) t u = typed-cons k ks (combine r s) (combines rs ss) (typed-combine r s k (t .0) (u .0)) (typed-combines rs ss ks (t .1) (u .1))
 
-  pub typed-append : (k : ℕ) (rs ss : List Row) → Typed-all K ar k rs → Typed-all K ar k ss → Typed-all K ar k (rs ++ ss)
+  pub typed-append : (k : ℕ) (rs ss : List Row) → AllTyped K ar k rs → AllTyped K ar k ss → AllTyped K ar k (rs ++ ss)
   typed-append k [] ss t u = u
   typed-append k (r ∷ rs) ss t u = (t .0, typed-append k rs ss (t .1) u)
 
-  typed-somes : (k : ℕ) (m : Option Row) (ms : List (Option Row)) → If-some (λ t. Typed K ar t k) m → Typed-all K ar k (somes ms) → Typed-all K ar k (somes (m ∷ ms))
+  typed-somes : (k : ℕ) (m : Option Row) (ms : List (Option Row)) → If-some (λ t. Typed K ar t k) m → AllTyped K ar k (somes ms) → AllTyped K ar k (somes (m ∷ ms))
   typed-somes k none ms h t = t
   typed-somes k (some r) ms h t = (h, t)
 
-  typed-ones : (k : ℕ) (r : Row) (ss : List Row) (more : List (Option Row)) → Typed K ar r k → Typed-all K ar k ss → Typed-all K ar k (somes more) → Typed-all K ar k (somes (map (combine r) ss ++ more))
+  typed-ones : (k : ℕ) (r : Row) (ss : List Row) (more : List (Option Row)) → Typed K ar r k → AllTyped K ar k ss → AllTyped K ar k (somes more) → AllTyped K ar k (somes (map (combine r) ss ++ more))
   typed-ones k r [] more t u v = v
   typed-ones k r (s ∷ ss) more t u v = typed-somes k (combine r s) (map (combine r) ss ++ more) (typed-combine r s k t (u .0)) (typed-ones k r ss more t (u .1) v)
 
-  pub typed-each : (k : ℕ) (rs ss : List Row) → Typed-all K ar k rs → Typed-all K ar k ss → Typed-all K ar k (somes (each combine rs ss))
+  pub typed-each : (k : ℕ) (rs ss : List Row) → AllTyped K ar k rs → AllTyped K ar k ss → AllTyped K ar k (somes (each combine rs ss))
   typed-each k [] ss t u = tt
   typed-each k (r ∷ rs) ss t u = typed-ones k r ss (each combine rs ss) (t .0) u (typed-each k rs ss (t .1) u)

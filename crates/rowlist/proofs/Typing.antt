@@ -15,13 +15,13 @@ use Rattle.pattern.specs.Pattern.{Pattern, head, and, or, wild, absurd-pat, neg
 use Rattle.pattern.specs.WellFormed.{WellFormed, well-head, well-and, well-or, well-not, AllWellFormed, well-nil, well-cons}
 use Rattle.rowlist.specs.Sides.{rows-of}
 use Rattle.cell.specs.Coded.{kinds-of, Typed, Typeds}
-use Rattle.cell.specs.Mask.{Within}
-use Rattle.rowlist.specs.Product.{Typed-all}
+use Rattle.sets.specs.Set.{Within}
+use Rattle.rowlist.specs.Product.{AllTyped}
 use Rattle.row.specs.Row.{named, free, rcons, each, other-than, open-row, open-rows, rows-plus, rows-minus, args-plus, args-minus}
 use Rattle.cell.specs.RowList.{Every}
 use Rattle.rowlist.proofs.Typed.{typed-each, typed-append}
 use Rattle.rowlist.proofs.Kinded.{known-head, open-kind, kinds-same}
-use Rattle.cell.proofs.Masks.{within-keep}
+use Rattle.sets.proofs.ListSets.{within-keep}
 
 pub every-append : {A : Type 0} (P : A → Type 0) (xs ys : List A) → Every P xs → Every P ys → Every P (xs ++ ys)
 every-append P [] ys h g = g
@@ -49,15 +49,15 @@ module _ {t : List ℕ} (g : Known t) where
   typed-opens [] none-left = tt
   typed-opens (k ∷ ks) (also j l h) = (typed-open k l, typed-opens ks h)
 
-  typed-other : (k c : ℕ) → k < g .decoded .n → Typed-all (kinds-of (g .sig)) t k (other-than (g .sig) k c)
+  typed-other : (k c : ℕ) → k < g .decoded .n → AllTyped (kinds-of (g .sig)) t k (other-than (g .sig) k c)
   typed-other k c l = go (keep (λ d. not (eqb c d)) (heads (g .sig) k)) (within-keep _ (λ d. not (eqb c d)) (heads (g .sig) k) (open-kind g k l .within))
     where
-      go : (cs : List ℕ) → Within (kinds-of (g .sig) .first k) cs → Typed-all (kinds-of (g .sig)) t k (cond (is-empty cs) [] (free [] cs ∷ []))
+      go : (cs : List ℕ) → Within (kinds-of (g .sig) .first k) cs → AllTyped (kinds-of (g .sig)) t k (cond (is-empty cs) [] (free [] cs ∷ []))
       go [] w = tt
       go (d ∷ ds) w = ((open-kind g k l .kind, refl, w), tt)
 
   mutual
-    pub typed-rows : (p : Pattern) (b : Bool) (k : ℕ) → k < g .decoded .n → WellFormed (g .sig) k p → Typed-all (kinds-of (g .sig)) t k (rows-of (g .sig) k b p)
+    pub typed-rows : (p : Pattern) (b : Bool) (k : ℕ) → k < g .decoded .n → WellFormed (g .sig) k p → AllTyped (kinds-of (g .sig)) t k (rows-of (g .sig) k b p)
     typed-rows (head c ps) true k l (well-head {ks = ks} i e h) =
         rw (args-same (g .sig) k c ks e)
         (every-map (λ rs. Typeds (kinds-of (g .sig)) t rs ks) (λ r. Typed (kinds-of (g .sig)) t r k) (named [] c) (λ rs a. (known-head g k c ks e, rw (args-same (g .sig) k c ks e) a)) (args-plus (g .sig) ks ps) (typed-args-plus ps ks (args-there k c ks e) h))

@@ -8,6 +8,7 @@ use lib.ListN.{length}
 use Rattle.pattern.specs.Limits.{part-weight-limit}
 use Rattle.rowlist.specs.Grow.{appends, grown, ListFirst, words-list}
 use Rattle.rowlist.specs.Product.{Product}
+use Rattle.cell.specs.Cell.{cell-width}
 use Rattle.cell.specs.RowList.{Every, from}
 
 -- one argument: more rows than a part may weigh are none, since an argument that is still to come has none
@@ -38,7 +39,7 @@ pub record GivenNextMinus (lists : List ℕ) (at k : ℕ) : Type 0 where
   pub v : List ℕ
   pub vs : List (List ℕ)
   pub first : next .left .rows ≡ v ∷ vs
-  pub cell : 3 ≤ next .j
+  pub cell : cell-width ≤ next .j
   pub few : length (next .left .rows) + length (next .right .rows) ≤ part-weight-limit
 
 -- what is asked on the side b
@@ -52,12 +53,12 @@ next-made false tag full lists at k g = words-list (next-rows false (tag ∷ (0 
 
 -- "not C": the row of the other heads, if there are any
 abbrev pub others-code : ℕ → ℕ → List ℕ
-others-code tag rest = cond (eqb rest 0) [] (3 ∷ (tag ∷ (0 ∷ (rest ∷ []))))
+others-code tag rest = cond (eqb rest 0) [] (cell-width ∷ (tag ∷ (0 ∷ (rest ∷ []))))
 
 -- a list whose first row, of a cell or more, goes
 pub record GivenOthers (used : ℕ) (o : List ℕ) (m : ℕ) : Type 0 where
   pub v : List ℕ
   pub vs : List (List ℕ)
   pub list : Product (words-list (v ∷ vs)) used o
-  pub cell : 3 ≤ length v
+  pub cell : cell-width ≤ length v
   pub room : used + 1 ≤ m

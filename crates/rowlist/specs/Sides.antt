@@ -6,8 +6,8 @@ use Prim.Native.Nat.{ℕ, _<_, _+_}
 use Rattle.signature.specs.Lists.{is-empty}
 use Rattle.signature.specs.Signature.{Signature, heads}
 use Rattle.pattern.specs.Pattern.{Pattern}
-use Rattle.cell.specs.Cell.{Kinds}
-use Rattle.cell.specs.Mask.{Within, mask}
+use Rattle.cell.specs.Cell.{Kinds, kind-tag}
+use Rattle.sets.specs.Set.{Within, set-of}
 use Rattle.row.specs.Row.{Row, rows-plus, rows-minus}
 
 abbrev pub rows-of : Signature → ℕ → Bool → Pattern → List Row
@@ -19,5 +19,5 @@ pub record Open (K : Kinds) (sig : Signature) (k tag full : ℕ) : Type 0 where
   pub kind : k < 256
   pub some : is-empty (heads sig k) ≡ false
   pub within : Within (K .first k) (heads sig k)
-  pub tag-is : tag ≡ 256 + k
-  pub full-is : full ≡ mask (K .first k) (heads sig k)
+  pub tag-is : tag ≡ kind-tag + k
+  pub full-is : full ≡ set-of (K .first k) (heads sig k)

@@ -3,7 +3,7 @@ ghost use mathlib.Core.Path.{_≡_};
 ghost use mathlib.Core.List.{[], _∷_, _++_};
 ghost use Prim.Native.Nat.{_+_, _≤_};
 ghost use lib.ListN.{length, take};
-ghost use Rattle.cell.specs.RowList.{Begins, from};
+ghost use Rattle.cell.specs.RowList.{WrittenFirst, from};
 ghost use Rattle.rowlist.specs.Product.{Product};
 ghost use Rattle.rowlist.specs.Grow.{words-list, ListFirst, GivenAppend, GivenAppends, GivenGrow, appends, grown};
 
@@ -22,7 +22,7 @@ pub fn copy(x: &[u64], n: usize, out: &mut [u64], at: usize)
 // The row of n words at the front of x and that of m words at the front of y as one row of a list.
 fn append(x: &[u64], n: usize, y: &[u64], m: usize, out: &mut [u64]) -> usize
     requires { ⌜ GivenAppend (now x) n (now y) m (length (now out)) ⌝ }
-    ensures { λ r. ⌜ ((g : GivenAppend (now (x .entry)) n (now (y .entry)) m (length (now (out .entry)))) → Begins (words-list ((g .left .row ++ g .right .row) ∷ [])) r (now (out .exit))) ⌝ }
+    ensures { λ r. ⌜ ((g : GivenAppend (now (x .entry)) n (now (y .entry)) m (length (now (out .entry)))) → WrittenFirst (words-list ((g .left .row ++ g .right .row) ∷ [])) r (now (out .exit))) ⌝ }
 {
     copy(x, n, out, 1);
     let from = 1 + n;
@@ -34,7 +34,7 @@ fn append(x: &[u64], n: usize, y: &[u64], m: usize, out: &mut [u64]) -> usize
 // Each row of the list y behind the row of n words at the front of x.
 pub(crate) fn append_all(x: &[u64], n: usize, y: &[u64], out: &mut [u64]) -> usize
     requires { ⌜ GivenAppends (now x) n (now y) (length (now out)) ⌝ }
-    ensures { λ r. ⌜ ((g : GivenAppends (now (x .entry)) n (now (y .entry)) (length (now (out .entry)))) → Begins (words-list (appends (g .left .row) (g .right .rows))) r (now (out .exit))) ⌝ }
+    ensures { λ r. ⌜ ((g : GivenAppends (now (x .entry)) n (now (y .entry)) (length (now (out .entry)))) → WrittenFirst (words-list (appends (g .left .row) (g .right .rows))) r (now (out .exit))) ⌝ }
 {
     let mut used = 0;
     let mut at = 0;

@@ -3,16 +3,17 @@ use crate::grow::append_all;
 use crate::grow::append_each;
 use crate::grow::copy;
 use crate::grow::count;
+use cell::cell::CELL;
+use pattern::limits::PART_WEIGHT;
+use sets::set::size;
 ghost use mathlib.Core.List.{[], _∷_, _++_};
 ghost use mathlib.Core.Bool.{true, false};
 ghost use Prim.Native.Nat.{_≤_};
 ghost use lib.ListN.{length};
-ghost use Rattle.cell.specs.RowList.{Begins};
+ghost use Rattle.cell.specs.RowList.{WrittenFirst};
 ghost use Rattle.rowlist.specs.Next.{GivenNext, GivenNextMinus, GivenNextAt, next-made, next-rows, GivenOthers, others-code};
 ghost use Rattle.rowlist.specs.Grow.{words-list};
 ghost use Rattle.rowlist.specs.Product.{Product};
-
-pub const PART_WEIGHT: usize = 64;
 
 // Each row with each row of the argument behind it; none where there would be more than a part may weigh, for then an argument that is still to come has none.
 fn next_plus(lists: &[u64], at: usize, out: &mut [u64]) -> usize
@@ -21,7 +22,7 @@ fn next_plus(lists: &[u64], at: usize, out: &mut [u64]) -> usize
 {
     let m = count(lists);
     let n = count(&lists[at..]);
-    if m * n > PART_WEIGHT {
+    if m * n > PART_WEIGHT as usize {
         out[0] = 0;
         return 0;
     }
@@ -33,7 +34,7 @@ fn next_minus(tag: u64, full: u64, lists: &[u64], at: usize, out: &mut [u64]) ->
     requires { ⌜ GivenNextMinus (now lists) at (length (now out)) ⌝ }
     ensures { λ r. ⌜ ((g : GivenNextMinus (now (lists .entry)) at (length (now (out .entry)))) → Product (words-list (next-rows false (tag ∷ (0 ∷ (full ∷ []))) (g .next .left .rows) (g .next .right .rows))) r (now (out .exit))) ⌝ }
 {
-    let wild: [u64; 5] = [3, tag, 0, full, 0];
+    let wild: [u64; 5] = [CELL as u64, tag, 0, full, 0];
     let n = append_each(lists, &wild, out);
     let first = lists[0] as usize;
     let m = append_all(&lists[1..], first, &lists[at..], &mut out[n..]);
@@ -63,12 +64,12 @@ pub fn next_rows(
 // The row of the other heads first in out, if there are any; how many words.
 fn other_row(tag: u64, rest: u64, out: &mut [u64]) -> usize
     requires { ⌜ 4 ≤ length (now out) ⌝ }
-    ensures { λ r. ⌜ Begins (others-code tag rest) r (now (out .exit)) ⌝ }
+    ensures { λ r. ⌜ WrittenFirst (others-code tag rest) r (now (out .exit)) ⌝ }
 {
-    if rest == 0 {
+    if size(rest) == 0 {
         return 0;
     }
-    out[0] = 3;
+    out[0] = CELL as u64;
     out[1] = tag;
     out[2] = 0;
     out[3] = rest;

@@ -4,15 +4,26 @@ ghost use mathlib.Core.Path.{_≡_};
 ghost use Prim.Native.Nat.{ℕ, _<_, _≤_, min, max};
 ghost use lib.Dec.{eqb, ltb};
 ghost use lib.ListN.{length};
-ghost use Rattle.signature.specs.Set.{set-limit, bit, members, Lowest};
+ghost use Rattle.sets.specs.Set.{set-limit, bit, members, Lowest};
 
 pub const SET_LIMIT: u32 = 64;
+
+// The set of all numbers.
+pub const ALL: u64 = 18446744073709551615;
 
 pub fn has(s: u64, i: u32) -> bool
     requires { ⌜ i < set-limit ⌝ }
     ensures { λ r. ⌜ r ≡ eqb (bit s i) 1 ⌝ }
 {
     (s >> i) & 1 == 1
+}
+
+// The set of one number.
+pub fn only(i: u32) -> u64
+    requires { ⌜ i < set-limit ⌝ }
+    ensures { λ r. ⌜ ((j : ℕ) → bit r j ≡ cond (eqb j i) 1 0) ⌝ }
+{
+    1 << i
 }
 
 pub fn with(s: u64, i: u32) -> u64
@@ -42,7 +53,7 @@ pub fn join(a: u64, b: u64) -> u64
 }
 
 pub fn size(s: u64) -> u32
-    ensures { λ r. ⌜ r ≡ length (members s) ⌝ }
+    ensures { λ r. ⌜ (r ≡ length (members s)) × (r ≡ 0 → (j : ℕ) → bit s j ≡ 0) ⌝ }
 {
     u64::count_ones(s)
 }
@@ -60,7 +71,7 @@ pub fn full(n: u32) -> u64
     ensures { λ r. ⌜ ((j : ℕ) → bit r j ≡ cond (ltb j n) 1 0) ⌝ }
 {
     if n == SET_LIMIT {
-        return !0;
+        return ALL;
     }
     (1 << n) - 1
 }

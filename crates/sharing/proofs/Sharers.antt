@@ -133,10 +133,10 @@ module _ {t table rows : List ℕ} {at n : ℕ} (g : GivenSharer t table rows at
             q = q .pat;
             words-p = pattern-words (g .force .known .sig) (g .ws) (g .p) (g .read);
             words-q = pattern-words (g .force .known .sig) (step .rule .pattern) (q .pat) (q .read);
-            restX = g .rest′;
-            restY = rest;
-            codeX = g .last ∙ ap (λ z. z ++ g .rest′) (list-is (g .ws) (g .p) (g .read));
-            codeY = from-is rows (j + 1) ∙ first .2 ∙ ap (λ z. z ++ rest) (list-is (step .rule .pattern) (q .pat) (q .read));
+            rest-x = g .rest′;
+            rest-y = rest;
+            code-x = g .last ∙ ap (λ z. z ++ g .rest′) (list-is (g .ws) (g .p) (g .read));
+            code-y = from-is rows (j + 1) ∙ first .2 ∙ ap (λ z. z ++ rest) (list-is (step .rule .pattern) (q .pat) (q .read));
           }
 
       -- in a turn the slice is as it was

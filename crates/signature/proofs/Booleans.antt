@@ -154,3 +154,9 @@ or-turn false false c = refl
 pub not-of : (b : Bool) → (b ≡ true → ⊥) → not b ≡ true
 not-of true f = absurd (f refl)
 not-of false f = refl
+
+-- each gives the other
+pub both-ways : (a b : Bool) → (a ≡ true → b ≡ true) → (b ≡ true → a ≡ true) → a ≡ b
+both-ways true b f g = sym (f refl)
+both-ways false true f g = g refl
+both-ways false false f g = refl

@@ -8,7 +8,6 @@ pub mod LeastValue
 pub mod ListFacts
 pub mod Members
 pub mod PartFacts
-pub mod SetLaws
 pub mod SignatureBack
 pub mod Tests
 pub mod Values

@@ -9,4 +9,3 @@ pub mod Part
 pub mod Decoded
 pub mod Laws
 pub mod Cases
-pub mod Set

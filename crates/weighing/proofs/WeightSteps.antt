@@ -15,7 +15,8 @@ use Rattle.pattern.specs.Given.{Opens}
 use Rattle.pattern.specs.Limits.{part-weight-limit}
 use Rattle.pattern.specs.Pattern.{Pattern, Patterns, pnil, pcons, head, and, or, wild, absurd-pat, neg, var, pattern-code, patterns-code}
 use Rattle.pattern.specs.Read.{Form, form}
-use Rattle.pattern.specs.Side.{Side, plus, minus, other, weight-at, light-at, light-all}
+use Rattle.pattern.specs.Side.{Side, plus, minus, other, weight-at, light-at}
+use Rattle.pattern.proofs.Sides.{light-all}
 use Rattle.pattern.specs.Weight.{weight-plus, weight-minus, product-plus, sum-minus}
 use Rattle.weighing.specs.Weighing.{weighed, part-weighed, head-at, op-of, joined, over-weight}
 use Rattle.pattern.specs.Word.{part-count}

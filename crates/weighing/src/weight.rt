@@ -1,6 +1,8 @@
 // The weight of a pattern, and whether each part, at the side on which it stands, weighs at most 64 (refusal 9).
+use pattern::limits::PART_WEIGHT;
 use pattern::token::Word;
 use pattern::token::classify;
+use pattern::token::own_words;
 use pattern::token::parts;
 ghost use mathlib.Core.Path.{_≡_};
 ghost use Prim.Native.Nat.{_≤_, min};
@@ -9,8 +11,6 @@ ghost use Rattle.pattern.specs.Limits.{part-weight-limit};
 ghost use Rattle.pattern.specs.Side.{plus, minus};
 ghost use Rattle.weighing.specs.Weighing.{weighed, part-weighed, head-at, joined, over-weight};
 ghost use Rattle.pattern.specs.Word.{form-of};
-
-pub const PART_WEIGHT: u16 = 64;
 
 // What stands for every weight over 64, so that no product wraps.
 pub const OVER_WEIGHT: u16 = 65;
@@ -84,15 +84,16 @@ fn weigh_plus(t: &[u16], p: &[u16]) -> Part
     ensures { λ r. ⌜ ((g : Opens (now (t .entry)) (now (p .entry))) → r ≡ part-weighed plus (g .pattern)) ⌝ }
 {
     let w = classify(p[0]);
+    let own = own_words(w);
     let Head::Parts(start, times) = plus_head(w) else {
-        let Part::Is(a, used) = weigh_minus(t, &p[1..]) else {
+        let Part::Is(a, used) = weigh_minus(t, &p[own..]) else {
             return Part::TooHeavy;
         };
-        return Part::Is(a, 1 + used);
+        return Part::Is(a, own + used);
     };
     let count = parts(t, w);
     let mut n = start;
-    let mut at = 1;
+    let mut at = own;
     let mut i = 0;
     while i < count {
         let Part::Is(m, used) = weigh_plus(t, &p[at..]) else {
@@ -114,15 +115,16 @@ fn weigh_minus(t: &[u16], p: &[u16]) -> Part
     ensures { λ r. ⌜ ((g : Opens (now (t .entry)) (now (p .entry))) → r ≡ part-weighed minus (g .pattern)) ⌝ }
 {
     let w = classify(p[0]);
+    let own = own_words(w);
     let Head::Parts(start, times) = minus_head(w) else {
-        let Part::Is(a, used) = weigh_plus(t, &p[1..]) else {
+        let Part::Is(a, used) = weigh_plus(t, &p[own..]) else {
             return Part::TooHeavy;
         };
-        return Part::Is(a, 1 + used);
+        return Part::Is(a, own + used);
     };
     let count = parts(t, w);
     let mut n = start;
-    let mut at = 1;
+    let mut at = own;
     let mut i = 0;
     while i < count {
         let Part::Is(m, used) = weigh_minus(t, &p[at..]) else {

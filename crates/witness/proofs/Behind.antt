@@ -11,8 +11,8 @@ use Rattle.signature.specs.Value.{Value, Values, vnil, vcons, code, codes, size
 use Rattle.row.specs.Limits.{place-words}
 use Rattle.row.specs.Row.{Row, Rows, named, free, rnil, rcons}
 use Rattle.row.specs.RowFits.{Goods, goods-nil, goods-cons, place-count, places-count, rows-fit}
-use Rattle.cell.specs.Cell.{Kinds, words, wordss}
-use Rattle.cell.specs.Coded.{cells, cellss}
+use Rattle.cell.specs.Cell.{Kinds, words, all-words}
+use Rattle.cell.specs.Coded.{cells, all-cells}
 use Rattle.witness.specs.Fill.{Taken}
 
 infixr 40 _behind_
@@ -49,10 +49,10 @@ module _ {sig : Signature} where
   count-goods goods-nil = refl
   count-goods (goods-cons g gs) = ap suc (count-goods gs)
 
-  pub words-behind : (K : Kinds) {js : List ℕ} (ks : List ℕ) {rs : Rows} (ss : Rows) → Goods sig js rs → wordss (cellss K (rs behind ss) (js ++ ks)) ≡ wordss (cellss K rs js) ++ wordss (cellss K ss ks)
+  pub words-behind : (K : Kinds) {js : List ℕ} (ks : List ℕ) {rs : Rows} (ss : Rows) → Goods sig js rs → all-words (all-cells K (rs behind ss) (js ++ ks)) ≡ all-words (all-cells K rs js) ++ all-words (all-cells K ss ks)
   words-behind K ks ss goods-nil = refl
   words-behind K ks ss (goods-cons {k = k} {ks = js} {r = r} {rs = rs} g gs) =
-      ap (λ (l : List ℕ). words (cells K r k) ++ l) (words-behind K ks ss gs) ∙ sym (append-assoc (words (cells K r k)) (wordss (cellss K rs js)) (wordss (cellss K ss ks)))
+      ap (λ (l : List ℕ). words (cells K r k) ++ l) (words-behind K ks ss gs) ∙ sym (append-assoc (words (cells K r k)) (all-words (all-cells K rs js)) (all-words (all-cells K ss ks)))
 
 -- a value for each
 pub data Takens (sig : Signature) : List ℕ → Rows → Values → Type 0 where

@@ -19,30 +19,21 @@ use Rattle.signature.proofs.ListFacts.{first-of}
 use Rattle.signature.proofs.Members.{all-memb, all-self}
 use Rattle.signature.proofs.Tests.{eqb-self, eqb-eq, true≢false}
 use Rattle.signature.proofs.Values.{length-code, depth-size}
-use Rattle.pattern.specs.Limits.{pattern-limit}
 use Rattle.row.specs.Limits.{place-words}
 use Rattle.row.specs.Row.{Rows, named, free, rnil, rcons}
 use Rattle.row.specs.RowFits.{good-named, good-free, Goods, goods-nil, goods-cons, places-count}
-use Rattle.cell.specs.Cell.{wordss}
-use Rattle.cell.specs.Coded.{kinds-of, cellss, code as row-code}
-use Rattle.cell.specs.Cursor.{opensOf}
-use Rattle.cell.specs.Mask.{mask, Within}
+use Rattle.cell.specs.Cell.{all-words}
+use Rattle.cell.specs.Coded.{kinds-of, all-cells, row-code}
+use Rattle.cell.specs.Cursor.{opens-of}
+use Rattle.sets.specs.Set.{set-of, Within}
+use Rattle.sets.proofs.ListSets.{within-one}
 use Rattle.cell.specs.RowList.{from}
 use Rattle.cell.proofs.Columns.{three-at}
 use Rattle.cell.proofs.Walk.{from-is, back}
 use Rattle.rowlist.proofs.Kinded.{known-head, kind-there, within-kind}
-use Rattle.overlap.specs.Least.{GivenPlace, Placed}
+use Rattle.overlap.specs.Least.{GivenPlace, ValueWritten}
 use Rattle.witness.specs.Fill.{GivenRow, Taken, Filled}
 use Rattle.witness.proofs.Behind.{_behind_, count, count-places, places-behind, count-behind, goods-behind, count-goods, words-behind, Takens, takens-nil, takens-cons, together, split-values}
-
--- ---- the heads of a kind lie within a set
-within-one : (f d : ℕ) (hs : List ℕ) → Within f hs → memb d hs ≡ true → (f ≤ d) × (d < f + pattern-limit)
-within-one f d [] w h = true≢false (sym h)
-within-one f d (c ∷ hs) w h = go (eqb d c) refl (λ q. within-one f d hs (w .2) q)
-  where
-    go : (b : Bool) → eqb d c ≡ b → (memb d hs ≡ true → (f ≤ d) × (d < f + pattern-limit)) → (f ≤ d) × (d < f + pattern-limit)
-    go true q r = let z = eqb-eq d c q in (omega (arith, z, w .0), omega (arith, z, w .1))
-    go false q r = r (rw q at h)
 
 pub within-all : (f : ℕ) (hs : List ℕ) {cs : List ℕ} → Within f hs → All (λ d. memb d hs ≡ true) cs → Within f cs
 within-all f hs w none-left = tt
@@ -58,12 +49,12 @@ part-back o₀ o done v ys n m len l f =
     let no : drop (length o - n) (drop n o) ≡ [] = drop-of-length-le (drop n o) {i = length o - n} (omega (arith, length-drop n o)) in
     rw (ta, no, append-nil ys, yy) (sym (append-assoc done v (drop (n + m) o₀)))
 
--- ---- a place at which some heads of its kind are allowed
+-- a place at which some heads of its kind are allowed
 module _ {t : List ℕ} (g : Known t) (k d : ℕ) (cs : List ℕ) (h : All (λ c. memb c (heads (g .sig) k) ≡ true) (d ∷ cs)) where
   pub kind-here : k < g .decoded .n
   kind-here = let q = kind-of-head (g .sig) k d (first-of h) in kind-there g k d (q .0) (q .1)
 
-  unfoldable free-given : (kk al : ℕ) (p : List ℕ) → kk ≡ k → al ≡ mask (first (heads (g .sig) k)) (d ∷ cs) → place-words ≤ length p → GivenPlace t kk al p
+  unfoldable free-given : (kk al : ℕ) (p : List ℕ) → kk ≡ k → al ≡ set-of (first (heads (g .sig) k)) (d ∷ cs) → place-words ≤ length p → GivenPlace t kk al p
   free-given kk al p e f room = record {
     known = g;
     there = omega (arith, kind-here, e);
@@ -75,17 +66,17 @@ module _ {t : List ℕ} (g : Known t) (k d : ℕ) (cs : List ℕ) (h : All (λ c
     room = room;
   }
 
-  free-taken : (kk al m : ℕ) (xs p ys : List ℕ) (e : kk ≡ k) (f : al ≡ mask (first (heads (g .sig) k)) (d ∷ cs)) (room : place-words ≤ length p) → Placed (free-given kk al p e f room) m ys
+  free-taken : (kk al m : ℕ) (xs p ys : List ℕ) (e : kk ≡ k) (f : al ≡ set-of (first (heads (g .sig) k)) (d ∷ cs)) (room : place-words ≤ length p) → ValueWritten (free-given kk al p e f room) m ys
       → (v : Value) × Taken (g .sig) k (free xs (d ∷ cs)) v × (m ≡ size v) × (ys ≡ code v ++ drop m p)
   unfolding free-given
   free-taken kk al m xs p ys e f room P =
       let v : Value = con (P .c) (P .vs) in
       (v, record { kinded = rw e at (P .kinded); fits = P .may; few = omega (arith, P .small); deep = omega (arith, depth-size v, P .small) }, P .count, P .list)
 
--- ---- in the loop: done is written, and the rows still to come with their kinds
+-- in the loop: done is written, and the rows still to come with their kinds
 pub record Mid {t row o₀ : List ℕ} (g : GivenRow t row o₀) (i n left : ℕ) (o ks : List ℕ) (todo : Rows) : Type 0 where
   pub good : Goods (g .known .sig) ks todo
-  pub code-is : drop i row ≡ wordss (cellss (kinds-of (g .known .sig)) todo ks) ++ g .rest
+  pub code-is : drop i row ≡ all-words (all-cells (kinds-of (g .known .sig)) todo ks) ++ g .rest
   pub within : i ≤ length row
   pub left-is : left ≡ count todo
   pub done : List ℕ
@@ -153,7 +144,7 @@ module _ {t row o₀ : List ℕ} (g : GivenRow t row o₀) where
           rs behind todo,
           record {
             good = goods-behind gs G;
-            code-is = T .after ∙ ap (λ (l : List ℕ). l ++ g .rest) (ap (λ (is : List ℕ). wordss (cellss K rs is) ++ wordss (cellss K todo ks)) (args-same (g .known .sig) k c js e) ∙ sym (words-behind K ks todo gs));
+            code-is = T .after ∙ ap (λ (l : List ℕ). l ++ g .rest) (ap (λ (is : List ℕ). all-words (all-cells K rs is) ++ all-words (all-cells K todo ks)) (args-same (g .known .sig) k c js e) ∙ sym (words-behind K ks todo gs));
             within = T .room;
             left-is = omega (arith, M .left-is, count-behind rs todo, count-goods gs, ew);
             done = M .done ++ (c ∷ []);
@@ -202,21 +193,21 @@ module _ {t row o₀ : List ℕ} (g : GivenRow t row o₀) where
         let room : n + place-words ≤ length o = omega (arith, M .room, w) in
         record { see = T .room; whole = w; room = room; place = λ z. free-given (g .known) k d cs a _ _ (from o n) (omega (arith, T .one)) (T .three) (room-from o n room) }
 
-    turn-at : {ks : List ℕ} {todo : Rows} (w m : ℕ) (ys : List ℕ) → Goods (g .known .sig) ks todo → Mid g i n left o ks todo → 0 < left → w ≡ opensOf t (getD row i 0)
+    turn-at : {ks : List ℕ} {todo : Rows} (w m : ℕ) (ys : List ℕ) → Goods (g .known .sig) ks todo → Mid g i n left o ks todo → 0 < left → w ≡ opens-of t (getD row i 0)
         → (getD row i 0 < 256 → (m ≡ 1) × (ys ≡ getD row i 0 ∷ drop 1 (from o n)))
-        → (256 ≤ getD row i 0 → (q : GivenPlace t (getD row i 0 - 256) (getD row (i + 2) 0) (from o n)) → Placed q m ys) → Now g (i + 3) (n + m) (left - 1 + w) (back o n ys)
+        → (256 ≤ getD row i 0 → (q : GivenPlace t (getD row i 0 - 256) (getD row (i + 2) 0) (from o n)) → ValueWritten q m ys) → Now g (i + 3) (n + m) (left - 1 + w) (back o n ys)
     turn-at w m ys goods-nil M h ew N U = absurd (omega (arith, M .left-is))
     turn-at w m ys (goods-cons {k = k} {ks = ks} {rs = todo} (good-named {c = c} {xs = xs} {js = js} {rs = rs} e gs) G) M h ew N U =
         let T = three-at row i _ _ _ _ (M .code-is) in
         let K = known-head (g .known) k c js e in
         let q = N (omega (arith, T .one, K .tag)) in
-        named-turn k c xs ks js rs todo w m ys e gs G M (ew ∙ ap (opensOf t) (T .one) ∙ rw (lt-ltb c 256 (K .tag)) (K .arity ∙ ap length (args-same (g .known .sig) k c js e))) (q .0) (rw (T .one) at (q .1))
+        named-turn k c xs ks js rs todo w m ys e gs G M (ew ∙ ap (opens-of t) (T .one) ∙ rw (lt-ltb c 256 (K .tag)) (K .arity ∙ ap length (args-same (g .known .sig) k c js e))) (q .0) (rw (T .one) at (q .1))
     turn-at w m ys (goods-cons {k = k} {ks = ks} {rs = todo} (good-free {c = d} {xs = xs} {cs = cs} a) G) M h ew N U =
         let T = three-at row i _ _ _ _ (M .code-is) in
         let room : n + place-words ≤ length o = omega (arith, M .room, whole-at _ _ M) in
         let z : 256 ≤ getD row i 0 = omega (arith, T .one) in
         let (v, hv, em, ey) = free-taken (g .known) k d cs a _ _ m xs (from o n) ys (omega (arith, T .one)) (T .three) (room-from o n room) (U z (free-given (g .known) k d cs a _ _ (from o n) (omega (arith, T .one)) (T .three) (room-from o n room))) in
-        free-turn k xs (d ∷ cs) ks todo w m v ys G M hv (ew ∙ ap (opensOf t) (T .one) ∙ rw (le-ltb (256 + k) 256 (omega arith))) em ey
+        free-turn k xs (d ∷ cs) ks todo w m v ys G M hv (ew ∙ ap (opens-of t) (T .one) ∙ rw (le-ltb (256 + k) 256 (omega arith))) em ey
 
     pub front : Now g i n left o → 0 < left → Front g i n o
     front m h = front-at (m .2 .good) (m .2) h
@@ -225,7 +216,7 @@ module _ {t row o₀ : List ℕ} (g : GivenRow t row o₀) where
     pub few : Now g i n left o → (length o ≡ length o₀) × (n + left ≤ length o₀)
     few m = (whole-at (m .0) (m .1) (m .2), omega (arith, m .2 .room, m .2 .left-is, count-places (m .1)))
 
-    pub turn : (w m : ℕ) (ys : List ℕ) → Now g i n left o → 0 < left → w ≡ opensOf t (getD row i 0)
+    pub turn : (w m : ℕ) (ys : List ℕ) → Now g i n left o → 0 < left → w ≡ opens-of t (getD row i 0)
         → (getD row i 0 < 256 → (m ≡ 1) × (ys ≡ getD row i 0 ∷ drop 1 (from o n)))
-        → (256 ≤ getD row i 0 → (q : GivenPlace t (getD row i 0 - 256) (getD row (i + 2) 0) (from o n)) → Placed q m ys) → Now g (i + 3) (n + m) (left - 1 + w) (back o n ys)
+        → (256 ≤ getD row i 0 → (q : GivenPlace t (getD row i 0 - 256) (getD row (i + 2) 0) (from o n)) → ValueWritten q m ys) → Now g (i + 3) (n + m) (left - 1 + w) (back o n ys)
     turn w m ys M h ew N U = turn-at w m ys (M .2 .good) (M .2) h ew N U

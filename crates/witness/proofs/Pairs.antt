@@ -22,7 +22,7 @@ use Rattle.row.proofs.Places.{combine-places}
 use Rattle.row.proofs.RowMeet.{combine-fits}
 use Rattle.cell.specs.declared.cell.Out.{Out}
 use Rattle.cell.specs.declared.cell.Out.the-variants.{Dropped, Kept as KeptOut}
-use Rattle.cell.specs.Coded.{kinds-of, code, code-of, Typed, Typeds}
+use Rattle.cell.specs.Coded.{kinds-of, row-code, row-code-of, Typed, Typeds}
 use Rattle.cell.specs.Lockstep.{GivenRows, Result}
 use Rattle.cell.proofs.RowListFacts.{kept-is, kept-le}
 use Rattle.rowlist.proofs.Kinded.{known-head, open-kind, within-kind}
@@ -66,41 +66,41 @@ module _ {t a b o : List ℕ} (g : GivenPair t a b o) where
     kind = g .kind;
     r = g .r;
     s = g .s;
-    restA = g .restA;
-    restB = g .restB;
-    codeA = g .codeA;
-    codeB = g .codeB;
-    typedR = typed-good (g .known) (g .properR .good);
-    typedS = typed-good (g .known) (g .properS .good);
-    room = omega (arith, g .properR .few, g .properS .few, code-places (kinds-of (g .known .sig)) (g .r) (g .kind), code-places (kinds-of (g .known .sig)) (g .s) (g .kind));
+    rest-a = g .rest-a;
+    rest-b = g .rest-b;
+    code-a = g .code-a;
+    code-b = g .code-b;
+    typed-r = typed-good (g .known) (g .proper-r .good);
+    typed-s = typed-good (g .known) (g .proper-s .good);
+    room = omega (arith, g .proper-r .few, g .proper-s .few, code-places (kinds-of (g .known .sig)) (g .r) (g .kind), code-places (kinds-of (g .known .sig)) (g .s) (g .kind));
   }
 
   module _ (u : Row) (e : combine (g .r) (g .s) ≡ some u) where
     places : suc (place-count u) ≤ place-count (g .r) + place-count (g .s)
     places = kept-there (combine-places (g .r) (g .s)) u e
 
-    unfoldable row-given : (w : List ℕ) → w ≡ code (kinds-of (g .known .sig)) u (g .kind) → GivenRow t w o
+    unfoldable row-given : (w : List ℕ) → w ≡ row-code (kinds-of (g .known .sig)) u (g .kind) → GivenRow t w o
     row-given w f = record {
       known = g .known;
       kind = g .kind;
       r = u;
       rest = [];
-      good = kept-there (combine-good (g .known .sig) (g .r) (g .s) (g .properR .good) (g .properS .good)) u e;
-      code-is = f ∙ sym (append-nil (code (kinds-of (g .known .sig)) u (g .kind)));
-      room = omega (arith, places, g .properR .few, g .properS .few, g .room);
+      good = kept-there (combine-good (g .known .sig) (g .r) (g .s) (g .proper-r .good) (g .proper-s .good)) u e;
+      code-is = f ∙ sym (append-nil (row-code (kinds-of (g .known .sig)) u (g .kind)));
+      room = omega (arith, places, g .proper-r .few, g .proper-s .few, g .room);
     }
 
-    both-of : (w : List ℕ) (f : w ≡ code (kinds-of (g .known .sig)) u (g .kind)) (n : ℕ) (o' : List ℕ) → Filled (row-given w f) n o' → Found (Both (g .known .sig) (g .kind) (row-fits (g .r)) (row-fits (g .s))) true n o o'
+    both-of : (w : List ℕ) (f : w ≡ row-code (kinds-of (g .known .sig)) u (g .kind)) (n : ℕ) (o' : List ℕ) → Filled (row-given w f) n o' → Found (Both (g .known .sig) (g .kind) (row-fits (g .r)) (row-fits (g .s))) true n o o'
     unfolding row-given
     both-of w f n o' F =
         let v = F .value in
         let T = F .taken in
         let h : _≡_ (row-fits (g .r) v && row-fits (g .s) v) true = sym (combine-fits (g .r) (g .s) v) ∙ ap (λ (m : Option Row). kept-fits m v) e ∙ T .fits in
-        (v, record { kinded = T .kinded; few = omega (arith, T .few, places, g .properR .few, g .properS .few); deep = omega (arith, T .deep, places, g .properR .few, g .properS .few); passes-f = and-left (row-fits (g .r) v) (row-fits (g .s) v) h; passes-g = and-right (row-fits (g .r) v) (row-fits (g .s) v) h }, F .count, F .list)
+        (v, record { kinded = T .kinded; few = omega (arith, T .few, places, g .proper-r .few, g .proper-s .few); deep = omega (arith, T .deep, places, g .proper-r .few, g .proper-s .few); passes-f = and-left (row-fits (g .r) v) (row-fits (g .s) v) h; passes-g = and-right (row-fits (g .r) v) (row-fits (g .s) v) h }, F .count, F .list)
 
   -- by what combine answered
   abbrev Left : Option Row → Out → List ℕ → List ℕ → Type 0
-  Left m res e e' = Result (code-of (kinds-of (g .known .sig)) (g .kind) m) res e e'
+  Left m res e e' = Result (row-code-of (kinds-of (g .known .sig)) (g .kind) m) res e e'
 
   abbrev FoundBoth : Option Row → ℕ → List ℕ → Type 0
   FoundBoth m n o' = Found (Both (g .known .sig) (g .kind) (row-fits (g .r)) (row-fits (g .s))) (is-some m) n o o'
@@ -117,7 +117,7 @@ module _ {t a b o : List ℕ} (g : GivenPair t a b o) where
   found-at none res n e e' c R q k o' F = absurd (apart res n q R)
   found-at (some u) res n e e' c R q k o' F = both-of u c (take n e') (front-of _ e e' n res R q) k o' (F (row-given u c (take n e') (front-of _ e e' n res R q)))
 
-  module _ (res : Out) (e e' : List ℕ) (h : pair-words ≤ length e) (R : (q : GivenRows t a b e) → Result (code-of (q .K) (q .kind) (combine (q .r) (q .s))) res e e') where
+  module _ (res : Out) (e e' : List ℕ) (h : pair-words ≤ length e) (R : (q : GivenRows t a b e) → Result (row-code-of (q .K) (q .kind) (combine (q .r) (q .s))) res e e') where
     pub none-of : res ≡ Dropped → FoundBoth (combine (g .r) (g .s)) 0 o
     unfolding given
     none-of q = none-at (combine (g .r) (g .s)) res e e' (R (given e h)) q
@@ -132,4 +132,4 @@ module _ {t a b o : List ℕ} (g : GivenPair t a b o) where
 
     pub fits-in : (n : ℕ) → res ≡ KeptOut n → n ≤ length e'
     unfolding given
-    fits-in n q = kept-le (code-of (kinds-of (g .known .sig)) (g .kind) (combine (g .r) (g .s))) res n e e' (R (given e h)) q
+    fits-in n q = kept-le (row-code-of (kinds-of (g .known .sig)) (g .kind) (combine (g .r) (g .s))) res n e e' (R (given e h)) q

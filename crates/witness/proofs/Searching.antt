@@ -14,7 +14,7 @@ use Rattle.row.specs.Row.{Row, combine}
 use Rattle.row.specs.RowFits.{row-fits, fits-some}
 use Rattle.cell.specs.Coded.{kinds-of}
 use Rattle.cell.specs.RowList.{from}
-use Rattle.rowlist.specs.Product.{Typed-all, ones}
+use Rattle.rowlist.specs.Product.{AllTyped, with-each}
 use Rattle.overlap.specs.Lists.{RowByList}
 use Rattle.overlap.specs.Pair.{TwoRows}
 use Rattle.overlap.proofs.Search.{Now, Head, head, row-task, found1, end1}
@@ -22,7 +22,7 @@ use Rattle.witness.specs.Lists.{GivenRowList}
 use Rattle.witness.specs.Pair.{Proper, GivenPair, Both, Found}
 use Rattle.witness.proofs.Pairs.{typed-good}
 
--- ---- what an answer says
+-- what an answer says
 pub found-some : (P : Value → Type 0) (b : Bool) (n : ℕ) (o o' : List ℕ) → Found P b n o o' → 0 < n → b ≡ true
 found-some P true n o o' f h = refl
 found-some P false n o o' f h = absurd (omega (arith, f .0))
@@ -31,7 +31,7 @@ pub found-none : (P : Value → Type 0) (b : Bool) (n : ℕ) (o o' : List ℕ) �
 found-none P true n o o' f h = absurd (omega (arith, f .2, some-size (f .0)))
 found-none P false n o o' f h = (refl, f .1)
 
-pub typed-proper : {t : List ℕ} (g : Known t) {k : ℕ} {rs : List Row} → All (Proper (g .sig) k) rs → Typed-all (kinds-of (g .sig)) t k rs
+pub typed-proper : {t : List ℕ} (g : Known t) {k : ℕ} {rs : List Row} → All (Proper (g .sig) k) rs → AllTyped (kinds-of (g .sig)) t k rs
 typed-proper g none-left = tt
 typed-proper g (also r h a) = (typed-good g (h .good), typed-proper g a)
 
@@ -42,12 +42,12 @@ module _ {t x y o : List ℕ} (g : GivenRowList t x y o) where
     kind = g .kind;
     r = g .r;
     ss = g .ss;
-    restX = g .restX;
-    restY = g .restY;
-    codeX = g .codeX;
-    codeY = g .codeY;
-    typedR = typed-good (g .known) (g .properR .good);
-    typedS = typed-proper (g .known) (g .properS);
+    rest-x = g .rest-x;
+    rest-y = g .rest-y;
+    code-x = g .code-x;
+    code-y = g .code-y;
+    typed-r = typed-good (g .known) (g .proper-r .good);
+    typed-s = typed-proper (g .known) (g .proper-s);
   }
 
   module _ (at : ℕ) where
@@ -58,18 +58,18 @@ module _ {t x y o : List ℕ} (g : GivenRowList t x y o) where
       kind = g .kind;
       r = g .r;
       s = s;
-      restA = g .restX;
-      restB = h .rest;
-      properR = g .properR;
-      properS = all-in (g .properS) (h .member);
-      codeA = g .codeX;
-      codeB = h .code-is;
+      rest-a = g .rest-x;
+      rest-b = h .rest;
+      proper-r = g .proper-r;
+      proper-s = all-in (g .proper-s) (h .member);
+      code-a = g .code-x;
+      code-b = h .code-is;
       room = g .room;
     }
 
     unfoldable rows-of : (s : Row) → Head (row-task by-rows) at s → TwoRows t x (from y (at + 1))
     unfolding row-task by-rows
-    rows-of s h = record { K = kinds-of (g .known .sig); kind = g .kind; r = g .r; s = s; restA = g .restX; restB = h .rest; codeA = g .codeX; codeB = h .code-is; typedR = by-rows .typedR; typedS = h .typed }
+    rows-of s h = record { K = kinds-of (g .known .sig); kind = g .kind; r = g .r; s = s; rest-a = g .rest-x; rest-b = h .rest; code-a = g .code-x; code-b = h .code-is; typed-r = by-rows .typed-r; typed-s = h .typed }
 
     found-at : (s : Row) → Head (row-task by-rows) at s → ((q : TwoRows t x (from y (at + 1))) → true ≡ is-some (combine (q .r) (q .s))) → (n : ℕ) (o' : List ℕ)
         → ((q : GivenPair t x (from y (at + 1)) o) → Found (Both (q .known .sig) (q .kind) (row-fits (q .r)) (row-fits (q .s))) (is-some (combine (q .r) (q .s))) n o o')
@@ -86,12 +86,12 @@ module _ {t x y o : List ℕ} (g : GivenRowList t x y o) where
 
       pub found-pair : ((q : TwoRows t x (from y (at + 1))) → true ≡ is-some (combine (q .r) (q .s))) → (n : ℕ) (o' : List ℕ)
           → ((q : GivenPair t x (from y (at + 1)) out) → Found (Both (q .known .sig) (q .kind) (row-fits (q .r)) (row-fits (q .s))) (is-some (combine (q .r) (q .s))) n out o')
-          → Found (Both (g .known .sig) (g .kind) (row-fits (g .r)) (fits-some (g .ss))) (not (is-empty (ones (g .r) (g .ss)))) n o o'
+          → Found (Both (g .known .sig) (g .kind) (row-fits (g .r)) (fits-some (g .ss))) (not (is-empty (with-each (g .r) (g .ss)))) n o o'
       unfolding by-rows
       found-pair M n o' F =
           let q = head (row-task by-rows) at m h in
           subst (λ (b : Bool). Found (Both (g .known .sig) (g .kind) (row-fits (g .r)) (fits-some (g .ss))) b n o o') (found1 by-rows at m h M) (found-at (q .0) (q .1) M n o' (rw e at F))
 
-    pub none-found : Now (row-task by-rows) at → getD y at 0 ≤ 0 → (out : List ℕ) → out ≡ o → Found (Both (g .known .sig) (g .kind) (row-fits (g .r)) (fits-some (g .ss))) (not (is-empty (ones (g .r) (g .ss)))) 0 o out
+    pub none-found : Now (row-task by-rows) at → getD y at 0 ≤ 0 → (out : List ℕ) → out ≡ o → Found (Both (g .known .sig) (g .kind) (row-fits (g .r)) (fits-some (g .ss))) (not (is-empty (with-each (g .r) (g .ss)))) 0 o out
     unfolding by-rows
     none-found m z out e = subst (λ (b : Bool). Found (Both (g .known .sig) (g .kind) (row-fits (g .r)) (fits-some (g .ss))) b 0 o out) (end1 by-rows at m z) (refl, e)

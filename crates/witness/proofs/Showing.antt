@@ -25,7 +25,7 @@ use Rattle.row.proofs.OverlapFacts.{plus-good}
 use Rattle.row.proofs.Places.{plus-places}
 use Rattle.row.proofs.RowTheorem.{plus-fits}
 use Rattle.cell.specs.RowList.{from}
-use Rattle.rowlist.specs.Product.{ones}
+use Rattle.rowlist.specs.Product.{with-each}
 use Rattle.overlap.specs.Laws.{TwoPatterns}
 use Rattle.overlap.proofs.Laws.{as-lists}
 use Rattle.overlap.proofs.Search.{Now, Head, head, found, past, end, list-task, any-each}
@@ -56,12 +56,12 @@ module _ {t x y : List ℕ} (g : TwoPatterns t x y) (o : List ℕ) (room : booki
       kind = 0;
       r = r;
       ss = rows-plus (g .known .sig) 0 (g .q);
-      restX = h .rest;
-      restY = g .restY;
-      properR = all-in (proper-rows (g .known) (g .us) (g .p) (g .words-p)) (h .member);
-      properS = proper-rows (g .known) (g .ws) (g .q) (g .words-q);
-      codeX = h .code-is;
-      codeY = g .codeY;
+      rest-x = h .rest;
+      rest-y = g .rest-y;
+      proper-r = all-in (proper-rows (g .known) (g .us) (g .p) (g .words-p)) (h .member);
+      proper-s = proper-rows (g .known) (g .ws) (g .q) (g .words-q);
+      code-x = h .code-is;
+      code-y = g .code-y;
       room = room;
     }
 
@@ -74,16 +74,16 @@ module _ {t x y : List ℕ} (g : TwoPatterns t x y) (o : List ℕ) (room : booki
       unfolding list-task as-lists
       end-of z = subst (λ (b : Bool). Found Shared-value b 0 o out) (sym (end (list-task (as-lists g)) at m z) ∙ any-each (rows-plus (g .known .sig) 0 (g .p)) (rows-plus (g .known .sig) 0 (g .q))) (refl, e)
 
-      module _ (h : 0 < getD x at 0) (n : ℕ) (o' : List ℕ) (F : (q : GivenRowList t (from x (at + 1)) y out) → Found (Both (q .known .sig) (q .kind) (row-fits (q .r)) (fits-some (q .ss))) (not (is-empty (ones (q .r) (q .ss)))) n out o') where
+      module _ (h : 0 < getD x at 0) (n : ℕ) (o' : List ℕ) (F : (q : GivenRowList t (from x (at + 1)) y out) → Found (Both (q .known .sig) (q .kind) (row-fits (q .r)) (fits-some (q .ss))) (not (is-empty (with-each (q .r) (q .ss)))) n out o') where
         abbrev With : Row → Value → Type 0
         With r = Both (g .known .sig) 0 (row-fits r) (fits-some (rows-plus (g .known .sig) 0 (g .q)))
 
         abbrev meets : Row → Bool
-        meets r = not (is-empty (ones r (rows-plus (g .known .sig) 0 (g .q))))
+        meets r = not (is-empty (with-each r (rows-plus (g .known .sig) 0 (g .q))))
 
         answer-of : (r : Row) → Head (list-task (as-lists g)) at r → Found (With r) (meets r) n o o'
         unfolding row-of
-        answer-of r d = let G : (q : GivenRowList t (from x (at + 1)) y o) → Found (Both (q .known .sig) (q .kind) (row-fits (q .r)) (fits-some (q .ss))) (not (is-empty (ones (q .r) (q .ss)))) n o o' = rw e at F in G (row-of r d)
+        answer-of r d = let G : (q : GivenRowList t (from x (at + 1)) y o) → Found (Both (q .known .sig) (q .kind) (row-fits (q .r)) (fits-some (q .ss))) (not (is-empty (with-each (q .r) (q .ss)))) n o o' = rw e at F in G (row-of r d)
 
         pub found-row : 0 < n → Found-both n o'
         unfolding list-task as-lists

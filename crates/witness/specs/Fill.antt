@@ -11,7 +11,7 @@ use Rattle.signature.specs.Value.{Value, code, size, depth}
 use Rattle.row.specs.Limits.{place-words}
 use Rattle.row.specs.Row.{Row}
 use Rattle.row.specs.RowFits.{Good, place-count, row-fits}
-use Rattle.cell.specs.Coded.{kinds-of, code as row-code}
+use Rattle.cell.specs.Coded.{kinds-of, row-code}
 
 -- row begins with a row of some kind, and o has room for 25 words a place
 pub record GivenRow (t row o : List ℕ) : Type 0 where

@@ -7,7 +7,7 @@ use Rattle.signature.specs.Decoded.{Known}
 use Rattle.signature.specs.Limits.{booking-limit}
 use Rattle.signature.specs.Lists.{All}
 use Rattle.row.specs.Row.{Row}
-use Rattle.cell.specs.Coded.{kinds-of, code}
+use Rattle.cell.specs.Coded.{kinds-of, row-code}
 use Rattle.cell.specs.RowList.{list-code}
 use Rattle.witness.specs.Pair.{Proper}
 
@@ -17,12 +17,12 @@ pub record GivenRowList (t x y o : List ℕ) : Type 0 where
   pub kind : ℕ
   pub r : Row
   pub ss : List Row
-  pub restX : List ℕ
-  pub restY : List ℕ
-  pub properR : Proper (known .sig) kind r
-  pub properS : All (Proper (known .sig) kind) ss
-  pub codeX : x ≡ code (kinds-of (known .sig)) r kind ++ restX
-  pub codeY : y ≡ list-code (kinds-of (known .sig)) kind ss ++ restY
+  pub rest-x : List ℕ
+  pub rest-y : List ℕ
+  pub proper-r : Proper (known .sig) kind r
+  pub proper-s : All (Proper (known .sig) kind) ss
+  pub code-x : x ≡ row-code (kinds-of (known .sig)) r kind ++ rest-x
+  pub code-y : y ≡ list-code (kinds-of (known .sig)) kind ss ++ rest-y
   pub room : booking-limit ≤ length o
 
 -- "the booking's length [is] returned, the booking is written first in the witness buffer, the rest untouched"; without one 0, and nothing is written.

@@ -12,7 +12,7 @@ use Rattle.signature.specs.Value.{Value, code, size, depth}
 use Rattle.pattern.specs.Limits.{pattern-limit}
 use Rattle.row.specs.Row.{Row}
 use Rattle.row.specs.RowFits.{Good, place-count}
-use Rattle.cell.specs.Coded.{kinds-of, code as row-code}
+use Rattle.cell.specs.Coded.{kinds-of, row-code}
 
 -- a row as a pattern has it: at most 64 places
 pub record Proper (sig : Signature) (k : ℕ) (r : Row) : Type 0 where
@@ -25,12 +25,12 @@ pub record GivenPair (t a b o : List ℕ) : Type 0 where
   pub kind : ℕ
   pub r : Row
   pub s : Row
-  pub restA : List ℕ
-  pub restB : List ℕ
-  pub properR : Proper (known .sig) kind r
-  pub properS : Proper (known .sig) kind s
-  pub codeA : a ≡ row-code (kinds-of (known .sig)) r kind ++ restA
-  pub codeB : b ≡ row-code (kinds-of (known .sig)) s kind ++ restB
+  pub rest-a : List ℕ
+  pub rest-b : List ℕ
+  pub proper-r : Proper (known .sig) kind r
+  pub proper-s : Proper (known .sig) kind s
+  pub code-a : a ≡ row-code (kinds-of (known .sig)) r kind ++ rest-a
+  pub code-b : b ≡ row-code (kinds-of (known .sig)) s kind ++ rest-b
   pub room : booking-limit ≤ length o
 
 -- a value within the limits of a booking that passes two tests

@@ -1,10 +1,8 @@
 // A value that a row takes.
+use cell::cell::CELL;
 use cell::cell::opens;
 use overlap::least::place;
 ghost use Rattle.witness.specs.Fill.{GivenRow, Filled};
-
-// The words of a cell.
-const CELL: usize = 3;
 
 // A value that the row at the front of row takes, first in out; how many words.
 pub fn fill(t: &[u16], row: &[u64], out: &mut [u16]) -> usize

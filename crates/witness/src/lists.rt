@@ -8,7 +8,7 @@ ghost use Rattle.signature.specs.Limits.{booking-limit};
 ghost use Rattle.signature.specs.Lists.{is-empty};
 ghost use Rattle.row.specs.Overlap.{Shared};
 ghost use Rattle.row.specs.RowFits.{row-fits, fits-some};
-ghost use Rattle.rowlist.specs.Product.{ones};
+ghost use Rattle.rowlist.specs.Product.{with-each};
 ghost use Rattle.overlap.specs.Laws.{TwoPatterns};
 ghost use Rattle.witness.specs.Lists.{GivenRowList, Shown};
 ghost use Rattle.witness.specs.Pair.{Both, Found};
@@ -16,7 +16,7 @@ ghost use Rattle.witness.specs.Pair.{Both, Found};
 // A value that the row at the front of x and some row of the list y take, first in out; how many words, 0 where there is none.
 fn row_witness(t: &[u16], x: &[u64], y: &[u64], out: &mut [u16]) -> usize
     requires { ⌜ GivenRowList (now t) (now x) (now y) (now out) ⌝ }
-    ensures { λ n. ⌜ ((g : GivenRowList (now (t .entry)) (now (x .entry)) (now (y .entry)) (now (out .entry))) → Found (Both (g .known .sig) (g .kind) (row-fits (g .r)) (fits-some (g .ss))) (not (is-empty (ones (g .r) (g .ss)))) n (now (out .entry)) (now (out .exit))) ⌝ }
+    ensures { λ n. ⌜ ((g : GivenRowList (now (t .entry)) (now (x .entry)) (now (y .entry)) (now (out .entry))) → Found (Both (g .known .sig) (g .kind) (row-fits (g .r)) (fits-some (g .ss))) (not (is-empty (with-each (g .r) (g .ss)))) n (now (out .entry)) (now (out .exit))) ⌝ }
 {
     let mut at = 0;
     while y[at] > 0 {

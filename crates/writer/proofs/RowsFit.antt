@@ -25,7 +25,7 @@ use Rattle.row.specs.Row.{Row, Rows, named, free, rnil, rcons, combine, combine
 use Rattle.row.specs.RowFits.{place-count}
 use Rattle.row.proofs.Places.{all-each, plus-places}
 use Rattle.row.proofs.RowCount.{counts, occurs, occurs-all, plus-once}
-use Rattle.cell.specs.Coded.{kinds-of, code, Typed, Typeds}
+use Rattle.cell.specs.Coded.{kinds-of, row-code, Typed, Typeds}
 use Rattle.cell.specs.RowList.{Every}
 use Rattle.builder.proofs.Rooms.{code-places}
 use Rattle.rowlist.proofs.Typing.{typed-rows}
@@ -146,7 +146,7 @@ every-all [] e = none-left
 every-all (x ∷ xs) e = also x (e .0) (every-all xs (e .1))
 
 -- what the writer asks of a rule's rows
-pub rows-fit : {t : List ℕ} (g : Known t) (p : Pattern) → WellFormed (g .sig) 0 p → 0 < g .decoded .n → linear-plus p ≡ true → length (pattern-code p) ≤ pattern-limit → All (λ r. RowStands (g .sig) t r 0 × (length (code (kinds-of (g .sig)) r 0) ≤ 3 * pattern-limit)) (rows-plus (g .sig) 0 p)
+pub rows-fit : {t : List ℕ} (g : Known t) (p : Pattern) → WellFormed (g .sig) 0 p → 0 < g .decoded .n → linear-plus p ≡ true → length (pattern-code p) ≤ pattern-limit → All (λ r. RowStands (g .sig) t r 0 × (length (row-code (kinds-of (g .sig)) r 0) ≤ 3 * pattern-limit)) (rows-plus (g .sig) 0 p)
 rows-fit {t} g p w n l m =
     all-imp (λ r (y, (k, (o, c))). (good-row (g .sig) t r 0 y k (λ x. omega (arith, o x, tick-one (memb x (E p)))), omega (arith, code-places (kinds-of (g .sig)) r 0, c)))
     (all-both (every-all _ (typed-rows g p true 0 n w)) (all-both (plus-kinded (g .sig) p w) (all-both (plus-once (g .sig) p 0 l) (plus-places (g .sig) p w))))

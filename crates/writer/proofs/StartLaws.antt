@@ -14,8 +14,8 @@ use Rattle.signature.proofs.KnownFacts.{at-some}
 use Rattle.signature.proofs.ListFacts.{all-at}
 use Rattle.pattern.specs.Limits.{pattern-limit}
 use Rattle.row.specs.Row.{rcons, rnil}
-use Rattle.cell.specs.Coded.{kinds-of, code}
-use Rattle.cell.specs.Cursor.{opensOf}
+use Rattle.cell.specs.Coded.{kinds-of, row-code}
+use Rattle.cell.specs.Cursor.{opens-of}
 use Rattle.tree.specs.Limits.{tree-limit}
 use Rattle.tree.specs.Tree.{Line, Tree, compile}
 use Rattle.path.specs.Alive.{member}
@@ -49,8 +49,8 @@ module _ {t a tab : List ℕ} {n : ℕ} (g : GivenRows t a tab n) where
   row-at : (r : ℕ) → r < n → RowAt r
   row-at r l = let (e, h) = at-some (g .rows) r (omega (arith, g .count)) in record { e = e; there = h; fit = all-at (g .fit) r e h; place = g .placed r e h }
 
-  ends : (r : ℕ) (w : RowAt r) → w .place .start + length (code (kinds-of (g .known .sig)) (w .e .row) 0) ≤ length a
-  ends r w = omega (arith, w .place .within, length-drop (w .place .start) a, ap length (w .place .code-is), length-append (code (kinds-of (g .known .sig)) (w .e .row) 0) (w .place .rest))
+  ends : (r : ℕ) (w : RowAt r) → w .place .start + length (row-code (kinds-of (g .known .sig)) (w .e .row) 0) ≤ length a
+  ends r w = omega (arith, w .place .within, length-drop (w .place .start) a, ap length (w .place .code-is), length-append (row-code (kinds-of (g .known .sig)) (w .e .row) 0) (w .place .rest))
 
   pub indexed : row-stride * n ≤ length tab → Indexed t a tab n
   indexed l = record {

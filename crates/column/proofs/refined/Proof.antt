@@ -2,7 +2,7 @@
 use native.Mathlib.Omega.{arith}
 use borrow.Author.Needs.{needs}
 use Rattle.signature.proofs.KnownFacts.{long}
-use Rattle.column.proofs.ColumnLaws.{refined-named, refined-free, seen-free, seen-count, kind-small}
+use Rattle.column.proofs.ColumnLaws.{refined-named, refined-free, seen-free, kind-small}
 use Rattle.column.proofs.refined.Statement.{statement}
 use Rattle.column.proofs.refined.Tie as tie
 
@@ -11,7 +11,7 @@ refined-spec =
     tie.close
     (tie.spec
     (λ c. λ g. refined-named g _ (c .if1 .taken))
-    (λ c κs. (long (c .before .before .pre .known), omega (arith, seen-free (c .before .before .pre) (omega (arith, c .if1 .left)), kind-small (c .before .before .pre))))
+    (λ c κs. tt)
+    (λ c κs. (long (c .before .before .before .pre .known), omega (arith, seen-free (c .before .before .before .pre) (omega (arith, c .before .if1 .left)), kind-small (c .before .before .before .pre))))
     (λ c. search needs)
-    (λ c κs. seen-count (c .before .before .before .pre) _ (omega (arith, c .before .if1 .left)) (c .count-of .ensures))
-    (λ c. λ g. refined-free g _ _ _ (omega (arith, c .before .before .if1 .left)) (c .before .count-of .ensures) (c .full .ensures)))
+    (λ c. λ g. refined-free g _ _ _ (omega (arith, c .before .before .if1 .left)) (c .before .size .ensures .0) (c .count-of .ensures)))

@@ -6,7 +6,7 @@ use lib.ListN.{length, getD, length-take, length-drop}
 use borrow.Author.Needs.{needs}
 use Rattle.pattern.specs.Word.{form-of}
 use Rattle.pattern.proofs.ReadSteps.{small}
-use Rattle.ambiguity.specs.Parts.{GivenPart}
+use Rattle.builder.specs.Build.{GivenPart}
 use Rattle.ambiguity.proofs.Turns.{Left, start, part-given, part-le, turn, turn-ambiguous, ends-ambiguous, ends-clear, few-parts, again, twice-so}
 use Rattle.ambiguity.proofs.Twice.{some-word}
 use borrow.Fn.Kinds.{In}
@@ -20,6 +20,7 @@ use Rattle.ambiguity.proofs.ambiguous.part_kind.Reads as part-kind-read
 use Rattle.ambiguity.proofs.ambiguous.twice.Reads as twice-reads
 use Rattle.pattern.proofs.token.side_behind.Reads as side-behind-reads
 use Rattle.pattern.proofs.token.classify.Reads as classify-reads
+use Rattle.pattern.proofs.token.own_words.Reads as own-words-reads
 use Rattle.pattern.proofs.token.parts.Reads as parts-reads
 use Rattle.ambiguity.proofs.ambiguous.+ambiguous_at.{statement}
 use Rattle.ambiguity.proofs.ambiguous.+ambiguous_at.Tie.{close}
@@ -55,6 +56,8 @@ pub +ambiguous-at-spec : {M : Type 1} → statement M
   side-behind-reads.Learnt,
   is-variable-reads.Asked,
   is-variable-reads.Learnt,
+  own-words-reads.Asked,
+  own-words-reads.Learnt,
   part-kind-reads.Asked,
   part-kind-reads.Learnt,
   ambiguous-at-below t,
@@ -74,27 +77,28 @@ pub +ambiguous-at-spec : {M : Type 1} → statement M
     (λ c. omega arith)
     (λ c κs. tt)
     (λ c κs. tt)
-    (λ c. (omega arith, omega arith, some-word (c .before .before .before .before .before .before .before .before .before .pre .1), refl, refl, λ g. start g (form-of (c .before .before .before .classify .result)) (c .before .before .before .classify .ensures) (c .before .side-behind .result) (c .is-variable .result) (c .before .before .parts .result) (c .before .side-behind .ensures) (c .is-variable .ensures) (c .before .before .parts .ensures)))
-    (λ c κs. (c .before .before .before .before .before .before .before .before .before .before .before .pre .1 .known .decoded .long, small (getD (c .before .before .before .before .before .before .before .before .before .before .before .args .p .now) 0 0) _ (c .before .before .before .before .before .classify .ensures), omega (arith, few-parts (c .before .before .before .before .before .before .before .before .before .before .before .pre .1) (form-of (c .before .before .before .before .before .classify .result)) (c .before .before .before .before .before .classify .ensures), c .before .before .before .before .parts .ensures, c .loop-test .taken)))
+    (λ c κs. tt)
+    (λ c. (omega arith, omega (arith, c .own-words .ensures), rw (c .own-words .ensures) (some-word (c .before .before .before .before .before .before .before .before .before .before .pre .1)), refl, refl, λ g. rw (c .own-words .ensures) (start g (form-of (c .before .before .before .before .classify .result)) (c .before .before .before .before .classify .ensures) (c .before .before .side-behind .result) (c .before .is-variable .result) (c .before .before .before .parts .result) (c .before .before .side-behind .ensures) (c .before .is-variable .ensures) (c .before .before .before .parts .ensures))))
+    (λ c κs. (c .before .before .before .before .before .before .before .before .before .before .before .before .pre .1 .known .decoded .long, small (getD (c .before .before .before .before .before .before .before .before .before .before .before .before .args .p .now) 0 0) _ (c .before .before .before .before .before .before .classify .ensures), omega (arith, few-parts (c .before .before .before .before .before .before .before .before .before .before .before .before .pre .1) (form-of (c .before .before .before .before .before .before .classify .result)) (c .before .before .before .before .before .before .classify .ensures), c .before .before .before .before .before .parts .ensures, c .loop-test .taken)))
     (λ c. omega arith)
     (λ c. omega arith)
     (λ c. omega arith)
     (λ c. omega arith)
-    (λ c κs. (simp (length-take, length-drop) (omega (arith, c .before .before .before .before .before .before .before .before .before .before .before .before .before .before .before .pre .0, some-word (c .before .before .before .before .before .before .before .before .before .before .before .before .before .before .before .pre .1), c .before .before .before .before .before .loop .inv .1)), part-given (c .before .before .before .before .before .before .before .before .before .before .before .before .before .before .before .pre .1) (c .before .before .before .before .before .before .before .before .parts .result) (c .before .before .before .before .before .loop .i) (c .before .before .before .before .before .loop .inv .5 (c .before .before .before .before .before .before .before .before .before .before .before .before .before .before .before .pre .1)) (c .before .before .before .before .loop-test .taken) (c .before .before .before .part-kind .result) (c .before .before .before .part-kind .ensures) _ _ (c .before .before .before .before .before .loop .inv .3) (c .before .before .before .before .before .loop .inv .4)))
+    (λ c κs. (simp (length-take, length-drop) (omega (arith, c .before .before .before .before .before .before .before .before .before .before .before .before .before .before .before .before .pre .0, some-word (c .before .before .before .before .before .before .before .before .before .before .before .before .before .before .before .before .pre .1), c .before .before .before .before .before .loop .inv .1)), part-given (c .before .before .before .before .before .before .before .before .before .before .before .before .before .before .before .before .pre .1) (c .before .before .before .before .before .before .before .before .before .parts .result) (c .before .before .before .before .before .loop .i) (c .before .before .before .before .before .loop .inv .5 (c .before .before .before .before .before .before .before .before .before .before .before .before .before .before .before .before .pre .1)) (c .before .before .before .before .loop-test .taken) (c .before .before .before .part-kind .result) (c .before .before .before .part-kind .ensures) _ _ (c .before .before .before .before .before .loop .inv .3) (c .before .before .before .before .before .loop .inv .4)))
     (λ c. search needs)
     (λ c. search needs)
     (λ c. c .before .before .before .before .before .before .ambiguous-at .kept .1 .1 .1 .1 .0 ∙ c .before .before .before .before .before .before .before .before .before .before .before .before .loop .inv .3)
     (λ c. c .before .before .before .before .before .before .ambiguous-at .kept .1 .1 .1 .1 .1 .0 ∙ c .before .before .before .before .before .before .before .before .before .before .before .before .loop .inv .4)
-    (λ c g. turn-ambiguous g (c .before .before .before .before .before .before .before .before .before .before .before .before .before .before .before .parts .result) (c .before .before .before .before .before .before .before .before .before .before .before .before .loop .i) (c .before .before .before .before .before .before .before .before .before .before .before .before .loop .inv .5 g) (c .before .before .before .before .before .before .before .before .before .before .before .loop-test .taken) (c .before .before .before .before .before .before .before .before .before .before .part-kind .result) (c .before .before .before .before .before .before .before .before .before .before .part-kind .ensures) _ _ (c .before .before .before .before .before .before .before .before .before .before .before .before .loop .inv .3) (c .before .before .before .before .before .before .before .before .before .before .before .before .loop .inv .4) _ (c .before .before .before .before .before .before .ambiguous-at .ensures) (c .enum-told .given .1))
+    (λ c g. turn-ambiguous g (c .before .before .before .before .before .before .before .before .before .before .before .before .before .before .before .before .parts .result) (c .before .before .before .before .before .before .before .before .before .before .before .before .loop .i) (c .before .before .before .before .before .before .before .before .before .before .before .before .loop .inv .5 g) (c .before .before .before .before .before .before .before .before .before .before .before .loop-test .taken) (c .before .before .before .before .before .before .before .before .before .before .part-kind .result) (c .before .before .before .before .before .before .before .before .before .before .part-kind .ensures) _ _ (c .before .before .before .before .before .before .before .before .before .before .before .before .loop .inv .3) (c .before .before .before .before .before .before .before .before .before .before .before .before .loop .inv .4) _ (c .before .before .before .before .before .before .ambiguous-at .ensures) (c .enum-told .given .1))
     (λ c κs. tt)
-    (λ c. let h = part-le (c .before .before .before .before .before .before .before .before .before .before .before .before .before .before .before .before .before .before .before .before .before .before .before .before .pre .1) (c .before .before .before .before .before .before .before .before .before .before .before .before .before .before .before .before .before .parts .result) (c .before .before .before .before .before .before .before .before .before .before .before .before .before .before .loop .i) (c .before .before .before .before .before .before .before .before .before .before .before .before .before .before .loop .inv .5 (c .before .before .before .before .before .before .before .before .before .before .before .before .before .before .before .before .before .before .before .before .before .before .before .before .pre .1)) (c .before .before .before .before .before .before .before .before .before .before .before .before .before .loop-test .taken) (c .before .before .before .before .before .before .before .before .before .before .before .before .part-kind .result) (c .before .before .before .before .before .before .before .before .before .before .before .before .part-kind .ensures) _ _ (c .before .before .before .before .before .before .before .before .before .before .before .before .before .before .loop .inv .3) (c .before .before .before .before .before .before .before .before .before .before .before .before .before .before .loop .inv .4) _ (c .before .before .before .before .before .before .before .before .ambiguous-at .ensures) (c .before .before .more .given .0 .0) (c .before .before .more .given .0 .1 .0) (c .before .before .more .given .1) in omega (arith, h, c .before .before .before .before .before .before .before .before .before .before .before .before .before .before .before .before .before .before .before .before .before .before .before .before .good))
+    (λ c. let h = part-le (c .before .before .before .before .before .before .before .before .before .before .before .before .before .before .before .before .before .before .before .before .before .before .before .before .before .pre .1) (c .before .before .before .before .before .before .before .before .before .before .before .before .before .before .before .before .before .before .parts .result) (c .before .before .before .before .before .before .before .before .before .before .before .before .before .before .loop .i) (c .before .before .before .before .before .before .before .before .before .before .before .before .before .before .loop .inv .5 (c .before .before .before .before .before .before .before .before .before .before .before .before .before .before .before .before .before .before .before .before .before .before .before .before .before .pre .1)) (c .before .before .before .before .before .before .before .before .before .before .before .before .before .loop-test .taken) (c .before .before .before .before .before .before .before .before .before .before .before .before .part-kind .result) (c .before .before .before .before .before .before .before .before .before .before .before .before .part-kind .ensures) _ _ (c .before .before .before .before .before .before .before .before .before .before .before .before .before .before .loop .inv .3) (c .before .before .before .before .before .before .before .before .before .before .before .before .before .before .loop .inv .4) _ (c .before .before .before .before .before .before .before .before .ambiguous-at .ensures) (c .before .before .more .given .0 .0) (c .before .before .more .given .0 .1 .0) (c .before .before .more .given .1) in omega (arith, h, c .before .before .before .before .before .before .before .before .before .before .before .before .before .before .before .before .before .before .before .before .before .before .before .before .before .good))
     (λ c. omega arith)
     (λ c. omega arith)
-    (λ c. (omega arith, omega arith, part-le (c .before .before .before .before .before .before .before .before .before .before .before .before .before .before .before .before .before .before .before .before .before .before .before .before .pre .1) (c .before .before .before .before .before .before .before .before .before .before .before .before .before .before .before .before .before .parts .result) (c .before .before .before .before .before .before .before .before .before .before .before .before .before .before .loop .i) (c .before .before .before .before .before .before .before .before .before .before .before .before .before .before .loop .inv .5 (c .before .before .before .before .before .before .before .before .before .before .before .before .before .before .before .before .before .before .before .before .before .before .before .before .pre .1)) (c .before .before .before .before .before .before .before .before .before .before .before .before .before .loop-test .taken) (c .before .before .before .before .before .before .before .before .before .before .before .before .part-kind .result) (c .before .before .before .before .before .before .before .before .before .before .before .before .part-kind .ensures) _ _ (c .before .before .before .before .before .before .before .before .before .before .before .before .before .before .loop .inv .3) (c .before .before .before .before .before .before .before .before .before .before .before .before .before .before .loop .inv .4) _ (c .before .before .before .before .before .before .before .before .ambiguous-at .ensures) (c .before .before .more .given .0 .0) (c .before .before .more .given .0 .1 .0) (c .before .before .more .given .1), c .before .before .before .before .before .before .before .before .ambiguous-at .kept .1 .1 .1 .1 .0 ∙ c .before .before .before .before .before .before .before .before .before .before .before .before .before .before .loop .inv .3, c .before .before .before .before .before .before .before .before .ambiguous-at .kept .1 .1 .1 .1 .1 .0 ∙ c .before .before .before .before .before .before .before .before .before .before .before .before .before .before .loop .inv .4, λ g. turn g (c .before .before .before .before .before .before .before .before .before .before .before .before .before .before .before .before .before .parts .result) (c .before .before .before .before .before .before .before .before .before .before .before .before .before .before .loop .i) (c .before .before .before .before .before .before .before .before .before .before .before .before .before .before .loop .inv .5 g) (c .before .before .before .before .before .before .before .before .before .before .before .before .before .loop-test .taken) (c .before .before .before .before .before .before .before .before .before .before .before .before .part-kind .result) (c .before .before .before .before .before .before .before .before .before .before .before .before .part-kind .ensures) _ _ (c .before .before .before .before .before .before .before .before .before .before .before .before .before .before .loop .inv .3) (c .before .before .before .before .before .before .before .before .before .before .before .before .before .before .loop .inv .4) _ (c .before .before .before .before .before .before .before .before .ambiguous-at .ensures) (c .before .before .more .given .0 .0) (c .before .before .more .given .0 .1 .0) (c .before .before .more .given .1) _ (c .either .ensures)))
-    (λ c κs. again (c .before .before .before .before .before .before .before .before .before .before .before .before .before .pre .1) _ _ (c .before .before .before .loop .inv .3) (c .before .before .before .loop .inv .4))
+    (λ c. (omega arith, omega arith, part-le (c .before .before .before .before .before .before .before .before .before .before .before .before .before .before .before .before .before .before .before .before .before .before .before .before .before .pre .1) (c .before .before .before .before .before .before .before .before .before .before .before .before .before .before .before .before .before .before .parts .result) (c .before .before .before .before .before .before .before .before .before .before .before .before .before .before .loop .i) (c .before .before .before .before .before .before .before .before .before .before .before .before .before .before .loop .inv .5 (c .before .before .before .before .before .before .before .before .before .before .before .before .before .before .before .before .before .before .before .before .before .before .before .before .before .pre .1)) (c .before .before .before .before .before .before .before .before .before .before .before .before .before .loop-test .taken) (c .before .before .before .before .before .before .before .before .before .before .before .before .part-kind .result) (c .before .before .before .before .before .before .before .before .before .before .before .before .part-kind .ensures) _ _ (c .before .before .before .before .before .before .before .before .before .before .before .before .before .before .loop .inv .3) (c .before .before .before .before .before .before .before .before .before .before .before .before .before .before .loop .inv .4) _ (c .before .before .before .before .before .before .before .before .ambiguous-at .ensures) (c .before .before .more .given .0 .0) (c .before .before .more .given .0 .1 .0) (c .before .before .more .given .1), c .before .before .before .before .before .before .before .before .ambiguous-at .kept .1 .1 .1 .1 .0 ∙ c .before .before .before .before .before .before .before .before .before .before .before .before .before .before .loop .inv .3, c .before .before .before .before .before .before .before .before .ambiguous-at .kept .1 .1 .1 .1 .1 .0 ∙ c .before .before .before .before .before .before .before .before .before .before .before .before .before .before .loop .inv .4, λ g. turn g (c .before .before .before .before .before .before .before .before .before .before .before .before .before .before .before .before .before .before .parts .result) (c .before .before .before .before .before .before .before .before .before .before .before .before .before .before .loop .i) (c .before .before .before .before .before .before .before .before .before .before .before .before .before .before .loop .inv .5 g) (c .before .before .before .before .before .before .before .before .before .before .before .before .before .loop-test .taken) (c .before .before .before .before .before .before .before .before .before .before .before .before .part-kind .result) (c .before .before .before .before .before .before .before .before .before .before .before .before .part-kind .ensures) _ _ (c .before .before .before .before .before .before .before .before .before .before .before .before .before .before .loop .inv .3) (c .before .before .before .before .before .before .before .before .before .before .before .before .before .before .loop .inv .4) _ (c .before .before .before .before .before .before .before .before .ambiguous-at .ensures) (c .before .before .more .given .0 .0) (c .before .before .more .given .0 .1 .0) (c .before .before .more .given .1) _ (c .either .ensures)))
+    (λ c κs. again (c .before .before .before .before .before .before .before .before .before .before .before .before .before .before .pre .1) _ _ (c .before .before .before .loop .inv .3) (c .before .before .before .loop .inv .4))
     (λ c. c .before .before .before .before .before .twice .kept .1 .1 .1 .1 .1 .0 ∙ c .before .before .before .before .before .before .before .before .before .loop .inv .3)
     (λ c. c .before .before .before .before .before .twice .kept .1 .1 .1 .1 .1 .1 .0 ∙ c .before .before .before .before .before .before .before .before .before .loop .inv .4)
-    (λ c g. ends-ambiguous g (c .before .before .before .before .before .before .before .before .before .before .before .before .parts .result) (c .before .before .before .before .before .before .before .before .before .loop .i) (c .before .before .before .before .before .before .before .before .before .loop .inv .5 g) (c .before .before .before .before .before .before .before .before .loop-test .left) _ (twice-so g _ _ (c .before .before .before .before .before .before .before .before .before .loop .inv .3) (c .before .before .before .before .before .before .before .before .before .loop .inv .4) (c .before .before .before .before .before .before .before .before .before .loop .vars) _ (c .before .before .before .before .before .twice .ensures)) (c .if1 .taken))
+    (λ c g. ends-ambiguous g (c .before .before .before .before .before .before .before .before .before .before .before .before .before .parts .result) (c .before .before .before .before .before .before .before .before .before .loop .i) (c .before .before .before .before .before .before .before .before .before .loop .inv .5 g) (c .before .before .before .before .before .before .before .before .loop-test .left) _ (twice-so g _ _ (c .before .before .before .before .before .before .before .before .before .loop .inv .3) (c .before .before .before .before .before .before .before .before .before .loop .inv .4) (c .before .before .before .before .before .before .before .before .before .loop .vars) _ (c .before .before .before .before .before .twice .ensures)) (c .if1 .taken))
     (λ c. c .before .before .before .before .before .twice .kept .1 .1 .1 .1 .1 .0 ∙ c .before .before .before .before .before .before .before .before .before .loop .inv .3)
     (λ c. c .before .before .before .before .before .twice .kept .1 .1 .1 .1 .1 .1 .0 ∙ c .before .before .before .before .before .before .before .before .before .loop .inv .4)
-    (λ c g. ends-clear g (c .before .before .before .before .before .before .before .before .before .before .before .before .parts .result) (c .before .before .before .before .before .before .before .before .before .loop .i) (c .before .before .before .before .before .before .before .before .before .loop .inv .5 g) (c .before .before .before .before .before .before .before .before .loop-test .left) _ (twice-so g _ _ (c .before .before .before .before .before .before .before .before .before .loop .inv .3) (c .before .before .before .before .before .before .before .before .before .loop .inv .4) (c .before .before .before .before .before .before .before .before .before .loop .vars) _ (c .before .before .before .before .before .twice .ensures)) (c .if1 .left))
+    (λ c g. ends-clear g (c .before .before .before .before .before .before .before .before .before .before .before .before .before .parts .result) (c .before .before .before .before .before .before .before .before .before .loop .i) (c .before .before .before .before .before .before .before .before .before .loop .inv .5 g) (c .before .before .before .before .before .before .before .before .loop-test .left) _ (twice-so g _ _ (c .before .before .before .before .before .before .before .before .before .loop .inv .3) (c .before .before .before .before .before .before .before .before .before .loop .inv .4) (c .before .before .before .before .before .before .before .before .before .loop .vars) _ (c .before .before .before .before .before .twice .ensures)) (c .if1 .left))

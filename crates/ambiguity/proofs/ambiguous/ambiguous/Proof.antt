@@ -1,6 +1,7 @@
 -- `ambiguous::ambiguous` meets its contract. Assumes nothing.
 use borrow.Author.Needs.{needs}
-use Rattle.ambiguity.proofs.Whole.{whole, is-clear, is-ambiguous}
+use Rattle.ambiguity.proofs.Whole.{is-clear, is-ambiguous}
+use Rattle.builder.proofs.Whole.{whole-given}
 use Rattle.ambiguity.proofs.ambiguous.ambiguous.Statement.{statement}
 use Rattle.ambiguity.proofs.ambiguous.ambiguous.Tie as tie
 
@@ -8,7 +9,7 @@ pub ambiguous-spec : {M : Type 1} → statement M
 ambiguous-spec =
     tie.close
     (tie.spec
-    (λ c κs. whole (c .before .before .before .before .before .before .pre))
+    (λ c κs. whole-given (c .before .before .before .before .before .before .pre))
     (λ c. search needs)
     (λ c. search needs)
     (λ c. search needs)

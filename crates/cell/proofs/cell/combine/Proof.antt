@@ -4,8 +4,10 @@ use Prim.Native.Nat.{ℕ, _+_, _-_, _≤_, _<_}
 use native.Mathlib.Omega.{arith}
 use borrow.Author.Needs.{needs}
 use lib.ListN.{length, length-set}
-use Rattle.cell.specs.Cursor.{lookAt, nextOf, joinOf, opensOf, putAt}
+use Rattle.cell.specs.Cursor.{look-at, next-of, join-of, opens-of, put-cell}
 use Rattle.cell.proofs.LockstepFacts.{Given, as-cells, of-rows}
+use Rattle.sets.proofs.ListSets.{no-members}
+use Rattle.sets.proofs.SetLaws.{size-some}
 use Rattle.cell.specs.Lockstep.{GivenRows, Result}
 use Rattle.cell.proofs.Turns.{Now, Front, Turned, start, finish, front, known-of, out-of, turned, again, less}
 use Rattle.cell.proofs.cell.combine.Statement.{statement}
@@ -38,16 +40,16 @@ turned-of c g =
     let l = t .before .loop in
     turned g (l .x) (l .y) (l .n) (l .left) (l .out) (c .before .before .before .before .before .before .before .before .before .look .result) (c .before .before .before .before .before .before .before .before .look2 .result) (c .before .before .before .before .before .before .before .join .result)
     (c .before .before .before .before .before .before .before .before .before .look .ensures) (c .before .before .before .before .before .before .before .before .look2 .ensures) (c .before .before .before .before .before .before .before .join .ensures) (t .loop-test .taken)
-    (c .opens .result) (l .inv .1 g) (c .before .before .before .before .before .if1 .left) (c .opens .ensures)
+    (c .opens .result) (l .inv .1 g) (size-some _ _ (c .before .before .before .before .before .before .size .ensures .0) (c .before .before .before .before .before .if1 .left)) (c .opens .ensures)
 
 loop-holds : tie.Need-loop-holds Inv-loop μ-loop
 loop-holds c = (refl, λ g. start g)
 
 look-requires : tie.Need-look-requires Inv-loop μ-loop
-look-requires c κs = in-front c .seeA
+look-requires c κs = in-front c .see-a
 
 look-requires-2 : tie.Need-look-requires-2 Inv-loop μ-loop
-look-requires-2 c κs = in-front (c .before) .seeB
+look-requires-2 c κs = in-front (c .before) .see-b
 
 same-length : tie.Need-same-length Inv-loop μ-loop
 same-length c = c .before .before .before .before .before .before .loop .inv .0
@@ -58,7 +60,7 @@ returns c = λ r.
     let t = c .before .before .before .before .before in
     let l = t .before .loop in
     of-rows r _ _ _ (out-of g (l .x) (l .y) (l .n) (l .left) (l .out) (c .before .before .before .before .look .result) (c .before .before .before .look2 .result) (c .before .before .join .result)
-    (c .before .before .before .before .look .ensures) (c .before .before .before .look2 .ensures) (c .before .before .join .ensures) (t .loop-test .taken) (l .inv .1 g) (c .if1 .taken))
+    (c .before .before .before .before .look .ensures) (c .before .before .before .look2 .ensures) (c .before .before .join .ensures) (t .loop-test .taken) (l .inv .1 g) (no-members _ (c .before .size .ensures .1 (c .if1 .taken))))
 
 put-requires : tie.Need-put-requires Inv-loop μ-loop
 put-requires c κs = let t = c .before .before .before .before .before .before in omega (arith, in-front t .room, t .before .loop .inv .0)
@@ -77,10 +79,10 @@ add-left : tie.Need-add-left Inv-loop μ-loop
 add-left c = let e = entry (turn-of (c .before) .before) in omega (arith, turned-of c (as-cells (e .pre)) .few, e .good .1 .1 .1 .0)
 
 next-requires : tie.Need-next-requires Inv-loop μ-loop
-next-requires c κs = let t = turn-of (c .before) in let e = entry (t .before) in omega (arith, turned-of c (as-cells (e .pre)) .few, in-front t .virtA, in-front t .withinA, e .good)
+next-requires c κs = let t = turn-of (c .before) in let e = entry (t .before) in omega (arith, turned-of c (as-cells (e .pre)) .few, in-front t .wildcards-a, in-front t .within-a, e .good)
 
 next-requires-2 : tie.Need-next-requires-2 Inv-loop μ-loop
-next-requires-2 c κs = let t = turn-of (c .before .before) in let e = entry (t .before) in omega (arith, turned-of (c .before) (as-cells (e .pre)) .few, in-front t .virtB, in-front t .withinB, e .good)
+next-requires-2 c κs = let t = turn-of (c .before .before) in let e = entry (t .before) in omega (arith, turned-of (c .before) (as-cells (e .pre)) .few, in-front t .wildcards-b, in-front t .within-b, e .good)
 
 loop-less : tie.Need-loop-less Inv-loop μ-loop
 loop-less c =
@@ -114,6 +116,7 @@ combine-spec =
     loop-holds
     look-requires
     look-requires-2
+    (λ c κs. tt)
     (λ c κs. tt)
     same-length
     returns

@@ -1,17 +1,14 @@
 -- `cell::cell::join` meets its contract. Assumes nothing.
-use borrow.Author.Needs.{needs}
-use native.Mathlib.Omega.{arith}
-use borrow.Author.Tests.{lt-ltb, le-ltb, lt-leb, le-leb}
+use mathlib.Core.Path.{_≡_}
 use Prim.Native.Nat.{min}
-use mathlib.Core.Path.{_≡_, refl, sym, ap, _∙_}
+use native.Mathlib.Omega.{arith}
+use Rattle.sets.proofs.ListSets.{union-is, intersection-is}
 use Rattle.cell.proofs.cell.join.Statement.{statement}
 use Rattle.cell.proofs.cell.join.Tie as tie
 
-returns : tie.Need-returns
-returns c = let g = c .before .before .before .before .before .before .before .args in let e : min (g .a .tag) (g .b .tag) ≡ g .a .tag = omega arith in rw e
-
-returns-2 : tie.Need-returns-2
-returns-2 c = let g = c .before .before .before .before .before .before .before .args in let e : min (g .a .tag) (g .b .tag) ≡ g .b .tag = omega arith in rw e
-
 pub join-spec : {M : Type 1} → statement M
-join-spec = tie.close (tie.spec returns returns-2)
+join-spec = tie.close (tie.spec
+    (λ c κs. tt)
+    (λ c κs. tt)
+    (λ c. let g = c .before .before .before .before .before .args in let e : min (g .a .tag) (g .b .tag) ≡ g .a .tag = omega arith in rw (e, union-is _ _ _ (c .before .before .before .before .join .ensures), intersection-is _ _ _ (c .before .before .before .meet .ensures)))
+    (λ c. let g = c .before .before .before .before .before .args in let e : min (g .a .tag) (g .b .tag) ≡ g .b .tag = omega arith in rw (e, union-is _ _ _ (c .before .before .before .before .join .ensures), intersection-is _ _ _ (c .before .before .before .meet .ensures))))

@@ -7,9 +7,9 @@ use Rattle.signature.proofs.Booleans.{not-true, not-false}
 use Rattle.pattern.specs.Given.{Opens}
 use Rattle.pattern.specs.Linearity.{side-of}
 use Rattle.pattern.specs.Word.{form-of}
-use Rattle.linearity.proofs.LinearSteps.{Left, start, variable-small, part-open, part-le, turn, turn-not, turn-joint, ends-linear}
+use Rattle.linearity.proofs.LinearSteps.{Left, start, part-open, part-le, turn, turn-not, turn-joint, ends-linear}
 use Rattle.pattern.proofs.Opened.{word-there}
-use Rattle.pattern.proofs.ReadSteps.{small}
+use Rattle.pattern.proofs.ReadSteps.{small, variable-small}
 use borrow.Fn.Kinds.{In}
 use borrow.Fn.PlainCycle.{Measures, is, falls, and}
 use Rattle.linearity.proofs.linear.linear_at.Reads as linear-at
@@ -20,6 +20,7 @@ use Rattle.linearity.proofs.linear.joint_of.Reads as joint-of-reads
 use Rattle.linearity.proofs.linear.own_set.Reads as own-set-reads
 use Rattle.pattern.proofs.token.side_behind.Reads as side-behind-reads
 use Rattle.pattern.proofs.token.classify.Reads as classify-reads
+use Rattle.pattern.proofs.token.own_words.Reads as own-words-reads
 use Rattle.pattern.proofs.token.parts.Reads as parts-reads
 use Rattle.sets.proofs.set.join.Reads as join-reads
 use Rattle.linearity.proofs.linear.+linear_at.{statement}
@@ -53,6 +54,8 @@ pub +linear-at-spec : {M : Type 1} → statement M
   joint-of-reads.Learnt,
   own-set-reads.Asked,
   own-set-reads.Learnt,
+  own-words-reads.Asked,
+  own-words-reads.Learnt,
   linear-at-below t,
   linear-at.Post,
   goes-with-reads.Asked,
@@ -70,25 +73,26 @@ pub +linear-at-spec : {M : Type 1} → statement M
     (λ c κs. tt)
     (λ c κs. tt)
     (λ c κs. variable-small (getD (c .before .before .before .before .before .before .before .args .p .now) 0 0) _ (c .before .before .before .classify .ensures))
-    (λ c. (omega arith, omega arith, word-there (c .before .before .before .before .before .before .before .before .pre .1), λ g. start (side-of (c .before .before .before .before .before .before .before .before .args .plus)) g (form-of (c .before .before .before .before .classify .result)) (c .before .before .before .before .classify .ensures) (side-of (c .before .before .side-behind .result)) (c .before .joint-of .result) (c .own-set .result) (c .before .before .before .parts .result) (c .before .before .side-behind .ensures) (c .before .joint-of .ensures) (c .own-set .ensures) (c .before .before .before .parts .ensures)))
+    (λ c κs. tt)
+    (λ c. (omega arith, omega (arith, c .own-words .ensures), rw (c .own-words .ensures) (word-there (c .before .before .before .before .before .before .before .before .before .pre .1)), λ g. rw (c .own-words .ensures) (start (side-of (c .before .before .before .before .before .before .before .before .before .args .plus)) g (form-of (c .before .before .before .before .before .classify .result)) (c .before .before .before .before .before .classify .ensures) (side-of (c .before .before .before .side-behind .result)) (c .before .before .joint-of .result) (c .before .own-set .result) (c .before .before .before .before .parts .result) (c .before .before .before .side-behind .ensures) (c .before .before .joint-of .ensures) (c .before .own-set .ensures) (c .before .before .before .before .parts .ensures))))
     (λ c. omega arith)
     (λ c. omega arith)
     (λ c. omega arith)
     (λ c. omega arith)
-    (λ c κs. (omega (arith, c .linear-at-arg .given .2), part-open (side-of (c .before .before .before .before .before .before .before .before .before .before .before .args .plus)) _ (c .before .before .loop .i) (c .before .before .loop .inv .3 (c .before .before .before .before .before .before .before .before .before .before .before .pre .1)) (c .before .loop-test .taken)))
+    (λ c κs. (omega (arith, c .linear-at-arg .given .2), part-open (side-of (c .before .before .before .before .before .before .before .before .before .before .before .before .args .plus)) _ (c .before .before .loop .i) (c .before .before .loop .inv .3 (c .before .before .before .before .before .before .before .before .before .before .before .before .pre .1)) (c .before .loop-test .taken)))
     (λ c. search needs)
     (λ c. search needs)
-    (λ c g. turn-not (side-of (c .before .before .before .before .before .before .before .before .before .before .before .before .before .before .args .plus)) _ (c .before .before .before .before .before .loop .i) (c .before .before .before .before .before .loop .inv .3 g) (c .before .before .before .before .loop-test .taken) _ (c .before .before .linear-at .ensures) (c .enum-told .given .1))
+    (λ c g. turn-not (side-of (c .before .before .before .before .before .before .before .before .before .before .before .before .before .before .before .args .plus)) _ (c .before .before .before .before .before .loop .i) (c .before .before .before .before .before .loop .inv .3 g) (c .before .before .before .before .loop-test .taken) _ (c .before .before .linear-at .ensures) (c .enum-told .given .1))
     (λ c κs. tt)
-    (λ c g. turn-joint (side-of (c .before .before .before .before .before .before .before .before .before .before .before .before .before .before .before .before .before .args .plus)) _ (c .before .before .before .before .before .before .before .before .loop .i) (c .before .before .before .before .before .before .before .before .loop .inv .3 g) (c .before .before .before .before .before .before .before .loop-test .taken) _ (c .before .before .before .before .before .linear-at .ensures) (c .before .before .before .m .given .0 .0) (c .before .before .before .m .given .0 .1 .0) (c .before .before .before .m .given .1) _ (c .before .goes-with .ensures) (not-true _ (c .if1 .taken)))
+    (λ c g. turn-joint (side-of (c .before .before .before .before .before .before .before .before .before .before .before .before .before .before .before .before .before .before .args .plus)) _ (c .before .before .before .before .before .before .before .before .loop .i) (c .before .before .before .before .before .before .before .before .loop .inv .3 g) (c .before .before .before .before .before .before .before .loop-test .taken) _ (c .before .before .before .before .before .linear-at .ensures) (c .before .before .before .m .given .0 .0) (c .before .before .before .m .given .0 .1 .0) (c .before .before .before .m .given .1) _ (c .before .goes-with .ensures) (not-true _ (c .if1 .taken)))
     (λ c κs. tt)
-    (λ c. let h = part-le (side-of (c .before .before .before .before .before .before .before .before .before .before .before .before .before .before .before .before .before .before .args .plus)) _ (c .before .before .before .before .before .before .before .before .before .loop .i) (c .before .before .before .before .before .before .before .before .before .loop .inv .3 (c .before .before .before .before .before .before .before .before .before .before .before .before .before .before .before .before .before .before .pre .1)) (c .before .before .before .before .before .before .before .before .loop-test .taken) _ (c .before .before .before .before .before .before .linear-at .ensures) (c .before .before .before .before .m .given .0 .0) (c .before .before .before .before .m .given .0 .1 .0) (c .before .before .before .before .m .given .1) (c .before .before .before .before .before .before .before .before .before .loop .inv .2) in omega arith)
+    (λ c. let h = part-le (side-of (c .before .before .before .before .before .before .before .before .before .before .before .before .before .before .before .before .before .before .before .args .plus)) _ (c .before .before .before .before .before .before .before .before .before .loop .i) (c .before .before .before .before .before .before .before .before .before .loop .inv .3 (c .before .before .before .before .before .before .before .before .before .before .before .before .before .before .before .before .before .before .before .pre .1)) (c .before .before .before .before .before .before .before .before .loop-test .taken) _ (c .before .before .before .before .before .before .linear-at .ensures) (c .before .before .before .before .m .given .0 .0) (c .before .before .before .before .m .given .0 .1 .0) (c .before .before .before .before .m .given .1) (c .before .before .before .before .before .before .before .before .before .loop .inv .2) in omega arith)
     (λ c. omega arith)
     (λ c. omega arith)
     (λ c. (
       omega arith,
       omega arith,
-      part-le (side-of (c .before .before .before .before .before .before .before .before .before .before .before .before .before .before .before .before .before .before .args .plus)) _ (c .before .before .before .before .before .before .before .before .before .loop .i) (c .before .before .before .before .before .before .before .before .before .loop .inv .3 (c .before .before .before .before .before .before .before .before .before .before .before .before .before .before .before .before .before .before .pre .1)) (c .before .before .before .before .before .before .before .before .loop-test .taken) _ (c .before .before .before .before .before .before .linear-at .ensures) (c .before .before .before .before .m .given .0 .0) (c .before .before .before .before .m .given .0 .1 .0) (c .before .before .before .before .m .given .1) (c .before .before .before .before .before .before .before .before .before .loop .inv .2),
-      λ g. turn (side-of (c .before .before .before .before .before .before .before .before .before .before .before .before .before .before .before .before .before .before .args .plus)) _ (c .before .before .before .before .before .before .before .before .before .loop .i) (c .before .before .before .before .before .before .before .before .before .loop .inv .3 g) (c .before .before .before .before .before .before .before .before .loop-test .taken) _ (c .before .before .before .before .before .before .linear-at .ensures) (c .before .before .before .before .m .given .0 .0) (c .before .before .before .before .m .given .0 .1 .0) (c .before .before .before .before .m .given .1) _ (c .before .before .goes-with .ensures) _ (not-false _ (c .before .if1 .left)) (c .join .ensures),
+      part-le (side-of (c .before .before .before .before .before .before .before .before .before .before .before .before .before .before .before .before .before .before .before .args .plus)) _ (c .before .before .before .before .before .before .before .before .before .loop .i) (c .before .before .before .before .before .before .before .before .before .loop .inv .3 (c .before .before .before .before .before .before .before .before .before .before .before .before .before .before .before .before .before .before .before .pre .1)) (c .before .before .before .before .before .before .before .before .loop-test .taken) _ (c .before .before .before .before .before .before .linear-at .ensures) (c .before .before .before .before .m .given .0 .0) (c .before .before .before .before .m .given .0 .1 .0) (c .before .before .before .before .m .given .1) (c .before .before .before .before .before .before .before .before .before .loop .inv .2),
+      λ g. turn (side-of (c .before .before .before .before .before .before .before .before .before .before .before .before .before .before .before .before .before .before .before .args .plus)) _ (c .before .before .before .before .before .before .before .before .before .loop .i) (c .before .before .before .before .before .before .before .before .before .loop .inv .3 g) (c .before .before .before .before .before .before .before .before .loop-test .taken) _ (c .before .before .before .before .before .before .linear-at .ensures) (c .before .before .before .before .m .given .0 .0) (c .before .before .before .before .m .given .0 .1 .0) (c .before .before .before .before .m .given .1) _ (c .before .before .goes-with .ensures) _ (not-false _ (c .before .if1 .left)) (c .join .ensures),
     ))
-    (λ c g. ends-linear (side-of (c .before .before .before .before .before .before .before .before .before .before .args .plus)) _ (c .before .loop .i) (c .before .loop .inv .3 g) (c .loop-test .left))
+    (λ c g. ends-linear (side-of (c .before .before .before .before .before .before .before .before .before .before .before .args .plus)) _ (c .before .loop .i) (c .before .loop .inv .3 g) (c .loop-test .left))

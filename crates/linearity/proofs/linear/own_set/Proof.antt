@@ -29,5 +29,5 @@ own-set-spec =
     (λ c. rw (c .enum-told3 .given .1) (own-plain (c .before .before .before .args .plus) is-wild refl))
     (λ c. rw (c .enum-told4 .given .1) (own-plain (c .before .before .before .args .plus) is-absurd refl))
     (λ c. rw (c .enum-told5 .given .1) (own-plain (c .before .before .before .args .plus) is-not refl))
-    (λ c. rw (c .before .before .w2 .given .1) (own-var (c .before .before .before .before .before .args .plus) (c .before .before .w2 .given .0 .0) _ (not-false _ (c .before .before .before .before .if1 .left)) (c .with .ensures)))
+    (λ c. rw (c .before .before .w2 .given .1) (own-var (c .before .before .before .before .before .args .plus) (c .before .before .w2 .given .0 .0) _ (not-false _ (c .before .before .before .before .if1 .left)) (c .only .ensures)))
     (λ c. rw (c .enum-told6 .given .1) (own-plain (c .before .before .before .args .plus) is-other refl)))

@@ -26,6 +26,7 @@ use Rattle.matching.proofs.span.span.Reads as span-span-reads
 use Rattle.matching.proofs.takes.all_fit.Reads as all-fit-reads
 use Rattle.matching.proofs.takes.fits.Reads as fits-reads
 use Rattle.pattern.proofs.token.classify.Reads as classify-reads
+use Rattle.pattern.proofs.token.own_words.Reads as own-words-reads
 use Rattle.booking.proofs.walk.span.Reads as booking-span-reads
 use Rattle.signature.proofs.decoded.arity_of.Reads as arity-of-reads
 use Rattle.matching.proofs.places.+bind+bind_all+bind_two.{statement}
@@ -62,6 +63,8 @@ pub +bind+bind-all+bind-two-spec : {M : Type 1} → statement M
 +bind+bind-all+bind-two-spec = close μ-bind μ-bind-all μ-bind-two (λ t. bind-lts.spec (
   classify-reads.Asked,
   classify-reads.Learnt,
+  own-words-reads.Asked,
+  own-words-reads.Learnt,
   arity-of-reads.Asked,
   arity-of-reads.Learnt,
   bind-all-below t,
@@ -75,54 +78,59 @@ pub +bind+bind-all+bind-two-spec : {M : Type 1} → statement M
     bind.Post
     (λ c. word-there (c .before .before .before .before .before .pre .1 .0))
     (λ c κs. tt)
+    (λ c κs. tt)
     (λ c. search needs)
-    (λ c. omega (arith, value-there (c .before .before .before .before .before .before .before .before .before .before .pre .1 .0)))
-    (λ c g. nothing-put _ _ (ap bound (head-no g (c .before .before .before .w .given .0 .0) (sym (c .before .before .before .before .before .classify .ensures) ∙ ap form-of (c .before .before .before .w .given .1)) (c .if1 .taken) (c .before .before .before .before .before .before .before .before .before .before .before .args .at))))
-    (λ c. omega (arith, head-known (c .before .before .before .before .before .before .before .before .before .before .before .pre .1 .0) (c .before .before .before .w .given .0 .0) (sym (c .before .before .before .before .before .classify .ensures) ∙ ap form-of (c .before .before .before .w .given .1))))
-    (λ c κs. (long (c .before .before .before .before .before .before .before .before .before .before .before .pre .1 .0 .known), head-known (c .before .before .before .before .before .before .before .before .before .before .before .pre .1 .0) (c .before .before .before .w .given .0 .0) (sym (c .before .before .before .before .before .classify .ensures) ∙ ap form-of (c .before .before .before .w .given .1))))
-    (λ c. omega (arith, word-there (c .before .before .before .before .before .before .before .before .before .before .before .before .pre .1 .0)))
-    (λ c. omega (arith, word-there (c .before .before .before .before .before .before .before .before .before .before .before .before .pre .1 .0)))
+    (λ c. omega (arith, value-there (c .before .before .before .before .before .before .before .before .before .before .before .pre .1 .0)))
+    (λ c g. nothing-put _ _ (ap bound (head-no g (c .before .before .before .w .given .0 .0) (sym (c .before .before .before .before .before .before .classify .ensures) ∙ ap form-of (c .before .before .before .w .given .1)) (c .if1 .taken) (c .before .before .before .before .before .before .before .before .before .before .before .before .args .at))))
+    (λ c. omega (arith, head-known (c .before .before .before .before .before .before .before .before .before .before .before .before .pre .1 .0) (c .before .before .before .w .given .0 .0) (sym (c .before .before .before .before .before .before .classify .ensures) ∙ ap form-of (c .before .before .before .w .given .1))))
+    (λ c κs. (long (c .before .before .before .before .before .before .before .before .before .before .before .before .pre .1 .0 .known), head-known (c .before .before .before .before .before .before .before .before .before .before .before .before .pre .1 .0) (c .before .before .before .w .given .0 .0) (sym (c .before .before .before .before .before .before .classify .ensures) ∙ ap form-of (c .before .before .before .w .given .1))))
+    (λ c. omega (arith, c .before .before .before .before .before .before .own-words .ensures, word-there (c .before .before .before .before .before .before .before .before .before .before .before .before .before .pre .1 .0)))
+    (λ c. omega (arith, c .before .before .before .before .before .before .own-words .ensures, word-there (c .before .before .before .before .before .before .before .before .before .before .before .before .before .pre .1 .0)))
+    (λ c. omega (arith, c .before .before .before .before .before .before .own-words .ensures, word-there (c .before .before .before .before .before .before .before .before .before .before .before .before .before .pre .1 .0)))
     (λ c. omega arith)
-    (λ c. omega (arith, value-there (c .before .before .before .before .before .before .before .before .before .before .before .before .before .pre .1 .0)))
-    (λ c. omega (arith, value-there (c .before .before .before .before .before .before .before .before .before .before .before .before .before .pre .1 .0)))
+    (λ c. omega (arith, value-there (c .before .before .before .before .before .before .before .before .before .before .before .before .before .before .pre .1 .0)))
+    (λ c. omega (arith, value-there (c .before .before .before .before .before .before .before .before .before .before .before .before .before .before .pre .1 .0)))
     (λ c. omega arith)
-    (λ c. omega (arith, value-there (c .before .before .before .before .before .before .before .before .before .before .before .before .before .before .pre .1 .0), c .before .before .before .before .before .before .before .before .before .before .before .before .before .before .pre .1 .1))
-    (λ c κs. (simp (length-take, length-drop) (omega (arith, c .before .before .before .before .before .before .before .before .before .before .before .before .before .before .before .pre .0, word-there (c .before .before .before .before .before .before .before .before .before .before .before .before .before .before .before .pre .1 .0))), (head-of (c .before .before .before .before .before .before .before .before .before .before .before .before .before .before .before .pre .1 .0) (c .before .before .before .before .before .before .before .w .given .0 .0) (sym (c .before .before .before .before .before .before .before .before .before .classify .ensures) ∙ ap form-of (c .before .before .before .before .before .before .before .w .given .1)) _ (c .before .before .before .arity-of .ensures) (c .before .before .before .before .if1 .left) .0, simp (length-take, length-drop) (omega (arith, c .before .before .before .before .before .before .before .before .before .before .before .before .before .before .before .pre .1 .1, value-there (c .before .before .before .before .before .before .before .before .before .before .before .before .before .before .before .pre .1 .0))), c .before .before .before .before .before .before .before .before .before .before .before .before .before .before .before .pre .1 .2)))
+    (λ c. omega (arith, value-there (c .before .before .before .before .before .before .before .before .before .before .before .before .before .before .before .pre .1 .0), c .before .before .before .before .before .before .before .before .before .before .before .before .before .before .before .pre .1 .1))
+    (λ c κs. rw (c .before .before .before .before .before .before .before .before .before .own-words .ensures) (simp length-take (omega (arith, c .before .before .before .before .before .before .before .before .before .before .before .before .before .before .before .before .pre .0, word-there (c .before .before .before .before .before .before .before .before .before .before .before .before .before .before .before .before .pre .1 .0))), (head-of (c .before .before .before .before .before .before .before .before .before .before .before .before .before .before .before .before .pre .1 .0) (c .before .before .before .before .before .before .before .w .given .0 .0) (sym (c .before .before .before .before .before .before .before .before .before .before .classify .ensures) ∙ ap form-of (c .before .before .before .before .before .before .before .w .given .1)) _ (c .before .before .before .arity-of .ensures) (c .before .before .before .before .if1 .left) .0, simp (length-take, length-drop) (omega (arith, c .before .before .before .before .before .before .before .before .before .before .before .before .before .before .before .before .pre .1 .1, value-there (c .before .before .before .before .before .before .before .before .before .before .before .before .before .before .before .before .pre .1 .0))), c .before .before .before .before .before .before .before .before .before .before .before .before .before .before .before .before .pre .1 .2)))
     (λ c. search needs)
-    (λ c. omega (arith, word-there (c .before .before .before .before .before .before .before .before .pre .1 .0)))
-    (λ c. omega (arith, word-there (c .before .before .before .before .before .before .before .before .pre .1 .0)))
+    (λ c. omega (arith, c .before .before .own-words .ensures, word-there (c .before .before .before .before .before .before .before .before .before .pre .1 .0)))
+    (λ c. omega (arith, c .before .before .own-words .ensures, word-there (c .before .before .before .before .before .before .before .before .before .pre .1 .0)))
+    (λ c. omega (arith, c .before .before .own-words .ensures, word-there (c .before .before .before .before .before .before .before .before .before .pre .1 .0)))
     (λ c. omega arith)
-    (λ c κs. (simp (length-take, length-drop) (omega (arith, c .before .before .before .before .before .before .before .before .before .before .pre .0, word-there (c .before .before .before .before .before .before .before .before .before .before .pre .1 .0))), (and-of (c .before .before .before .before .before .before .before .before .before .before .pre .1 .0) (sym (c .before .before .before .before .classify .ensures) ∙ ap form-of (c .before .before .enum-told .given .1)) .0, c .before .before .before .before .before .before .before .before .before .before .pre .1 .1, c .before .before .before .before .before .before .before .before .before .before .pre .1 .2)))
+    (λ c κs. rw (c .before .before .before .before .own-words .ensures) (simp length-take (omega (arith, c .before .before .before .before .before .before .before .before .before .before .before .pre .0, word-there (c .before .before .before .before .before .before .before .before .before .before .before .pre .1 .0))), (and-of (c .before .before .before .before .before .before .before .before .before .before .before .pre .1 .0) (sym (c .before .before .before .before .before .classify .ensures) ∙ ap form-of (c .before .before .enum-told .given .1)) .0, c .before .before .before .before .before .before .before .before .before .before .before .pre .1 .1, c .before .before .before .before .before .before .before .before .before .before .before .pre .1 .2)))
     (λ c. search needs)
-    (λ c. omega (arith, word-there (c .before .before .before .before .before .before .before .before .pre .1 .0)))
-    (λ c. omega (arith, word-there (c .before .before .before .before .before .before .before .before .pre .1 .0)))
+    (λ c. omega (arith, c .before .before .own-words .ensures, word-there (c .before .before .before .before .before .before .before .before .before .pre .1 .0)))
+    (λ c. omega (arith, c .before .before .own-words .ensures, word-there (c .before .before .before .before .before .before .before .before .before .pre .1 .0)))
+    (λ c. omega (arith, c .before .before .own-words .ensures, word-there (c .before .before .before .before .before .before .before .before .before .pre .1 .0)))
     (λ c. omega arith)
-    (λ c κs. (simp (length-take, length-drop) (omega (arith, c .before .before .before .before .before .before .before .before .before .before .pre .0, word-there (c .before .before .before .before .before .before .before .before .before .before .pre .1 .0))), (or-of (c .before .before .before .before .before .before .before .before .before .before .pre .1 .0) (sym (c .before .before .before .before .classify .ensures) ∙ ap form-of (c .before .before .enum-told2 .given .1)) .0, c .before .before .before .before .before .before .before .before .before .before .pre .1 .1, c .before .before .before .before .before .before .before .before .before .before .pre .1 .2)))
+    (λ c κs. rw (c .before .before .before .before .own-words .ensures) (simp length-take (omega (arith, c .before .before .before .before .before .before .before .before .before .before .before .pre .0, word-there (c .before .before .before .before .before .before .before .before .before .before .before .pre .1 .0))), (or-of (c .before .before .before .before .before .before .before .before .before .before .before .pre .1 .0) (sym (c .before .before .before .before .before .classify .ensures) ∙ ap form-of (c .before .before .enum-told2 .given .1)) .0, c .before .before .before .before .before .before .before .before .before .before .before .pre .1 .1, c .before .before .before .before .before .before .before .before .before .before .before .pre .1 .2)))
     (λ c. search needs)
     (λ c. search needs)
     (λ c. search needs)
-    (λ c. omega (arith, word-there (c .before .before .before .before .before .before .before .before .pre .1 .0)))
-    (λ c. omega (arith, word-there (c .before .before .before .before .before .before .before .before .pre .1 .0)))
+    (λ c. omega (arith, c .before .before .own-words .ensures, word-there (c .before .before .before .before .before .before .before .before .before .pre .1 .0)))
+    (λ c. omega (arith, c .before .before .own-words .ensures, word-there (c .before .before .before .before .before .before .before .before .before .pre .1 .0)))
+    (λ c. omega (arith, c .before .before .own-words .ensures, word-there (c .before .before .before .before .before .before .before .before .before .pre .1 .0)))
     (λ c. omega arith)
-    (λ c κs. (simp (length-take, length-drop) (omega (arith, c .before .before .before .before .before .before .before .before .before .before .pre .0, word-there (c .before .before .before .before .before .before .before .before .before .before .pre .1 .0))), (not-of (c .before .before .before .before .before .before .before .before .before .before .pre .1 .0) (sym (c .before .before .before .before .classify .ensures) ∙ ap form-of (c .before .before .enum-told5 .given .1)) .0, c .before .before .before .before .before .before .before .before .before .before .pre .1 .1, c .before .before .before .before .before .before .before .before .before .before .pre .1 .2)))
+    (λ c κs. rw (c .before .before .before .before .own-words .ensures) (simp length-take (omega (arith, c .before .before .before .before .before .before .before .before .before .before .before .pre .0, word-there (c .before .before .before .before .before .before .before .before .before .before .before .pre .1 .0))), (not-of (c .before .before .before .before .before .before .before .before .before .before .before .pre .1 .0) (sym (c .before .before .before .before .before .classify .ensures) ∙ ap form-of (c .before .before .enum-told5 .given .1)) .0, c .before .before .before .before .before .before .before .before .before .before .before .pre .1 .1, c .before .before .before .before .before .before .before .before .before .before .before .pre .1 .2)))
     (λ c. search needs)
-    (λ c. omega (arith, var-known (c .before .before .before .before .before .before .before .before .before .pre .1 .0) (c .before .w2 .given .0 .0) (sym (c .before .before .before .classify .ensures) ∙ ap form-of (c .before .w2 .given .1))))
-    (λ c. omega (arith, var-known (c .before .before .before .before .before .before .before .before .before .pre .1 .0) (c .before .w2 .given .0 .0) (sym (c .before .before .before .classify .ensures) ∙ ap form-of (c .before .w2 .given .1))))
-    (λ c. omega (arith, var-known (c .before .before .before .before .before .before .before .before .before .pre .1 .0) (c .before .w2 .given .0 .0) (sym (c .before .before .before .classify .ensures) ∙ ap form-of (c .before .w2 .given .1)), c .before .before .before .before .before .before .before .before .before .pre .1 .2))
+    (λ c. omega (arith, var-known (c .before .before .before .before .before .before .before .before .before .before .pre .1 .0) (c .before .w2 .given .0 .0) (sym (c .before .before .before .before .classify .ensures) ∙ ap form-of (c .before .w2 .given .1))))
+    (λ c. omega (arith, var-known (c .before .before .before .before .before .before .before .before .before .before .pre .1 .0) (c .before .w2 .given .0 .0) (sym (c .before .before .before .before .classify .ensures) ∙ ap form-of (c .before .w2 .given .1))))
+    (λ c. omega (arith, var-known (c .before .before .before .before .before .before .before .before .before .before .pre .1 .0) (c .before .w2 .given .0 .0) (sym (c .before .before .before .before .classify .ensures) ∙ ap form-of (c .before .w2 .given .1)), c .before .before .before .before .before .before .before .before .before .before .pre .1 .2))
     (λ c. search needs)
     (λ c. c .before .before .bind-all .kept .1 .1 .1 .1 .1 .0)
-    (λ c g. let h = head-of g (c .before .before .before .before .before .before .before .before .before .before .w .given .0 .0) (sym (c .before .before .before .before .before .before .before .before .before .before .before .before .classify .ensures) ∙ ap form-of (c .before .before .before .before .before .before .before .before .before .before .w .given .1)) _ (c .before .before .before .before .before .before .arity-of .ensures) (c .before .before .before .before .before .before .before .if1 .left) in put _ _ _ _ (h .1 (c .before .before .before .before .before .before .before .before .before .before .before .before .before .before .before .before .before .before .args .at)) (c .before .before .bind-all .ensures (h .0)))
+    (λ c g. let h = head-of g (c .before .before .before .before .before .before .before .before .before .before .w .given .0 .0) (sym (c .before .before .before .before .before .before .before .before .before .before .before .before .before .classify .ensures) ∙ ap form-of (c .before .before .before .before .before .before .before .before .before .before .w .given .1)) _ (c .before .before .before .before .before .before .arity-of .ensures) (c .before .before .before .before .before .before .before .if1 .left) in put _ _ _ _ (h .1 (c .before .before .before .before .before .before .before .before .before .before .before .before .before .before .before .before .before .before .before .args .at)) ((rw (c .before .before .before .before .before .before .before .before .before .before .before .before .own-words .ensures) at (c .before .before .bind-all .ensures)) (h .0)))
     (λ c. c .before .before .bind-two .kept .1 .1 .1 .1 .1 .0)
-    (λ c g. let h = and-of g (sym (c .before .before .before .before .before .before .before .classify .ensures) ∙ ap form-of (c .before .before .before .before .before .enum-told .given .1)) in put _ _ _ _ (h .1 (c .before .before .before .before .before .before .before .before .before .before .before .before .before .args .at)) (c .before .before .bind-two .ensures (h .0)))
+    (λ c g. let h = and-of g (sym (c .before .before .before .before .before .before .before .before .classify .ensures) ∙ ap form-of (c .before .before .before .before .before .enum-told .given .1)) in put _ _ _ _ (h .1 (c .before .before .before .before .before .before .before .before .before .before .before .before .before .before .args .at)) ((rw (c .before .before .before .before .before .before .before .own-words .ensures) at (c .before .before .bind-two .ensures)) (h .0)))
     (λ c. c .before .before .bind-two2 .kept .1 .1 .1 .1 .1 .0)
-    (λ c g. let h = or-of g (sym (c .before .before .before .before .before .before .before .classify .ensures) ∙ ap form-of (c .before .before .before .before .before .enum-told2 .given .1)) in put _ _ _ _ (h .1 (c .before .before .before .before .before .before .before .before .before .before .before .before .before .args .at)) (c .before .before .bind-two2 .ensures (h .0)))
-    (λ c g. nothing-put _ _ (ap bound (wild-fits g (c .before .before .before .before .before .before .before .before .args .at) (sym (c .before .before .classify .ensures) ∙ ap form-of (c .enum-told3 .given .1)))))
-    (λ c g. nothing-put _ _ (ap bound (absurd-fails g (c .before .before .before .before .before .before .before .before .args .at) (sym (c .before .before .classify .ensures) ∙ ap form-of (c .enum-told4 .given .1)))))
+    (λ c g. let h = or-of g (sym (c .before .before .before .before .before .before .before .before .classify .ensures) ∙ ap form-of (c .before .before .before .before .before .enum-told2 .given .1)) in put _ _ _ _ (h .1 (c .before .before .before .before .before .before .before .before .before .before .before .before .before .before .args .at)) ((rw (c .before .before .before .before .before .before .before .own-words .ensures) at (c .before .before .bind-two2 .ensures)) (h .0)))
+    (λ c g. nothing-put _ _ (ap bound (wild-fits g (c .before .before .before .before .before .before .before .before .before .args .at) (sym (c .before .before .before .classify .ensures) ∙ ap form-of (c .enum-told3 .given .1)))))
+    (λ c g. nothing-put _ _ (ap bound (absurd-fails g (c .before .before .before .before .before .before .before .before .before .args .at) (sym (c .before .before .before .classify .ensures) ∙ ap form-of (c .enum-told4 .given .1)))))
     (λ c. c .before .before .bind .kept .1 .1 .1 .1 .0)
-    (λ c g. let h = not-of g (sym (c .before .before .before .before .before .before .before .classify .ensures) ∙ ap form-of (c .before .before .before .before .before .enum-told5 .given .1)) in not-put (decide (h .0 .pattern) (h .0 .value) (c .before .before .before .before .before .before .before .before .before .before .before .before .before .args .at)) _ _ _ (h .1 (c .before .before .before .before .before .before .before .before .before .before .before .before .before .args .at)) (c .before .before .bind .ensures (h .0)))
-    (λ c. length-set (c .before .before .before .before .before .before .before .before .before .args .out .now) (c .before .w2 .given .0 .0) (c .before .before .before .before .before .before .before .before .before .args .at))
-    (λ c g. var-put _ (c .before .w2 .given .0 .0) (c .before .before .before .before .before .before .before .before .before .args .at) _ (var-fits g (c .before .before .before .before .before .before .before .before .before .args .at) (c .before .w2 .given .0 .0) (sym (c .before .before .before .classify .ensures) ∙ ap form-of (c .before .w2 .given .1))))
-    (λ c g. never g (sym (c .before .before .classify .ensures) ∙ ap form-of (c .enum-told6 .given .1))))
+    (λ c g. let h = not-of g (sym (c .before .before .before .before .before .before .before .before .classify .ensures) ∙ ap form-of (c .before .before .before .before .before .enum-told5 .given .1)) in not-put (decide (h .0 .pattern) (h .0 .value) (c .before .before .before .before .before .before .before .before .before .before .before .before .before .before .args .at)) _ _ _ (h .1 (c .before .before .before .before .before .before .before .before .before .before .before .before .before .before .args .at)) ((rw (c .before .before .before .before .before .before .before .own-words .ensures) at (c .before .before .bind .ensures)) (h .0)))
+    (λ c. length-set (c .before .before .before .before .before .before .before .before .before .before .args .out .now) (c .before .w2 .given .0 .0) (c .before .before .before .before .before .before .before .before .before .before .args .at))
+    (λ c g. var-put _ (c .before .w2 .given .0 .0) (c .before .before .before .before .before .before .before .before .before .before .args .at) _ (var-fits g (c .before .before .before .before .before .before .before .before .before .before .args .at) (c .before .w2 .given .0 .0) (sym (c .before .before .before .before .classify .ensures) ∙ ap form-of (c .before .w2 .given .1))))
+    (λ c g. never g (sym (c .before .before .before .classify .ensures) ∙ ap form-of (c .enum-told6 .given .1))))
     (λ t. bind-all-lts.spec (
       fits-reads.Asked,
       fits-reads.Learnt,

@@ -22,6 +22,7 @@ use Rattle.matching.proofs.takes.two_fit.Kinds as two-fit-kinds
 use Rattle.matching.proofs.takes.+all_fit+fits+two_fit.Lts-two_fit as two-fit-lts
 use Rattle.matching.proofs.span.span.Reads as span-span-reads
 use Rattle.pattern.proofs.token.classify.Reads as classify-reads
+use Rattle.pattern.proofs.token.own_words.Reads as own-words-reads
 use Rattle.booking.proofs.walk.span.Reads as booking-span-reads
 use Rattle.signature.proofs.decoded.arity_of.Reads as arity-of-reads
 use Rattle.matching.proofs.takes.+all_fit+fits+two_fit.{statement}
@@ -86,6 +87,8 @@ pub +all-fit+fits+two-fit-spec : {M : Type 1} → statement M
     (λ t. fits-lts.spec (
       classify-reads.Asked,
       classify-reads.Learnt,
+      own-words-reads.Asked,
+      own-words-reads.Learnt,
       arity-of-reads.Asked,
       arity-of-reads.Learnt,
       all-fit-below t,
@@ -99,45 +102,50 @@ pub +all-fit+fits+two-fit-spec : {M : Type 1} → statement M
     fits.Post
     (λ c. word-there (c .before .before .before .before .pre .1))
     (λ c κs. tt)
+    (λ c κs. tt)
     (λ c. search needs)
-    (λ c. omega (arith, value-there (c .before .before .before .before .before .before .before .before .before .pre .1)))
-    (λ c g i. sym (ap is-fit (head-no g (c .before .before .before .w .given .0 .0) (sym (c .before .before .before .before .before .classify .ensures) ∙ ap form-of (c .before .before .before .w .given .1)) (c .if1 .taken) i)))
-    (λ c. omega (arith, head-known (c .before .before .before .before .before .before .before .before .before .before .pre .1) (c .before .before .before .w .given .0 .0) (sym (c .before .before .before .before .before .classify .ensures) ∙ ap form-of (c .before .before .before .w .given .1))))
-    (λ c κs. (long (c .before .before .before .before .before .before .before .before .before .before .pre .1 .known), head-known (c .before .before .before .before .before .before .before .before .before .before .pre .1) (c .before .before .before .w .given .0 .0) (sym (c .before .before .before .before .before .classify .ensures) ∙ ap form-of (c .before .before .before .w .given .1))))
-    (λ c. omega (arith, word-there (c .before .before .before .before .before .before .before .before .before .before .before .pre .1)))
-    (λ c. omega (arith, word-there (c .before .before .before .before .before .before .before .before .before .before .before .pre .1)))
+    (λ c. omega (arith, value-there (c .before .before .before .before .before .before .before .before .before .before .pre .1)))
+    (λ c g i. sym (ap is-fit (head-no g (c .before .before .before .w .given .0 .0) (sym (c .before .before .before .before .before .before .classify .ensures) ∙ ap form-of (c .before .before .before .w .given .1)) (c .if1 .taken) i)))
+    (λ c. omega (arith, head-known (c .before .before .before .before .before .before .before .before .before .before .before .pre .1) (c .before .before .before .w .given .0 .0) (sym (c .before .before .before .before .before .before .classify .ensures) ∙ ap form-of (c .before .before .before .w .given .1))))
+    (λ c κs. (long (c .before .before .before .before .before .before .before .before .before .before .before .pre .1 .known), head-known (c .before .before .before .before .before .before .before .before .before .before .before .pre .1) (c .before .before .before .w .given .0 .0) (sym (c .before .before .before .before .before .before .classify .ensures) ∙ ap form-of (c .before .before .before .w .given .1))))
+    (λ c. omega (arith, c .before .before .before .before .before .before .own-words .ensures, word-there (c .before .before .before .before .before .before .before .before .before .before .before .before .pre .1)))
+    (λ c. omega (arith, c .before .before .before .before .before .before .own-words .ensures, word-there (c .before .before .before .before .before .before .before .before .before .before .before .before .pre .1)))
+    (λ c. omega (arith, c .before .before .before .before .before .before .own-words .ensures, word-there (c .before .before .before .before .before .before .before .before .before .before .before .before .pre .1)))
     (λ c. omega arith)
-    (λ c. omega (arith, value-there (c .before .before .before .before .before .before .before .before .before .before .before .before .pre .1)))
-    (λ c. omega (arith, value-there (c .before .before .before .before .before .before .before .before .before .before .before .before .pre .1)))
+    (λ c. omega (arith, value-there (c .before .before .before .before .before .before .before .before .before .before .before .before .before .pre .1)))
+    (λ c. omega (arith, value-there (c .before .before .before .before .before .before .before .before .before .before .before .before .before .pre .1)))
     (λ c. omega arith)
-    (λ c κs. (simp (length-take, length-drop) (omega (arith, c .before .before .before .before .before .before .before .before .before .before .before .before .before .pre .0, word-there (c .before .before .before .before .before .before .before .before .before .before .before .before .before .pre .1))), head-of (c .before .before .before .before .before .before .before .before .before .before .before .before .before .pre .1) (c .before .before .before .before .before .before .w .given .0 .0) (sym (c .before .before .before .before .before .before .before .before .classify .ensures) ∙ ap form-of (c .before .before .before .before .before .before .w .given .1)) _ (c .before .before .arity-of .ensures) (c .before .before .before .if1 .left) .0))
+    (λ c κs. rw (c .before .before .before .before .before .before .before .before .own-words .ensures) (simp length-take (omega (arith, c .before .before .before .before .before .before .before .before .before .before .before .before .before .before .pre .0, word-there (c .before .before .before .before .before .before .before .before .before .before .before .before .before .before .pre .1))), head-of (c .before .before .before .before .before .before .before .before .before .before .before .before .before .before .pre .1) (c .before .before .before .before .before .before .w .given .0 .0) (sym (c .before .before .before .before .before .before .before .before .before .classify .ensures) ∙ ap form-of (c .before .before .before .before .before .before .w .given .1)) _ (c .before .before .arity-of .ensures) (c .before .before .before .if1 .left) .0))
     (λ c. search needs)
-    (λ c. omega (arith, word-there (c .before .before .before .before .before .before .before .pre .1)))
-    (λ c. omega (arith, word-there (c .before .before .before .before .before .before .before .pre .1)))
+    (λ c. omega (arith, c .before .before .own-words .ensures, word-there (c .before .before .before .before .before .before .before .before .pre .1)))
+    (λ c. omega (arith, c .before .before .own-words .ensures, word-there (c .before .before .before .before .before .before .before .before .pre .1)))
+    (λ c. omega (arith, c .before .before .own-words .ensures, word-there (c .before .before .before .before .before .before .before .before .pre .1)))
     (λ c. omega arith)
-    (λ c κs. (simp (length-take, length-drop) (omega (arith, c .before .before .before .before .before .before .before .before .pre .0, word-there (c .before .before .before .before .before .before .before .before .pre .1))), and-of (c .before .before .before .before .before .before .before .before .pre .1) (sym (c .before .before .before .classify .ensures) ∙ ap form-of (c .before .enum-told .given .1)) .0))
+    (λ c κs. rw (c .before .before .before .own-words .ensures) (simp length-take (omega (arith, c .before .before .before .before .before .before .before .before .before .pre .0, word-there (c .before .before .before .before .before .before .before .before .before .pre .1))), and-of (c .before .before .before .before .before .before .before .before .before .pre .1) (sym (c .before .before .before .before .classify .ensures) ∙ ap form-of (c .before .enum-told .given .1)) .0))
     (λ c. search needs)
-    (λ c. omega (arith, word-there (c .before .before .before .before .before .before .before .pre .1)))
-    (λ c. omega (arith, word-there (c .before .before .before .before .before .before .before .pre .1)))
+    (λ c. omega (arith, c .before .before .own-words .ensures, word-there (c .before .before .before .before .before .before .before .before .pre .1)))
+    (λ c. omega (arith, c .before .before .own-words .ensures, word-there (c .before .before .before .before .before .before .before .before .pre .1)))
+    (λ c. omega (arith, c .before .before .own-words .ensures, word-there (c .before .before .before .before .before .before .before .before .pre .1)))
     (λ c. omega arith)
-    (λ c κs. (simp (length-take, length-drop) (omega (arith, c .before .before .before .before .before .before .before .before .pre .0, word-there (c .before .before .before .before .before .before .before .before .pre .1))), or-of (c .before .before .before .before .before .before .before .before .pre .1) (sym (c .before .before .before .classify .ensures) ∙ ap form-of (c .before .enum-told2 .given .1)) .0))
+    (λ c κs. rw (c .before .before .before .own-words .ensures) (simp length-take (omega (arith, c .before .before .before .before .before .before .before .before .before .pre .0, word-there (c .before .before .before .before .before .before .before .before .before .pre .1))), or-of (c .before .before .before .before .before .before .before .before .before .pre .1) (sym (c .before .before .before .before .classify .ensures) ∙ ap form-of (c .before .enum-told2 .given .1)) .0))
     (λ c. search needs)
     (λ c. search needs)
     (λ c. search needs)
-    (λ c. omega (arith, word-there (c .before .before .before .before .before .before .before .pre .1)))
-    (λ c. omega (arith, word-there (c .before .before .before .before .before .before .before .pre .1)))
+    (λ c. omega (arith, c .before .before .own-words .ensures, word-there (c .before .before .before .before .before .before .before .before .pre .1)))
+    (λ c. omega (arith, c .before .before .own-words .ensures, word-there (c .before .before .before .before .before .before .before .before .pre .1)))
+    (λ c. omega (arith, c .before .before .own-words .ensures, word-there (c .before .before .before .before .before .before .before .before .pre .1)))
     (λ c. omega arith)
-    (λ c κs. (simp (length-take, length-drop) (omega (arith, c .before .before .before .before .before .before .before .before .pre .0, word-there (c .before .before .before .before .before .before .before .before .pre .1))), not-of (c .before .before .before .before .before .before .before .before .pre .1) (sym (c .before .before .before .classify .ensures) ∙ ap form-of (c .before .enum-told5 .given .1)) .0))
+    (λ c κs. rw (c .before .before .before .own-words .ensures) (simp length-take (omega (arith, c .before .before .before .before .before .before .before .before .before .pre .0, word-there (c .before .before .before .before .before .before .before .before .before .pre .1))), not-of (c .before .before .before .before .before .before .before .before .before .pre .1) (sym (c .before .before .before .before .classify .ensures) ∙ ap form-of (c .before .enum-told5 .given .1)) .0))
     (λ c. search needs)
     (λ c. search needs)
-    (λ c g i. let h = head-of g (c .before .before .before .before .before .before .before .w .given .0 .0) (sym (c .before .before .before .before .before .before .before .before .before .classify .ensures) ∙ ap form-of (c .before .before .before .before .before .before .before .w .given .1)) _ (c .before .before .before .arity-of .ensures) (c .before .before .before .before .if1 .left) in answer _ _ _ (h .1 i) (c .all-fit .ensures (h .0) _))
-    (λ c g i. let h = and-of g (sym (c .before .before .before .before .classify .ensures) ∙ ap form-of (c .before .before .enum-told .given .1)) in answer _ _ _ (h .1 i) (c .two-fit .ensures (h .0) i))
-    (λ c g i. let h = or-of g (sym (c .before .before .before .before .classify .ensures) ∙ ap form-of (c .before .before .enum-told2 .given .1)) in answer _ _ _ (h .1 i) (c .two-fit2 .ensures (h .0) i))
-    (λ c g i. sym (ap is-fit (wild-fits g i (sym (c .before .before .classify .ensures) ∙ ap form-of (c .enum-told3 .given .1)))))
-    (λ c g i. sym (ap is-fit (absurd-fails g i (sym (c .before .before .classify .ensures) ∙ ap form-of (c .enum-told4 .given .1)))))
-    (λ c g i. let h = not-of g (sym (c .before .before .before .before .classify .ensures) ∙ ap form-of (c .before .before .enum-told5 .given .1)) in not-answer (decide (h .0 .pattern) (h .0 .value) i) _ _ (h .1 i) (c .fits2 .ensures (h .0) i))
-    (λ c g i. sym (ap is-fit (var-fits g i _ (sym (c .before .before .before .classify .ensures) ∙ ap form-of (c .before .w2 .given .1)))))
-    (λ c g i. never g (sym (c .before .before .classify .ensures) ∙ ap form-of (c .enum-told6 .given .1))))
+    (λ c g i. let h = head-of g (c .before .before .before .before .before .before .before .w .given .0 .0) (sym (c .before .before .before .before .before .before .before .before .before .before .classify .ensures) ∙ ap form-of (c .before .before .before .before .before .before .before .w .given .1)) _ (c .before .before .before .arity-of .ensures) (c .before .before .before .before .if1 .left) in answer _ _ _ (h .1 i) ((rw (c .before .before .before .before .before .before .before .before .before .own-words .ensures) at (c .all-fit .ensures)) (h .0) _))
+    (λ c g i. let h = and-of g (sym (c .before .before .before .before .before .classify .ensures) ∙ ap form-of (c .before .before .enum-told .given .1)) in answer _ _ _ (h .1 i) ((rw (c .before .before .before .before .own-words .ensures) at (c .two-fit .ensures)) (h .0) i))
+    (λ c g i. let h = or-of g (sym (c .before .before .before .before .before .classify .ensures) ∙ ap form-of (c .before .before .enum-told2 .given .1)) in answer _ _ _ (h .1 i) ((rw (c .before .before .before .before .own-words .ensures) at (c .two-fit2 .ensures)) (h .0) i))
+    (λ c g i. sym (ap is-fit (wild-fits g i (sym (c .before .before .before .classify .ensures) ∙ ap form-of (c .enum-told3 .given .1)))))
+    (λ c g i. sym (ap is-fit (absurd-fails g i (sym (c .before .before .before .classify .ensures) ∙ ap form-of (c .enum-told4 .given .1)))))
+    (λ c g i. let h = not-of g (sym (c .before .before .before .before .before .classify .ensures) ∙ ap form-of (c .before .before .enum-told5 .given .1)) in not-answer (decide (h .0 .pattern) (h .0 .value) i) _ _ (h .1 i) ((rw (c .before .before .before .before .own-words .ensures) at (c .fits2 .ensures)) (h .0) i))
+    (λ c g i. sym (ap is-fit (var-fits g i _ (sym (c .before .before .before .before .classify .ensures) ∙ ap form-of (c .before .w2 .given .1)))))
+    (λ c g i. never g (sym (c .before .before .before .classify .ensures) ∙ ap form-of (c .enum-told6 .given .1))))
     λ t. two-fit-lts.spec
     (fits-below t, fits.Post, span-span-reads.Asked, span-span-reads.Learnt)
     (two-fit-at t)

@@ -3,6 +3,8 @@ use Prim.Native.Nat.{ℕ, _+_, _-_, _≤_}
 use native.Mathlib.Omega.{arith}
 use lib.ListN.{length}
 use Rattle.cell.proofs.Turns.{Front}
+use Rattle.sets.proofs.ListSets.{no-members}
+use Rattle.sets.proofs.SetLaws.{size-some}
 use Rattle.overlap.specs.Pair.{TwoRows}
 use Rattle.overlap.proofs.Lockstep.{Now, Step, given, begin, all-met, in-front, known-here, none-met, few-left, step}
 use Rattle.overlap.proofs.pair.rows_meet.Statement.{statement}
@@ -33,7 +35,7 @@ few c =
     let l = t .before .loop in
     let j = c .before .before .before in
     few-left (entry (t .before) .pre) (l .x) (l .y) (l .left) (here (t .before)) (t .loop-test .taken) (j .before .before .look .result) (j .before .look2 .result) (j .join .result)
-    (j .before .before .look .ensures) (j .before .look2 .ensures) (j .join .ensures) (c .opens .result) (c .before .if1 .left) (c .opens .ensures)
+    (j .before .before .look .ensures) (j .before .look2 .ensures) (j .join .ensures) (c .opens .result) (size-some _ _ (c .before .before .size .ensures .0) (c .before .if1 .left)) (c .opens .ensures)
 
 stepped : (c : tie.After-next2 Inv-loop μ-loop) → let t = turn-of (c .before .before) in let e = entry (t .before) in let l = t .before .loop in
     (g : TwoRows (e .args .t .now) (e .args .a .now) (e .args .b .now)) → Step g (l .x) (l .y) (l .left) (c .before .before .opens .result) (c .before .next .result) (c .next2 .result)
@@ -43,7 +45,7 @@ stepped c g =
     let l = t .before .loop in
     let j = o .before .before .before in
     step g (l .x) (l .y) (l .left) (l .inv g) (t .loop-test .taken) (j .before .before .look .result) (j .before .look2 .result) (j .join .result)
-    (j .before .before .look .ensures) (j .before .look2 .ensures) (j .join .ensures) (o .opens .result) (o .before .if1 .left) (o .opens .ensures)
+    (j .before .before .look .ensures) (j .before .look2 .ensures) (j .join .ensures) (o .opens .result) (size-some _ _ (o .before .before .size .ensures .0) (o .before .if1 .left)) (o .opens .ensures)
     (c .before .next .result) (c .next2 .result) (c .before .next .ensures) (c .next2 .ensures)
 
 returns : tie.Need-returns Inv-loop μ-loop
@@ -52,7 +54,7 @@ returns c = λ g.
     let t = j .before .before .before in
     let l = t .before .loop in
     none-met g (l .x) (l .y) (l .left) (l .inv g) (t .loop-test .taken) (j .before .before .look .result) (j .before .look2 .result) (j .join .result)
-    (j .before .before .look .ensures) (j .before .look2 .ensures) (j .join .ensures) (c .if1 .taken)
+    (j .before .before .look .ensures) (j .before .look2 .ensures) (j .join .ensures) (no-members _ (c .before .size .ensures .1 (c .if1 .taken)))
 
 opens-requires : tie.Need-opens-requires Inv-loop μ-loop
 opens-requires c κs =
@@ -66,10 +68,10 @@ add-left : tie.Need-add-left Inv-loop μ-loop
 add-left c = omega (arith, few c, entry (turn-of c .before) .good)
 
 next-requires : tie.Need-next-requires Inv-loop μ-loop
-next-requires c κs = let t = turn-of c in omega (arith, few c, in-turn t .virtA, in-turn t .withinA, entry (t .before) .good)
+next-requires c κs = let t = turn-of c in omega (arith, few c, in-turn t .wildcards-a, in-turn t .within-a, entry (t .before) .good)
 
 next-requires-2 : tie.Need-next-requires-2 Inv-loop μ-loop
-next-requires-2 c κs = let t = turn-of (c .before) in omega (arith, few (c .before), in-turn t .virtB, in-turn t .withinB, entry (t .before) .good)
+next-requires-2 c κs = let t = turn-of (c .before) in omega (arith, few (c .before), in-turn t .wildcards-b, in-turn t .within-b, entry (t .before) .good)
 
 pub rows-meet-spec : {M : Type 1} → statement M
 rows-meet-spec =
@@ -78,8 +80,9 @@ rows-meet-spec =
     Inv-loop
     μ-loop
     (λ c g. begin g)
-    (λ c κs. in-turn c .seeA)
-    (λ c κs. in-turn (c .before) .seeB)
+    (λ c κs. in-turn c .see-a)
+    (λ c κs. in-turn (c .before) .see-b)
+    (λ c κs. tt)
     (λ c κs. tt)
     returns
     opens-requires

@@ -2,7 +2,7 @@
 use mathlib.Core.List.{[]}
 use Prim.Native.Nat.{_≤_}
 use native.Mathlib.Omega.{arith}
-use Rattle.cell.specs.Coded.{code-of}
+use Rattle.cell.specs.Coded.{row-code-of}
 use borrow.Author.Needs.{needs}
 use lib.ListN.{length, length-take, length-drop}
 use Rattle.row.specs.Row.{combine}
@@ -18,7 +18,7 @@ add-result : tie.Need-add-result
 unfolding given-tail
 add-result c =
     let g = c .before .before .before .before .before .before .before .before .before .before .before .pre in
-    let k : c .before .n .given .0 .0 ≤ length (c .before .before .before .before .before .combine .last .1 .1 .1 .0) = kept-le (code-of (g .K) (g .kind) (combine (g .r) (g .s))) _ _ _ (c .before .before .before .before .before .combine .last .1 .1 .1 .0) (c .before .before .before .before .before .combine .ensures (given-tail g)) (c .before .n .given .1) in
+    let k : c .before .n .given .0 .0 ≤ length (c .before .before .before .before .before .combine .last .1 .1 .1 .0) = kept-le (row-code-of (g .K) (g .kind) (combine (g .r) (g .s))) _ _ _ (c .before .before .before .before .before .combine .last .1 .1 .1 .0) (c .before .before .before .before .before .combine .ensures (given-tail g)) (c .before .n .given .1) in
     omega (arith, simp (length-take, length-drop) at (c .before .before .before .before .before .combine .kept .1 .1 .1 .0), g .room, c .before .before .before .before .before .before .before .before .before .before .before .good .1 .1 .1)
 
 returns-2 : tie.Need-returns-2

@@ -15,19 +15,22 @@ Inv-loop t x y out₀ used₀ at₀ out used at = (at < length y) × (used ≤ l
 abbrev μ-loop : tie.MeasureT-loop
 μ-loop t x y out₀ used₀ at₀ out used at = length y - at
 
--- the function's entry, and the loop's head, from the end of a turn
-abbrev entry : tie.After-slice-known2 Inv-loop μ-loop → tie.Start Inv-loop μ-loop
-entry c = c .before .before .before .before .before .before .before .before .before .before .before .before .before
+-- from the end of a turn: its start, the loop's head, the function's entry
+abbrev turn : tie.After-slice-known2 Inv-loop μ-loop → tie.Then1 Inv-loop μ-loop
+turn c = c .before .before .before .before .before .before
 
 abbrev top : tie.After-slice-known2 Inv-loop μ-loop → tie.At-loop Inv-loop μ-loop
-top c = c .before .before .before .before .before .before .before .before
+top c = turn c .before .before
+
+abbrev entry : tie.After-slice-known2 Inv-loop μ-loop → tie.Start Inv-loop μ-loop
+entry c = top c .before .before .before .before .before
 
 -- what the turn does, for any lists that the slices begin with
 turned : (c : tie.After-slice-known2 Inv-loop μ-loop) (g : GivenEach (entry c .args .t .now) (entry c .args .x .now) (entry c .args .y .now) (entry c .args .out .now))
     → let l = top c .loop in Turned (each-task g) (l .at) (l .used) (c .before .before .entry .result) (l .out) (c .before .before .entry .last .1 .1 .1 .0)
 turned c g =
     let l = top c .loop in
-    turn1 g (l .at) (l .used) (l .out) (c .before .before .entry .result) (c .before .before .entry .last .1 .1 .1 .0) (l .inv .3 g) (c .before .before .before .before .before .before .if1 .taken) (c .before .before .entry .ensures) (c .before .before .entry .kept .1 .1 .1 .0)
+    turn1 g (l .at) (l .used) (l .out) (c .before .before .entry .result) (c .before .before .entry .last .1 .1 .1 .0) (l .inv .3 g) (turn c .if1 .taken) (c .before .before .entry .ensures) (c .before .before .entry .kept .1 .1 .1 .0)
 
 again : tie.Need-loop-again Inv-loop μ-loop
 again c = let t = turned c (entry c .pre) in (there (each-task (entry c .pre)) _ _ _ (t .now), t .fit, t .whole ∙ top c .loop .inv .2, λ g. turned c g .now)

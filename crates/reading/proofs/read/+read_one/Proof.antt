@@ -16,6 +16,7 @@ use Rattle.reading.proofs.read.+read_one.Lts-read_one as read-one-lts
 use Rattle.reading.proofs.read.part_kind.Reads as part-kind-reads
 use Rattle.reading.proofs.read.may_begin.Reads as may-begin-reads
 use Rattle.pattern.proofs.token.classify.Reads as classify-reads
+use Rattle.pattern.proofs.token.own_words.Reads as own-words-reads
 use Rattle.pattern.proofs.token.parts.Reads as parts-reads
 use Rattle.reading.proofs.read.+read_one.{statement}
 use Rattle.reading.proofs.read.+read_one.Tie.{close}
@@ -43,6 +44,8 @@ pub +read-one-spec : {M : Type 1} → statement M
   may-begin-reads.Learnt,
   parts-reads.Asked,
   parts-reads.Learnt,
+  own-words-reads.Asked,
+  own-words-reads.Learnt,
   part-kind-reads.Asked,
   part-kind-reads.Learnt,
   read-one-below t,
@@ -59,23 +62,24 @@ pub +read-one-spec : {M : Type 1} → statement M
     (λ c. refused (c .before .before .before .before .before .before .before .args .t .now) (c .before .before .before .before .before .before .before .args .k) (c .before .before .before .before .before .before .before .args .p .now) (form-of (c .before .before .classify .result)) (omega arith) (c .before .before .classify .ensures) (sym (c .before .may-begin .ensures) ∙ not-true _ (c .if2 .taken)))
     (λ c κs. (c .before .before .before .before .before .before .before .pre .1 .decoded .long, small (getD (c .before .before .before .before .before .before .before .args .p .now) 0 0) _ (c .before .before .classify .ensures)))
     (λ c. omega arith)
-    (λ c. (omega arith, omega arith, omega arith, start (c .before .before .before .before .before .before .before .before .args .t .now) (c .before .before .before .before .before .before .before .before .args .k) (c .before .before .before .before .before .before .before .before .args .p .now) (form-of (c .before .before .before .classify .result)) (omega arith) (c .before .before .before .classify .ensures)))
+    (λ c κs. tt)
+    (λ c. (omega (arith, c .own-words .ensures), omega (arith, c .own-words .ensures), omega arith, rw (c .own-words .ensures) (start (c .before .before .before .before .before .before .before .before .before .args .t .now) (c .before .before .before .before .before .before .before .before .before .args .k) (c .before .before .before .before .before .before .before .before .before .args .p .now) (form-of (c .before .before .before .before .classify .result)) (omega arith) (c .before .before .before .before .classify .ensures))))
     (λ c. omega arith)
     (λ c. omega arith)
     (λ c. omega arith)
     (λ c. omega arith)
-    (λ c κs. (c .before .before .before .before .before .before .before .before .before .before .before .pre .1 .decoded .long, small (getD (c .before .before .before .before .before .before .before .before .before .before .before .args .p .now) 0 0) _ (c .before .before .before .before .before .before .classify .ensures), omega (arith, c .before .before .before .parts .ensures, few-parts (c .before .before .before .before .before .before .before .before .before .before .before .args .t .now) (c .before .before .before .before .before .before .before .before .before .before .before .pre .1) (form-of (c .before .before .before .before .before .before .classify .result)) (c .before .before .before .before .before .before .before .before .before .before .before .args .k) (sym (c .before .before .before .before .before .may-begin .ensures) ∙ not-false _ (c .before .before .before .before .if2 .left)))))
-    (λ c κs. (omega (arith, c .before .read-one-arg .given .2), c .before .before .before .before .before .before .before .before .before .before .before .before .pre .1))
+    (λ c κs. (c .before .before .before .before .before .before .before .before .before .before .before .before .pre .1 .decoded .long, small (getD (c .before .before .before .before .before .before .before .before .before .before .before .before .args .p .now) 0 0) _ (c .before .before .before .before .before .before .before .classify .ensures), omega (arith, c .before .before .before .before .parts .ensures, few-parts (c .before .before .before .before .before .before .before .before .before .before .before .before .args .t .now) (c .before .before .before .before .before .before .before .before .before .before .before .before .pre .1) (form-of (c .before .before .before .before .before .before .before .classify .result)) (c .before .before .before .before .before .before .before .before .before .before .before .before .args .k) (sym (c .before .before .before .before .before .before .may-begin .ensures) ∙ not-false _ (c .before .before .before .before .before .if2 .left)))))
+    (λ c κs. (omega (arith, c .before .read-one-arg .given .2), c .before .before .before .before .before .before .before .before .before .before .before .before .before .pre .1))
     (λ c. search needs)
     (λ c. search needs)
-    (λ c. let l = c .before .before .before .before .before .before .loop in next-bad (c .before .before .before .before .before .before .before .before .before .before .before .before .before .before .before .args .t .now) (c .before .before .before .before .before .before .before .before .before .before .before .before .before .before .before .args .k) (form-of (c .before .before .before .before .before .before .before .before .before .before .classify .result)) (c .before .before .before .before .before .before .before .before .before .before .before .before .before .before .before .args .p .now) (l .at) (l .j) _ (c .before .before .before .before .before .before .before .parts .ensures) (c .before .before .before .part-kind .result) _ (c .before .before .before .before .before .loop-test .taken) (omega arith) (l .inv .0) (l .inv .1) (c .before .before .before .part-kind .ensures) (c .before .before .read-one .ensures) (c .enum-told .given .1) (l .inv .3) (sym (c .before .before .before .before .before .before .before .before .before .may-begin .ensures) ∙ not-false _ (c .before .before .before .before .before .before .before .before .if2 .left)))
-    (λ c. let l = c .before .before .before .before .before .before .before .loop in let h = end-le (c .before .before .before .before .before .before .before .before .before .before .before .before .before .before .before .before .args .t .now) (c .before .before .before .before .before .before .before .before .before .before .before .before .before .before .before .before .args .k) (form-of (c .before .before .before .before .before .before .before .before .before .before .before .classify .result)) (c .before .before .before .before .before .before .before .before .before .before .before .before .before .before .before .before .args .p .now) (l .at) (l .j) _ (c .before .before .before .before .before .before .before .before .parts .ensures) (c .before .m .given .0 .0) (c .before .before .before .before .part-kind .result) _ (l .inv .1) (c .before .before .before .before .before .before .before .before .before .before .before .before .before .before .before .before .pre .1) (c .before .before .before .read-one .ensures) (c .before .m .given .1) in omega arith)
+    (λ c. let l = c .before .before .before .before .before .before .loop in next-bad (c .before .before .before .before .before .before .before .before .before .before .before .before .before .before .before .before .args .t .now) (c .before .before .before .before .before .before .before .before .before .before .before .before .before .before .before .before .args .k) (form-of (c .before .before .before .before .before .before .before .before .before .before .before .classify .result)) (c .before .before .before .before .before .before .before .before .before .before .before .before .before .before .before .before .args .p .now) (l .at) (l .j) _ (c .before .before .before .before .before .before .before .before .parts .ensures) (c .before .before .before .part-kind .result) _ (c .before .before .before .before .before .loop-test .taken) (omega arith) (l .inv .0) (l .inv .1) (c .before .before .before .part-kind .ensures) (c .before .before .read-one .ensures) (c .enum-told .given .1) (l .inv .3) (sym (c .before .before .before .before .before .before .before .before .before .before .may-begin .ensures) ∙ not-false _ (c .before .before .before .before .before .before .before .before .before .if2 .left)))
+    (λ c. let l = c .before .before .before .before .before .before .before .loop in let h = end-le (c .before .before .before .before .before .before .before .before .before .before .before .before .before .before .before .before .before .args .t .now) (c .before .before .before .before .before .before .before .before .before .before .before .before .before .before .before .before .before .args .k) (form-of (c .before .before .before .before .before .before .before .before .before .before .before .before .classify .result)) (c .before .before .before .before .before .before .before .before .before .before .before .before .before .before .before .before .before .args .p .now) (l .at) (l .j) _ (c .before .before .before .before .before .before .before .before .before .parts .ensures) (c .before .m .given .0 .0) (c .before .before .before .before .part-kind .result) _ (l .inv .1) (c .before .before .before .before .before .before .before .before .before .before .before .before .before .before .before .before .before .pre .1) (c .before .before .before .read-one .ensures) (c .before .m .given .1) in omega arith)
     (λ c. omega arith)
     (λ c. omega arith)
     (λ c. let l = c .before .before .before .before .before .before .before .loop in (
       omega arith,
-      end-le (c .before .before .before .before .before .before .before .before .before .before .before .before .before .before .before .before .args .t .now) (c .before .before .before .before .before .before .before .before .before .before .before .before .before .before .before .before .args .k) (form-of (c .before .before .before .before .before .before .before .before .before .before .before .classify .result)) (c .before .before .before .before .before .before .before .before .before .before .before .before .before .before .before .before .args .p .now) (l .at) (l .j) _ (c .before .before .before .before .before .before .before .before .parts .ensures) (c .before .m .given .0 .0) (c .before .before .before .before .part-kind .result) _ (l .inv .1) (c .before .before .before .before .before .before .before .before .before .before .before .before .before .before .before .before .pre .1) (c .before .before .before .read-one .ensures) (c .before .m .given .1),
+      end-le (c .before .before .before .before .before .before .before .before .before .before .before .before .before .before .before .before .before .args .t .now) (c .before .before .before .before .before .before .before .before .before .before .before .before .before .before .before .before .before .args .k) (form-of (c .before .before .before .before .before .before .before .before .before .before .before .before .classify .result)) (c .before .before .before .before .before .before .before .before .before .before .before .before .before .before .before .before .before .args .p .now) (l .at) (l .j) _ (c .before .before .before .before .before .before .before .before .before .parts .ensures) (c .before .m .given .0 .0) (c .before .before .before .before .part-kind .result) _ (l .inv .1) (c .before .before .before .before .before .before .before .before .before .before .before .before .before .before .before .before .before .pre .1) (c .before .before .before .read-one .ensures) (c .before .m .given .1),
       omega arith,
-      next (c .before .before .before .before .before .before .before .before .before .before .before .before .before .before .before .before .args .t .now) (c .before .before .before .before .before .before .before .before .before .before .before .before .before .before .before .before .args .k) (form-of (c .before .before .before .before .before .before .before .before .before .before .before .classify .result)) (c .before .before .before .before .before .before .before .before .before .before .before .before .before .before .before .before .args .p .now) (l .at) (l .j) _ (c .before .before .before .before .before .before .before .before .parts .ensures) (c .before .m .given .0 .0) (c .before .before .before .before .part-kind .result) _ (c .before .before .before .before .before .before .loop-test .taken) (l .inv .0) (l .inv .1) (c .before .before .before .before .part-kind .ensures) (c .before .before .before .read-one .ensures) (c .before .m .given .1) (l .inv .3),
+      next (c .before .before .before .before .before .before .before .before .before .before .before .before .before .before .before .before .before .args .t .now) (c .before .before .before .before .before .before .before .before .before .before .before .before .before .before .before .before .before .args .k) (form-of (c .before .before .before .before .before .before .before .before .before .before .before .before .classify .result)) (c .before .before .before .before .before .before .before .before .before .before .before .before .before .before .before .before .before .args .p .now) (l .at) (l .j) _ (c .before .before .before .before .before .before .before .before .before .parts .ensures) (c .before .m .given .0 .0) (c .before .before .before .before .part-kind .result) _ (c .before .before .before .before .before .before .loop-test .taken) (l .inv .0) (l .inv .1) (c .before .before .before .before .part-kind .ensures) (c .before .before .before .read-one .ensures) (c .before .m .given .1) (l .inv .3),
     ))
-    (λ c. let l = c .before .loop in turns-end (c .before .before .before .before .before .before .before .before .before .before .args .t .now) (c .before .before .before .before .before .before .before .before .before .before .args .k) (form-of (c .before .before .before .before .before .classify .result)) (c .before .before .before .before .before .before .before .before .before .before .args .p .now) (l .at) (l .j) _ (c .before .before .parts .ensures) (c .loop-test .left) (omega arith) (l .inv .1) (l .inv .3) (sym (c .before .before .before .before .may-begin .ensures) ∙ not-false _ (c .before .before .before .if2 .left)))
+    (λ c. let l = c .before .loop in turns-end (c .before .before .before .before .before .before .before .before .before .before .before .args .t .now) (c .before .before .before .before .before .before .before .before .before .before .before .args .k) (form-of (c .before .before .before .before .before .before .classify .result)) (c .before .before .before .before .before .before .before .before .before .before .before .args .p .now) (l .at) (l .j) _ (c .before .before .before .parts .ensures) (c .loop-test .left) (omega arith) (l .inv .1) (l .inv .3) (sym (c .before .before .before .before .before .may-begin .ensures) ∙ not-false _ (c .before .before .before .before .if2 .left)))

@@ -15,19 +15,22 @@ Inv-loop x n y out₀ used₀ at₀ out used at = (at < length y) × (used ≤ l
 abbrev μ-loop : tie.MeasureT-loop
 μ-loop x n y out₀ used₀ at₀ out used at = length y - at
 
--- the function's entry, and the loop's head, from the end of a turn
-abbrev entry : tie.After-slice-known2 Inv-loop μ-loop → tie.Start Inv-loop μ-loop
-entry c = c .before .before .before .before .before .before .before .before .before .before .before .before
+-- from the end of a turn: its start, the loop's head, the function's entry
+abbrev turn : tie.After-slice-known2 Inv-loop μ-loop → tie.Then1 Inv-loop μ-loop
+turn c = c .before .before .before .before .before .before
 
 abbrev top : tie.After-slice-known2 Inv-loop μ-loop → tie.At-loop Inv-loop μ-loop
-top c = c .before .before .before .before .before .before .before .before
+top c = turn c .before .before
+
+abbrev entry : tie.After-slice-known2 Inv-loop μ-loop → tie.Start Inv-loop μ-loop
+entry c = top c .before .before .before .before
 
 -- what the turn does, for any lists that the slices begin with
 turned : (c : tie.After-slice-known2 Inv-loop μ-loop) (g : GivenAppends (entry c .args .x .now) (entry c .args .n) (entry c .args .y .now) (length (entry c .args .out .now)))
     → let l = top c .loop in Turned (all-task g) (l .at) (l .used) (c .before .before .append .result) (l .out) (c .before .before .append .last .1 .1 .1 .1 .0)
 turned c g =
     let l = top c .loop in
-    all-turn (entry c .args .out .now) g (l .at) (l .used) (l .out) (c .before .before .append .result) (c .before .before .append .last .1 .1 .1 .1 .0) (l .inv .3 g) (c .before .before .before .before .before .before .if1 .taken) (c .before .before .append .ensures) (c .before .before .append .kept .1 .1 .1 .1 .0)
+    all-turn (entry c .args .out .now) g (l .at) (l .used) (l .out) (c .before .before .append .result) (c .before .before .append .last .1 .1 .1 .1 .0) (l .inv .3 g) (turn c .if1 .taken) (c .before .before .append .ensures) (c .before .before .append .kept .1 .1 .1 .1 .0)
 
 again : tie.Need-loop-again Inv-loop μ-loop
 again c = let t = turned c (entry c .pre) in (there (all-task (entry c .pre)) _ _ _ (t .now), t .fit, t .whole ∙ top c .loop .inv .2, λ g. turned c g .now)

@@ -17,6 +17,7 @@ next-plus-spec =
     (λ c. omega arith)
     (λ c κs. search needs)
     (λ c. let g = c .before .before .before .before .before .pre in omega (arith, product-fits g (c .before .before .count .result) (c .count2 .result) (c .before .before .count .ensures (g .left)) (c .count2 .ensures (g .right))))
+    (λ c. search needs)
     (λ c. omega arith)
     (λ c. simp length-set)
     (λ c g. next-none g (c .before .before .before .count .result) (c .before .count2 .result) (c .before .before .before .before .before .before .args .out .now) (c .before .before .before .count .ensures (g .left)) (c .before .count2 .ensures (g .right)) (c .if1 .taken) (omega (arith, g .room)))

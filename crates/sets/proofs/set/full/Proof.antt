@@ -2,7 +2,7 @@
 use native.Mathlib.Omega.{arith}
 use lib.Pow.{pow-pos}
 use borrow.Author.Needs.{needs}
-use Rattle.signature.proofs.SetLaws.{bit-all, bit-full, one-shl}
+use Rattle.sets.proofs.SetLaws.{bit-all, bit-full, one-shl}
 use Rattle.sets.proofs.set.full.Statement.{statement}
 use Rattle.sets.proofs.set.full.Tie as tie
 

@@ -4,7 +4,7 @@ use Prim.Native.Nat.{ℕ, _/_, _^_}
 use borrow.Author.Needs.{needs}
 use lib.Bits.{and-mask}
 use lib.Dec.{eqb}
-use Rattle.signature.proofs.SetLaws.{bit-shr}
+use Rattle.sets.proofs.SetLaws.{bit-shr}
 use Rattle.sets.proofs.set.has.Statement.{statement}
 use Rattle.sets.proofs.set.has.Tie as tie
 

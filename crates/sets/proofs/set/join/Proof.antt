@@ -1,5 +1,5 @@
 -- `set::join` meets its contract.
-use Rattle.signature.proofs.SetLaws.{bit-or}
+use Rattle.sets.proofs.SetLaws.{bit-or}
 use Rattle.sets.proofs.set.join.Statement.{statement}
 use Rattle.sets.proofs.set.join.Tie as tie
 

@@ -1,5 +1,5 @@
 -- `set::lowest` meets its contract.
-use Rattle.signature.proofs.SetLaws.{trailing-low}
+use Rattle.sets.proofs.SetLaws.{trailing-low}
 use Rattle.sets.proofs.set.lowest.Statement.{statement}
 use Rattle.sets.proofs.set.lowest.Tie as tie
 

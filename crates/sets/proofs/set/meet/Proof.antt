@@ -1,5 +1,5 @@
 -- `set::meet` meets its contract.
-use Rattle.signature.proofs.SetLaws.{bit-and}
+use Rattle.sets.proofs.SetLaws.{bit-and}
 use Rattle.sets.proofs.set.meet.Statement.{statement}
 use Rattle.sets.proofs.set.meet.Tie as tie
 

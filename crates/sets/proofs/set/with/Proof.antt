@@ -1,6 +1,6 @@
 -- `set::with` meets its contract.
 use borrow.Author.Needs.{needs}
-use Rattle.signature.proofs.SetLaws.{bit-with}
+use Rattle.sets.proofs.SetLaws.{bit-with}
 use Rattle.sets.proofs.set.with.Statement.{statement}
 use Rattle.sets.proofs.set.with.Tie as tie
 

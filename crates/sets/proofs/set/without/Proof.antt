@@ -1,6 +1,6 @@
 -- `set::without` meets its contract.
 use borrow.Author.Needs.{needs}
-use Rattle.signature.proofs.SetLaws.{bit-without}
+use Rattle.sets.proofs.SetLaws.{bit-without}
 use Rattle.sets.proofs.set.without.Statement.{statement}
 use Rattle.sets.proofs.set.without.Tie as tie
 

@@ -19,6 +19,7 @@ use Rattle.weighing.proofs.weight.weigh_plus.Reads as weigh-plus
 use Rattle.weighing.proofs.weight.weigh_plus.Kinds as weigh-plus-kinds
 use Rattle.weighing.proofs.weight.+weigh_minus+weigh_plus.Lts-weigh_plus as weigh-plus-lts
 use Rattle.pattern.proofs.token.classify.Reads as classify-reads
+use Rattle.pattern.proofs.token.own_words.Reads as own-words-reads
 use Rattle.pattern.proofs.token.parts.Reads as parts-reads
 use Rattle.weighing.proofs.weight.join.Reads as join-reads
 use Rattle.weighing.proofs.weight.minus_head.Reads as minus-head-reads
@@ -49,21 +50,23 @@ weigh-plus-below t =
     and 2 weigh-plus-kinds.ps (falls 2 weigh-plus-kinds.ps _<_ μ-weigh-plus t) weigh-plus.Pre
 
 abbrev weigh-minus-Inv-loop : weigh-minus-lts.InvT-loop
-weigh-minus-Inv-loop t p start times count n₀ at₀ i₀ n at i = (i ≤ count) × (1 ≤ at) × (at ≤ length p) × (n ≤ over-weight) × ((g : Opens t p) → Left minus t p (g .pattern) times n at (count - i))
+weigh-minus-Inv-loop t p own start times count n₀ at₀ i₀ n at i = (i ≤ count) × (1 ≤ at) × (at ≤ length p) × (n ≤ over-weight) × ((g : Opens t p) → Left minus t p (g .pattern) times n at (count - i))
 
 abbrev weigh-minus-μ-loop : weigh-minus-lts.MeasureT-loop
-weigh-minus-μ-loop t p start times count n₀ at₀ i₀ n at i = count - i
+weigh-minus-μ-loop t p own start times count n₀ at₀ i₀ n at i = count - i
 
 abbrev weigh-plus-Inv-loop : weigh-plus-lts.InvT-loop
-weigh-plus-Inv-loop t p start times count n₀ at₀ i₀ n at i = (i ≤ count) × (1 ≤ at) × (at ≤ length p) × (n ≤ over-weight) × ((g : Opens t p) → Left plus t p (g .pattern) times n at (count - i))
+weigh-plus-Inv-loop t p own start times count n₀ at₀ i₀ n at i = (i ≤ count) × (1 ≤ at) × (at ≤ length p) × (n ≤ over-weight) × ((g : Opens t p) → Left plus t p (g .pattern) times n at (count - i))
 
 abbrev weigh-plus-μ-loop : weigh-plus-lts.MeasureT-loop
-weigh-plus-μ-loop t p start times count n₀ at₀ i₀ n at i = count - i
+weigh-plus-μ-loop t p own start times count n₀ at₀ i₀ n at i = count - i
 
 pub +weigh-minus+weigh-plus-spec : {M : Type 1} → statement M
 +weigh-minus+weigh-plus-spec = close μ-weigh-minus μ-weigh-plus (λ t. weigh-minus-lts.spec (
   classify-reads.Asked,
   classify-reads.Learnt,
+  own-words-reads.Asked,
+  own-words-reads.Learnt,
   minus-head-reads.Asked,
   minus-head-reads.Learnt,
   weigh-plus-below t,
@@ -82,41 +85,43 @@ pub +weigh-minus+weigh-plus-spec : {M : Type 1} → statement M
     (λ c. omega (arith, word-there (c .before .before .before .pre .1)))
     (λ c κs. tt)
     (λ c κs. tt)
+    (λ c κs. tt)
     (λ c. search needs)
     (λ c. search needs)
-    (λ c. omega (arith, word-there (c .before .before .before .before .before .before .before .pre .1)))
-    (λ c. omega (arith, word-there (c .before .before .before .before .before .before .before .pre .1)))
-    (λ c. omega (arith, word-there (c .before .before .before .before .before .before .before .pre .1)))
-    (λ c κs. (omega (arith, c .weigh-plus-arg .given .2, word-there (c .before .before .before .before .before .before .before .before .pre .1)), behind-not minus (c .before .before .before .before .before .before .before .before .pre .1) (form-of (c .before .before .before .before .classify .result)) (c .before .before .before .before .classify .ensures) (c .before .before .before .minus-head .result) (c .before .before .before .minus-head .ensures) (c .before .enum-told .given .1)))
+    (λ c. omega (arith, c .before .before .before .own-words .ensures, word-there (c .before .before .before .before .before .before .before .before .pre .1)))
+    (λ c. omega (arith, c .before .before .before .own-words .ensures, word-there (c .before .before .before .before .before .before .before .before .pre .1)))
+    (λ c. omega (arith, c .before .before .before .own-words .ensures, word-there (c .before .before .before .before .before .before .before .before .pre .1)))
+    (λ c. omega (arith, c .before .before .before .own-words .ensures, word-there (c .before .before .before .before .before .before .before .before .pre .1)))
+    (λ c κs. (omega (arith, c .before .before .before .before .own-words .ensures, c .weigh-plus-arg .given .2, word-there (c .before .before .before .before .before .before .before .before .before .pre .1)), rw (c .before .before .before .before .own-words .ensures) (behind-not minus (c .before .before .before .before .before .before .before .before .before .pre .1) (form-of (c .before .before .before .before .before .classify .result)) (c .before .before .before .before .before .classify .ensures) (c .before .before .before .minus-head .result) (c .before .before .before .minus-head .ensures) (c .before .enum-told .given .1))))
     (λ c. search needs)
     (λ c. search needs)
-    (λ c g. swap-heavy minus g (form-of (c .before .before .before .before .before .before .before .classify .result)) (c .before .before .before .before .before .before .before .classify .ensures) (c .before .before .before .before .before .before .minus-head .result) (c .before .before .before .before .before .before .minus-head .ensures) (c .before .before .before .before .enum-told .given .1) _ (c .before .before .weigh-plus .ensures) (c .enum-told2 .given .1))
-    (λ c. let h = swap-is minus (c .before .before .before .before .before .before .before .before .before .before .before .before .pre .1) (form-of (c .before .before .before .before .before .before .before .before .classify .result)) (c .before .before .before .before .before .before .before .before .classify .ensures) (c .before .before .before .before .before .before .before .minus-head .result) (c .before .before .before .before .before .before .before .minus-head .ensures) (c .before .before .before .before .before .enum-told .given .1) _ (c .before .before .before .weigh-plus .ensures) (c .before .a .given .0 .0) (c .before .a .given .0 .1 .0) (c .before .a .given .1) .1 in omega arith)
-    (λ c g. swap-is minus g (form-of (c .before .before .before .before .before .before .before .before .classify .result)) (c .before .before .before .before .before .before .before .before .classify .ensures) (c .before .before .before .before .before .before .before .minus-head .result) (c .before .before .before .before .before .before .before .minus-head .ensures) (c .before .before .before .before .before .enum-told .given .1) _ (c .before .before .before .weigh-plus .ensures) (c .before .a .given .0 .0) (c .before .a .given .0 .1 .0) (c .before .a .given .1) .0)
-    (λ c κs. (c .before .before .before .before .before .before .before .before .pre .1 .known .decoded .long, small (getD (c .before .before .before .before .before .before .before .before .args .p .now) 0 0) _ (c .before .before .before .before .classify .ensures)))
+    (λ c g. swap-heavy minus g (form-of (c .before .before .before .before .before .before .before .before .classify .result)) (c .before .before .before .before .before .before .before .before .classify .ensures) (c .before .before .before .before .before .before .minus-head .result) (c .before .before .before .before .before .before .minus-head .ensures) (c .before .before .before .before .enum-told .given .1) _ (rw (c .before .before .before .before .before .before .before .own-words .ensures) at (c .before .before .weigh-plus .ensures)) (c .enum-told2 .given .1))
+    (λ c. let h = swap-is minus (c .before .before .before .before .before .before .before .before .before .before .before .before .before .pre .1) (form-of (c .before .before .before .before .before .before .before .before .before .classify .result)) (c .before .before .before .before .before .before .before .before .before .classify .ensures) (c .before .before .before .before .before .before .before .minus-head .result) (c .before .before .before .before .before .before .before .minus-head .ensures) (c .before .before .before .before .before .enum-told .given .1) _ (rw (c .before .before .before .before .before .before .before .before .own-words .ensures) at (c .before .before .before .weigh-plus .ensures)) (c .before .a .given .0 .0) (c .before .a .given .0 .1 .0) (c .before .a .given .1) .1 in omega (arith, c .before .before .before .before .before .before .before .before .own-words .ensures))
+    (λ c g. rw (c .before .before .before .before .before .before .before .before .own-words .ensures) (swap-is minus g (form-of (c .before .before .before .before .before .before .before .before .before .classify .result)) (c .before .before .before .before .before .before .before .before .before .classify .ensures) (c .before .before .before .before .before .before .before .minus-head .result) (c .before .before .before .before .before .before .before .minus-head .ensures) (c .before .before .before .before .before .enum-told .given .1) _ (rw (c .before .before .before .before .before .before .before .before .own-words .ensures) at (c .before .before .before .weigh-plus .ensures)) (c .before .a .given .0 .0) (c .before .a .given .0 .1 .0) (c .before .a .given .1) .0))
+    (λ c κs. (c .before .before .before .before .before .before .before .before .before .pre .1 .known .decoded .long, small (getD (c .before .before .before .before .before .before .before .before .before .args .p .now) 0 0) _ (c .before .before .before .before .before .classify .ensures)))
     (λ c. (
       omega arith,
-      omega arith,
-      word-there (c .before .before .before .before .before .before .before .before .before .pre .1),
-      let h = start-low minus (c .before .before .before .before .before .before .before .before .before .pre .1) (form-of (c .before .before .before .before .before .classify .result)) (c .before .before .before .before .before .classify .ensures) (c .before .before .before .before .minus-head .result) (c .before .before .before .before .minus-head .ensures) (c .before .before .start .given .0 .0) (c .before .before .start .given .0 .1 .0) (c .before .before .start .given .1) in omega arith,
-      λ g. start minus g (form-of (c .before .before .before .before .before .classify .result)) (c .before .before .before .before .before .classify .ensures) (c .before .before .before .before .minus-head .result) (c .before .before .before .before .minus-head .ensures) (c .before .before .start .given .0 .0) (c .parts .result) (c .before .before .start .given .0 .1 .0) (c .before .before .start .given .1) (c .parts .ensures),
+      omega (arith, c .before .before .before .before .before .own-words .ensures),
+      rw (c .before .before .before .before .before .own-words .ensures) (word-there (c .before .before .before .before .before .before .before .before .before .before .pre .1)),
+      let h = start-low minus (c .before .before .before .before .before .before .before .before .before .before .pre .1) (form-of (c .before .before .before .before .before .before .classify .result)) (c .before .before .before .before .before .before .classify .ensures) (c .before .before .before .before .minus-head .result) (c .before .before .before .before .minus-head .ensures) (c .before .before .start .given .0 .0) (c .before .before .start .given .0 .1 .0) (c .before .before .start .given .1) in omega arith,
+      λ g. rw (c .before .before .before .before .before .own-words .ensures) (start minus g (form-of (c .before .before .before .before .before .before .classify .result)) (c .before .before .before .before .before .before .classify .ensures) (c .before .before .before .before .minus-head .result) (c .before .before .before .before .minus-head .ensures) (c .before .before .start .given .0 .0) (c .parts .result) (c .before .before .start .given .0 .1 .0) (c .before .before .start .given .1) (c .parts .ensures)),
     ))
     (λ c. omega arith)
     (λ c. omega arith)
     (λ c. omega arith)
     (λ c. omega arith)
-    (λ c κs. (omega (arith, c .weigh-minus-arg .given .2), part-open minus _ (c .before .before .loop .i) (c .before .before .loop .inv .4 (c .before .before .before .before .before .before .before .before .before .before .before .before .pre .1)) (c .before .loop-test .taken)))
+    (λ c κs. (omega (arith, c .weigh-minus-arg .given .2), part-open minus _ (c .before .before .loop .i) (c .before .before .loop .inv .4 (c .before .before .before .before .before .before .before .before .before .before .before .before .before .pre .1)) (c .before .loop-test .taken)))
     (λ c. search needs)
     (λ c. search needs)
     (λ c g. turn-heavy minus _ (c .before .before .before .before .before .loop .i) (c .before .before .before .before .before .loop .inv .4 g) (c .before .before .before .before .loop-test .taken) _ (c .before .before .weigh-minus .ensures) (c .enum-told3 .given .1))
-    (λ c κs. (c .before .before .before .before .before .before .loop .inv .3, part-le minus _ (c .before .before .before .before .before .before .loop .i) (c .before .before .before .before .before .before .loop .inv .4 (c .before .before .before .before .before .before .before .before .before .before .before .before .before .before .before .before .pre .1)) (c .before .before .before .before .before .loop-test .taken) _ (c .before .before .before .weigh-minus .ensures) (c .before .m .given .0 .0) (c .before .m .given .0 .1 .0) (c .before .m .given .1) (c .before .before .before .before .before .before .loop .inv .2) .0))
-    (λ c. let h = part-le minus _ (c .before .before .before .before .before .before .before .loop .i) (c .before .before .before .before .before .before .before .loop .inv .4 (c .before .before .before .before .before .before .before .before .before .before .before .before .before .before .before .before .before .pre .1)) (c .before .before .before .before .before .before .loop-test .taken) _ (c .before .before .before .before .weigh-minus .ensures) (c .before .before .m .given .0 .0) (c .before .before .m .given .0 .1 .0) (c .before .before .m .given .1) (c .before .before .before .before .before .before .before .loop .inv .2) .1 in omega arith)
+    (λ c κs. (c .before .before .before .before .before .before .loop .inv .3, part-le minus _ (c .before .before .before .before .before .before .loop .i) (c .before .before .before .before .before .before .loop .inv .4 (c .before .before .before .before .before .before .before .before .before .before .before .before .before .before .before .before .before .pre .1)) (c .before .before .before .before .before .loop-test .taken) _ (c .before .before .before .weigh-minus .ensures) (c .before .m .given .0 .0) (c .before .m .given .0 .1 .0) (c .before .m .given .1) (c .before .before .before .before .before .before .loop .inv .2) .0))
+    (λ c. let h = part-le minus _ (c .before .before .before .before .before .before .before .loop .i) (c .before .before .before .before .before .before .before .loop .inv .4 (c .before .before .before .before .before .before .before .before .before .before .before .before .before .before .before .before .before .before .pre .1)) (c .before .before .before .before .before .before .loop-test .taken) _ (c .before .before .before .before .weigh-minus .ensures) (c .before .before .m .given .0 .0) (c .before .before .m .given .0 .1 .0) (c .before .before .m .given .1) (c .before .before .before .before .before .before .before .loop .inv .2) .1 in omega arith)
     (λ c. omega arith)
     (λ c. omega arith)
     (λ c. (
       omega arith,
       omega arith,
-      part-le minus _ (c .before .before .before .before .before .before .before .loop .i) (c .before .before .before .before .before .before .before .loop .inv .4 (c .before .before .before .before .before .before .before .before .before .before .before .before .before .before .before .before .before .pre .1)) (c .before .before .before .before .before .before .loop-test .taken) _ (c .before .before .before .before .weigh-minus .ensures) (c .before .before .m .given .0 .0) (c .before .before .m .given .0 .1 .0) (c .before .before .m .given .1) (c .before .before .before .before .before .before .before .loop .inv .2) .1,
+      part-le minus _ (c .before .before .before .before .before .before .before .loop .i) (c .before .before .before .before .before .before .before .loop .inv .4 (c .before .before .before .before .before .before .before .before .before .before .before .before .before .before .before .before .before .before .pre .1)) (c .before .before .before .before .before .before .loop-test .taken) _ (c .before .before .before .before .weigh-minus .ensures) (c .before .before .m .given .0 .0) (c .before .before .m .given .0 .1 .0) (c .before .before .m .given .1) (c .before .before .before .before .before .before .before .loop .inv .2) .1,
       omega (arith, c .join .ensures),
       λ g. rw (c .join .ensures) (turn minus _ (c .before .before .before .before .before .before .before .loop .i) (c .before .before .before .before .before .before .before .loop .inv .4 g) (c .before .before .before .before .before .before .loop-test .taken) _ (c .before .before .before .before .weigh-minus .ensures) (c .before .before .m .given .0 .0) (c .before .before .m .given .0 .1 .0) (c .before .before .m .given .1)),
     ))
@@ -125,6 +130,8 @@ pub +weigh-minus+weigh-plus-spec : {M : Type 1} → statement M
     (λ t. weigh-plus-lts.spec (
       classify-reads.Asked,
       classify-reads.Learnt,
+      own-words-reads.Asked,
+      own-words-reads.Learnt,
       plus-head-reads.Asked,
       plus-head-reads.Learnt,
       weigh-minus-below t,
@@ -143,41 +150,43 @@ pub +weigh-minus+weigh-plus-spec : {M : Type 1} → statement M
     (λ c. omega (arith, word-there (c .before .before .before .pre .1)))
     (λ c κs. tt)
     (λ c κs. tt)
+    (λ c κs. tt)
     (λ c. search needs)
     (λ c. search needs)
-    (λ c. omega (arith, word-there (c .before .before .before .before .before .before .before .pre .1)))
-    (λ c. omega (arith, word-there (c .before .before .before .before .before .before .before .pre .1)))
-    (λ c. omega (arith, word-there (c .before .before .before .before .before .before .before .pre .1)))
-    (λ c κs. (omega (arith, c .weigh-minus-arg .given .2, word-there (c .before .before .before .before .before .before .before .before .pre .1)), behind-not plus (c .before .before .before .before .before .before .before .before .pre .1) (form-of (c .before .before .before .before .classify .result)) (c .before .before .before .before .classify .ensures) (c .before .before .before .plus-head .result) (c .before .before .before .plus-head .ensures) (c .before .enum-told .given .1)))
+    (λ c. omega (arith, c .before .before .before .own-words .ensures, word-there (c .before .before .before .before .before .before .before .before .pre .1)))
+    (λ c. omega (arith, c .before .before .before .own-words .ensures, word-there (c .before .before .before .before .before .before .before .before .pre .1)))
+    (λ c. omega (arith, c .before .before .before .own-words .ensures, word-there (c .before .before .before .before .before .before .before .before .pre .1)))
+    (λ c. omega (arith, c .before .before .before .own-words .ensures, word-there (c .before .before .before .before .before .before .before .before .pre .1)))
+    (λ c κs. (omega (arith, c .before .before .before .before .own-words .ensures, c .weigh-minus-arg .given .2, word-there (c .before .before .before .before .before .before .before .before .before .pre .1)), rw (c .before .before .before .before .own-words .ensures) (behind-not plus (c .before .before .before .before .before .before .before .before .before .pre .1) (form-of (c .before .before .before .before .before .classify .result)) (c .before .before .before .before .before .classify .ensures) (c .before .before .before .plus-head .result) (c .before .before .before .plus-head .ensures) (c .before .enum-told .given .1))))
     (λ c. search needs)
     (λ c. search needs)
-    (λ c g. swap-heavy plus g (form-of (c .before .before .before .before .before .before .before .classify .result)) (c .before .before .before .before .before .before .before .classify .ensures) (c .before .before .before .before .before .before .plus-head .result) (c .before .before .before .before .before .before .plus-head .ensures) (c .before .before .before .before .enum-told .given .1) _ (c .before .before .weigh-minus .ensures) (c .enum-told2 .given .1))
-    (λ c. let h = swap-is plus (c .before .before .before .before .before .before .before .before .before .before .before .before .pre .1) (form-of (c .before .before .before .before .before .before .before .before .classify .result)) (c .before .before .before .before .before .before .before .before .classify .ensures) (c .before .before .before .before .before .before .before .plus-head .result) (c .before .before .before .before .before .before .before .plus-head .ensures) (c .before .before .before .before .before .enum-told .given .1) _ (c .before .before .before .weigh-minus .ensures) (c .before .a .given .0 .0) (c .before .a .given .0 .1 .0) (c .before .a .given .1) .1 in omega arith)
-    (λ c g. swap-is plus g (form-of (c .before .before .before .before .before .before .before .before .classify .result)) (c .before .before .before .before .before .before .before .before .classify .ensures) (c .before .before .before .before .before .before .before .plus-head .result) (c .before .before .before .before .before .before .before .plus-head .ensures) (c .before .before .before .before .before .enum-told .given .1) _ (c .before .before .before .weigh-minus .ensures) (c .before .a .given .0 .0) (c .before .a .given .0 .1 .0) (c .before .a .given .1) .0)
-    (λ c κs. (c .before .before .before .before .before .before .before .before .pre .1 .known .decoded .long, small (getD (c .before .before .before .before .before .before .before .before .args .p .now) 0 0) _ (c .before .before .before .before .classify .ensures)))
+    (λ c g. swap-heavy plus g (form-of (c .before .before .before .before .before .before .before .before .classify .result)) (c .before .before .before .before .before .before .before .before .classify .ensures) (c .before .before .before .before .before .before .plus-head .result) (c .before .before .before .before .before .before .plus-head .ensures) (c .before .before .before .before .enum-told .given .1) _ (rw (c .before .before .before .before .before .before .before .own-words .ensures) at (c .before .before .weigh-minus .ensures)) (c .enum-told2 .given .1))
+    (λ c. let h = swap-is plus (c .before .before .before .before .before .before .before .before .before .before .before .before .before .pre .1) (form-of (c .before .before .before .before .before .before .before .before .before .classify .result)) (c .before .before .before .before .before .before .before .before .before .classify .ensures) (c .before .before .before .before .before .before .before .plus-head .result) (c .before .before .before .before .before .before .before .plus-head .ensures) (c .before .before .before .before .before .enum-told .given .1) _ (rw (c .before .before .before .before .before .before .before .before .own-words .ensures) at (c .before .before .before .weigh-minus .ensures)) (c .before .a .given .0 .0) (c .before .a .given .0 .1 .0) (c .before .a .given .1) .1 in omega (arith, c .before .before .before .before .before .before .before .before .own-words .ensures))
+    (λ c g. rw (c .before .before .before .before .before .before .before .before .own-words .ensures) (swap-is plus g (form-of (c .before .before .before .before .before .before .before .before .before .classify .result)) (c .before .before .before .before .before .before .before .before .before .classify .ensures) (c .before .before .before .before .before .before .before .plus-head .result) (c .before .before .before .before .before .before .before .plus-head .ensures) (c .before .before .before .before .before .enum-told .given .1) _ (rw (c .before .before .before .before .before .before .before .before .own-words .ensures) at (c .before .before .before .weigh-minus .ensures)) (c .before .a .given .0 .0) (c .before .a .given .0 .1 .0) (c .before .a .given .1) .0))
+    (λ c κs. (c .before .before .before .before .before .before .before .before .before .pre .1 .known .decoded .long, small (getD (c .before .before .before .before .before .before .before .before .before .args .p .now) 0 0) _ (c .before .before .before .before .before .classify .ensures)))
     (λ c. (
       omega arith,
-      omega arith,
-      word-there (c .before .before .before .before .before .before .before .before .before .pre .1),
-      let h = start-low plus (c .before .before .before .before .before .before .before .before .before .pre .1) (form-of (c .before .before .before .before .before .classify .result)) (c .before .before .before .before .before .classify .ensures) (c .before .before .before .before .plus-head .result) (c .before .before .before .before .plus-head .ensures) (c .before .before .start .given .0 .0) (c .before .before .start .given .0 .1 .0) (c .before .before .start .given .1) in omega arith,
-      λ g. start plus g (form-of (c .before .before .before .before .before .classify .result)) (c .before .before .before .before .before .classify .ensures) (c .before .before .before .before .plus-head .result) (c .before .before .before .before .plus-head .ensures) (c .before .before .start .given .0 .0) (c .parts .result) (c .before .before .start .given .0 .1 .0) (c .before .before .start .given .1) (c .parts .ensures),
+      omega (arith, c .before .before .before .before .before .own-words .ensures),
+      rw (c .before .before .before .before .before .own-words .ensures) (word-there (c .before .before .before .before .before .before .before .before .before .before .pre .1)),
+      let h = start-low plus (c .before .before .before .before .before .before .before .before .before .before .pre .1) (form-of (c .before .before .before .before .before .before .classify .result)) (c .before .before .before .before .before .before .classify .ensures) (c .before .before .before .before .plus-head .result) (c .before .before .before .before .plus-head .ensures) (c .before .before .start .given .0 .0) (c .before .before .start .given .0 .1 .0) (c .before .before .start .given .1) in omega arith,
+      λ g. rw (c .before .before .before .before .before .own-words .ensures) (start plus g (form-of (c .before .before .before .before .before .before .classify .result)) (c .before .before .before .before .before .before .classify .ensures) (c .before .before .before .before .plus-head .result) (c .before .before .before .before .plus-head .ensures) (c .before .before .start .given .0 .0) (c .parts .result) (c .before .before .start .given .0 .1 .0) (c .before .before .start .given .1) (c .parts .ensures)),
     ))
     (λ c. omega arith)
     (λ c. omega arith)
     (λ c. omega arith)
     (λ c. omega arith)
-    (λ c κs. (omega (arith, c .weigh-plus-arg .given .2), part-open plus _ (c .before .before .loop .i) (c .before .before .loop .inv .4 (c .before .before .before .before .before .before .before .before .before .before .before .before .pre .1)) (c .before .loop-test .taken)))
+    (λ c κs. (omega (arith, c .weigh-plus-arg .given .2), part-open plus _ (c .before .before .loop .i) (c .before .before .loop .inv .4 (c .before .before .before .before .before .before .before .before .before .before .before .before .before .pre .1)) (c .before .loop-test .taken)))
     (λ c. search needs)
     (λ c. search needs)
     (λ c g. turn-heavy plus _ (c .before .before .before .before .before .loop .i) (c .before .before .before .before .before .loop .inv .4 g) (c .before .before .before .before .loop-test .taken) _ (c .before .before .weigh-plus .ensures) (c .enum-told3 .given .1))
-    (λ c κs. (c .before .before .before .before .before .before .loop .inv .3, part-le plus _ (c .before .before .before .before .before .before .loop .i) (c .before .before .before .before .before .before .loop .inv .4 (c .before .before .before .before .before .before .before .before .before .before .before .before .before .before .before .before .pre .1)) (c .before .before .before .before .before .loop-test .taken) _ (c .before .before .before .weigh-plus .ensures) (c .before .m .given .0 .0) (c .before .m .given .0 .1 .0) (c .before .m .given .1) (c .before .before .before .before .before .before .loop .inv .2) .0))
-    (λ c. let h = part-le plus _ (c .before .before .before .before .before .before .before .loop .i) (c .before .before .before .before .before .before .before .loop .inv .4 (c .before .before .before .before .before .before .before .before .before .before .before .before .before .before .before .before .before .pre .1)) (c .before .before .before .before .before .before .loop-test .taken) _ (c .before .before .before .before .weigh-plus .ensures) (c .before .before .m .given .0 .0) (c .before .before .m .given .0 .1 .0) (c .before .before .m .given .1) (c .before .before .before .before .before .before .before .loop .inv .2) .1 in omega arith)
+    (λ c κs. (c .before .before .before .before .before .before .loop .inv .3, part-le plus _ (c .before .before .before .before .before .before .loop .i) (c .before .before .before .before .before .before .loop .inv .4 (c .before .before .before .before .before .before .before .before .before .before .before .before .before .before .before .before .before .pre .1)) (c .before .before .before .before .before .loop-test .taken) _ (c .before .before .before .weigh-plus .ensures) (c .before .m .given .0 .0) (c .before .m .given .0 .1 .0) (c .before .m .given .1) (c .before .before .before .before .before .before .loop .inv .2) .0))
+    (λ c. let h = part-le plus _ (c .before .before .before .before .before .before .before .loop .i) (c .before .before .before .before .before .before .before .loop .inv .4 (c .before .before .before .before .before .before .before .before .before .before .before .before .before .before .before .before .before .before .pre .1)) (c .before .before .before .before .before .before .loop-test .taken) _ (c .before .before .before .before .weigh-plus .ensures) (c .before .before .m .given .0 .0) (c .before .before .m .given .0 .1 .0) (c .before .before .m .given .1) (c .before .before .before .before .before .before .before .loop .inv .2) .1 in omega arith)
     (λ c. omega arith)
     (λ c. omega arith)
     (λ c. (
       omega arith,
       omega arith,
-      part-le plus _ (c .before .before .before .before .before .before .before .loop .i) (c .before .before .before .before .before .before .before .loop .inv .4 (c .before .before .before .before .before .before .before .before .before .before .before .before .before .before .before .before .before .pre .1)) (c .before .before .before .before .before .before .loop-test .taken) _ (c .before .before .before .before .weigh-plus .ensures) (c .before .before .m .given .0 .0) (c .before .before .m .given .0 .1 .0) (c .before .before .m .given .1) (c .before .before .before .before .before .before .before .loop .inv .2) .1,
+      part-le plus _ (c .before .before .before .before .before .before .before .loop .i) (c .before .before .before .before .before .before .before .loop .inv .4 (c .before .before .before .before .before .before .before .before .before .before .before .before .before .before .before .before .before .before .pre .1)) (c .before .before .before .before .before .before .loop-test .taken) _ (c .before .before .before .before .weigh-plus .ensures) (c .before .before .m .given .0 .0) (c .before .before .m .given .0 .1 .0) (c .before .before .m .given .1) (c .before .before .before .before .before .before .before .loop .inv .2) .1,
       omega (arith, c .join .ensures),
       λ g. rw (c .join .ensures) (turn plus _ (c .before .before .before .before .before .before .before .loop .i) (c .before .before .before .before .before .before .before .loop .inv .4 g) (c .before .before .before .before .before .before .loop-test .taken) _ (c .before .before .before .before .weigh-plus .ensures) (c .before .before .m .given .0 .0) (c .before .before .m .given .0 .1 .0) (c .before .before .m .given .1)),
     ))

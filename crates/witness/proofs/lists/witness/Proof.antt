@@ -19,13 +19,16 @@ abbrev μ-loop : tie.MeasureT-loop
 abbrev entry : tie.At-loop Inv-loop μ-loop → tie.Start Inv-loop μ-loop
 entry c = c .before .before .before .before .before
 
+abbrev turn : tie.After-slice-known2 Inv-loop μ-loop → tie.Then1 Inv-loop μ-loop
+turn c = c .before .before .before .before .before .before
+
 abbrev top : tie.After-slice-known2 Inv-loop μ-loop → tie.At-loop Inv-loop μ-loop
-top c = c .before .before .before .before .before .before .before .before
+top c = turn c .before .before
 
 -- no row is met, and the next one comes
 on : (c : tie.Else2 Inv-loop μ-loop) → let l = top (c .before) in let e = entry l in
     (g : TwoPatterns (e .args .t .now) (e .args .x .now) (e .args .y .now)) → Now (list-task (as-lists g)) (l .loop .at + 1 + getD (e .args .x .now) (l .loop .at) 0) × (l .loop .at + 1 + getD (e .args .x .now) (l .loop .at) 0 ≤ length (e .args .x .now)) × (c .before .before .before .row-witness .last .1 .1 .1 .0 ≡ e .args .out .now)
-on c g = let l = top (c .before) in past-row g (entry l .args .out .now) (entry l .pre .1) (l .loop .at) (l .loop .inv .2 g) (l .loop .out) (l .loop .inv .0) (c .before .before .before .before .before .before .before .if1 .taken) (c .before .before .before .row-witness .result) _ (c .before .before .before .row-witness .ensures) (c .if2 .left)
+on c g = let l = top (c .before) in past-row g (entry l .args .out .now) (entry l .pre .1) (l .loop .at) (l .loop .inv .2 g) (l .loop .out) (l .loop .inv .0) (turn (c .before) .if1 .taken) (c .before .before .before .row-witness .result) _ (c .before .before .before .row-witness .ensures) (c .if2 .left)
 
 pub witness-spec : {M : Type 1} → statement M
 witness-spec =
@@ -45,7 +48,7 @@ witness-spec =
     (λ c. omega arith)
     (λ c κs. let l = c .before .before .before .before .before in let e = entry l in row-given (e .pre .0) (e .args .out .now) (e .pre .1) (l .loop .at) (l .loop .inv .2 (e .pre .0)) (l .loop .out) (l .loop .inv .0) (c .before .before .before .if1 .taken))
     (λ c. c .before .before .before .row-witness .kept .1 .1 .1 .0 ∙ ap length (top (c .before) .loop .inv .0))
-    (λ c g. let l = top (c .before) in let e = entry l in shown g (e .args .out .now) (e .pre .1) _ _ (found-row g (e .args .out .now) (e .pre .1) (l .loop .at) (l .loop .inv .2 g) (l .loop .out) (l .loop .inv .0) (c .before .before .before .before .before .before .before .if1 .taken) (c .before .before .before .row-witness .result) _ (c .before .before .before .row-witness .ensures) (c .if2 .taken)))
+    (λ c g. let l = top (c .before) in let e = entry l in shown g (e .args .out .now) (e .pre .1) _ _ (found-row g (e .args .out .now) (e .pre .1) (l .loop .at) (l .loop .inv .2 g) (l .loop .out) (l .loop .inv .0) (turn (c .before) .if1 .taken) (c .before .before .before .row-witness .result) _ (c .before .before .before .row-witness .ensures) (c .if2 .taken)))
     (λ c. let e = entry (top (c .before)) in omega (arith, on c (e .pre .0) .1, e .good))
     (λ c. let e = entry (top (c .before)) in omega (arith, on c (e .pre .0) .1, top (c .before) .loop .inv .1))
     (λ c. let e = entry (top (c .before)) in (on c (e .pre .0) .2, there (list-task (as-lists (e .pre .0))) _ (on c (e .pre .0) .0), λ g. on c g .0))

@@ -1,10 +1,10 @@
--- `weight::minus_head` meets its contract. Assumes nothing.
+-- `builder::build::minus_step` meets its contract. Assumes nothing.
 use borrow.Author.Needs.{needs}
-use Rattle.weighing.proofs.weight.minus_head.Statement.{statement}
-use Rattle.weighing.proofs.weight.minus_head.Tie as tie
+use Rattle.builder.proofs.build.minus_step.Statement.{statement}
+use Rattle.builder.proofs.build.minus_step.Tie as tie
 
-pub minus-head-spec : {M : Type 1} → statement M
-minus-head-spec =
+pub minus-step-spec : {M : Type 1} → statement M
+minus-step-spec =
     tie.close
     (tie.spec
     (λ c. search needs)
@@ -15,7 +15,7 @@ minus-head-spec =
     (λ c. search needs)
     (λ c. search needs)
     (λ c. search needs)
-    (λ c. search needs)
+    (λ c. rw (c .before .w .given .1))
     (λ c. search needs)
     (λ c. search needs)
     (λ c. search needs)

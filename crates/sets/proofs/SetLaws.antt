@@ -7,15 +7,15 @@ use native.Mathlib.Nat.{pow-suc, add-zero, zero-add, add-suc, suc-add, one-mul}
 use native.Mathlib.Numerals.{one-add}
 use native.Mathlib.Omega.{arith}
 use lib.Arith.{digits-mod, bin-ind}
-use lib.Pow.{pow-pos, pow-lt, shl-exact, shr-shr}
+use lib.Pow.{pow-pos, pow-lt, pow-mono, shl-exact, shr-shr}
 use lib.Bits.{bitAnd, bitOr, and-step, or-step, and-shr, or-shr}
 use lib.Count.{ones, ones-step, trailingZeros, under}
 use lib.Dec.{eqb, ltb}
 use lib.ListN.{length}
 use borrow.Author.Tests.{eq-eqb, ne-eqb, eqb-true, eqb-false, ltb-true, ltb-false}
 use Rattle.signature.specs.Lists.{keep, count-up, memb}
-use Rattle.signature.specs.Set.{bit, members, set-limit}
+use Rattle.sets.specs.Set.{bit, members, set-limit}
 use Rattle.signature.proofs.Members.{memb-keep}
 
 -- a bit is 0 or 1
 pub bit-lt : (s i : ℕ) → bit s i < 2
@@ -66,6 +66,17 @@ bit-one-other zero zero h = absurd (h refl)
 bit-one-other zero (suc i) h = bit-zero i
 bit-one-other (suc k) zero h = rw (pow-suc 2 k) (omega arith)
 bit-one-other (suc k) (suc i) h = rw (half-pow k) (bit-one-other k i (λ e. h (ap suc e)))
+
+-- as the code writes it
+pub one-shl : (i : ℕ) → i < 64 → (1 * 2 ^ i) % 2 ^ 64 ≡ 2 ^ i
+one-shl i h = shl-exact {a = 1} 1 i 64 (omega arith) (omega arith) ∙ one-mul (2 ^ i)
+
+pub bit-only : (i j : ℕ) → i < 64 → bit ((1 * 2 ^ i) % 2 ^ 64) j ≡ cond (eqb j i) 1 0
+bit-only i j h = rw (one-shl i h) (go (eqb j i) refl)
+  where
+    go : (t : Bool) → eqb j i ≡ t → bit (2 ^ i) j ≡ cond t 1 0
+    go true e = rw (eqb-true j i e) (bit-one-same i)
+    go false e = bit-one-other i j (eqb-false j i e)
 
 -- all but the members of a, below k
 pub bit-not : (k a i : ℕ) → a < 2 ^ k → i < k → bit (2 ^ k - 1 - a) i ≡ 1 - bit a i
@@ -131,9 +142,6 @@ trailing-low (suc k) a h p =
     low-step k a (trailingZeros k (a / 2)) (a % 2) refl p (λ q. trailing-low k (a / 2) (omega arith) q)
 
 -- one member more, one member less, as the code writes them
-pub one-shl : (i : ℕ) → i < 64 → (1 * 2 ^ i) % 2 ^ 64 ≡ 2 ^ i
-one-shl i h = shl-exact {a = 1} 1 i 64 (omega arith) (omega arith) ∙ one-mul (2 ^ i)
-
 pub bit-with : (s i j : ℕ) → i < 64 → bit (bitOr s ((1 * 2 ^ i) % 2 ^ 64)) j ≡ cond (eqb j i) 1 (bit s j)
 bit-with s i j h = rw (one-shl i h, bit-or) (go (eqb j i) refl)
   where
@@ -174,7 +182,7 @@ pub ones-without : (a b i : ℕ) → a < 2 ^ 64 → b < 2 ^ 64 → bit a i ≡ 1
 ones-without a b i h g e r =
     ones-less 64 i a b h g e (rw (eq-eqb i i refl) at (r i)) (λ j n. rw (ne-eqb j i n) at (r j))
 
--- ---- size
+-- size
 
 ones-from : (k s : ℕ) → s < 2 ^ k → (f : ℕ → ℕ) (i : ℕ) → ((j : ℕ) → bit s j ≡ f (i + j)) → length (keep (λ j. eqb (f j) 1) (count-up i k)) ≡ ones s
 unfolding bit
@@ -192,6 +200,7 @@ ones-from (suc k) s h f i g =
 
 -- the count of ones is the number of members
 pub size-members : (s : ℕ) → s < 2 ^ 64 → ones s ≡ length (members s)
+unfolding members
 size-members s h = sym (ones-from 64 s h (bit s) 0 (λ j. ap (bit s) (sym (zero-add j))))
 
 -- a member is one of the list
@@ -204,9 +213,10 @@ counted i (suc n) c l h = go (eqb c i) refl (λ m. counted (suc i) n c m (omega 
     go false e f = let d : c ≡ i → ⊥ = eqb-false c i e in f (omega arith)
 
 pub members-has : (s i : ℕ) → i < set-limit → memb i (members s) ≡ eqb (bit s i) 1
+unfolding members
 members-has s i h = memb-keep (λ j. eqb (bit s j) 1) i (count-up 0 set-limit) ∙ rw (counted 0 64 i (omega arith) (omega arith))
 
--- ---- the numbers below n
+-- the numbers below n
 
 pub bit-below : (n j : ℕ) → bit (2 ^ n - 1) j ≡ cond (ltb j n) 1 0
 bit-below n j = go (ltb j n) refl
@@ -223,7 +233,7 @@ bit-all n j e = rw e (bit-below 64 j)
 pub bit-full : (n j : ℕ) → n < set-limit → bit ((1 * 2 ^ n) % 2 ^ 64 - 1) j ≡ cond (ltb j n) 1 0
 bit-full n j h = rw (one-shl n h) (bit-below n j)
 
--- ---- sets below 2 ^ 64
+-- sets below 2 ^ 64
 
 pub bits-above : (s i : ℕ) → s < 2 ^ 64 → set-limit ≤ i → bit s i ≡ 0
 bits-above s i h l = bit-high 64 s i h l
@@ -235,11 +245,44 @@ same-set a b h g f = bit-ext 64 a b h g f
 pub no-member : (s : ℕ) → s < 2 ^ 64 → ((i : ℕ) → i < set-limit → bit s i ≡ 0) → s ≡ 0
 no-member s h f = bit-ext 64 s 0 h (omega arith) (λ i l. f i l ∙ sym (bit-zero i))
 
-pub empty-size : (s : ℕ) → s < 2 ^ 64 → eqb s 0 ≡ eqb (length (members s)) 0
-empty-size s h = go (eqb s 0) refl
-  where
-    go : (t : Bool) → eqb s 0 ≡ t → t ≡ eqb (length (members s)) 0
-    go true e =
-        let z : s ≡ 0 = eqb-true s 0 e in
-        sym (eq-eqb (length (members s)) 0 (sym (size-members s h) ∙ ap ones z ∙ ones-zero))
-    go false e = sym (ne-eqb (length (members s)) 0 (λ z. eqb-false s 0 e (ones-empty s (size-members s h ∙ z))))
+-- a set is empty where its size is 0, and only there
+pub size-none : (s : ℕ) → ones s ≡ 0 → (i : ℕ) → bit s i ≡ 0
+size-none s e i = ap (λ (n : ℕ). bit n i) (ones-empty s e) ∙ bit-zero i
+
+size-empty : length (members 0) ≡ 0
+size-empty = sym (size-members 0 (pow-pos 64)) ∙ ones-zero
+
+pub size-some : (s n : ℕ) → n ≡ length (members s) → (n ≡ 0 → ⊥) → s ≡ 0 → ⊥
+size-some s n e f z = f (e ∙ ap (λ (m : ℕ). length (members m)) z ∙ size-empty)
+
+-- a set whose members are among those of another has no more of them, and is the other where it has as many
+ones-among : (k a b : ℕ) → a < 2 ^ k → b < 2 ^ k → ((i : ℕ) → bit a i ≤ bit b i) → (ones a ≤ ones b) × (ones a ≡ ones b → a ≡ b)
+unfolding bit
+ones-among zero a b h g f =
+    let x : a ≡ 0 = omega arith in
+    let y : b ≡ 0 = omega arith in
+    rw (x, y) (omega arith, λ e. refl)
+ones-among (suc k) a b h g f =
+    let p : 2 ^ suc k ≡ 2 ^ k * 2 = pow-suc 2 k in
+    let low : a % 2 ≤ b % 2 = f 0 in
+    let rest = ones-among k (a / 2) (b / 2) (omega arith) (omega arith) (λ i. f (suc i)) in
+    let x = ones-step a in
+    let y = ones-step b in (
+      omega (arith, rest .0),
+      λ e. let z : a / 2 ≡ b / 2 = rest .1 (omega (arith, rest .0)) in omega (arith, rest .0, z, ap ones z),
+    )
+
+pub size-among : (a b : ℕ) → a < 2 ^ 64 → b < 2 ^ 64 → ((i : ℕ) → bit a i ≤ bit b i) → length (members a) ≡ length (members b) → a ≡ b
+size-among a b h g f e = ones-among 64 a b h g f .1 (size-members a h ∙ e ∙ sym (size-members b g))
+
+-- there are n numbers below n
+ones-below : (n : ℕ) → ones (2 ^ n - 1) ≡ n
+ones-below zero = ones-zero
+ones-below (suc n) =
+    let p : 2 ^ suc n ≡ 2 ^ n * 2 = pow-suc 2 n in
+    let half : (2 ^ suc n - 1) / 2 ≡ 2 ^ n - 1 = omega (arith, pow-pos n) in
+    let low : (2 ^ suc n - 1) % 2 ≡ 1 = omega (arith, pow-pos n) in
+    ones-step (2 ^ suc n - 1) ∙ rw (half, low, ones-below n) (omega arith)
+
+pub size-below : (n : ℕ) → n ≤ set-limit → length (members (2 ^ n - 1)) ≡ n
+size-below n h = sym (size-members (2 ^ n - 1) (omega (arith, pow-pos n, pow-mono {i = n} {j = 64} h))) ∙ ones-below n

@@ -1,0 +1,2 @@
+pub mod ListSets
+pub mod SetLaws
