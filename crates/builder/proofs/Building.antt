@@ -16,9 +16,9 @@ use Rattle.pattern.specs.Weight.{weight-plus, weight-minus, light-plus, light-m
 use Rattle.pattern.specs.WellFormed.{WellFormed, well-and, well-or, well-not}
 use Rattle.pattern.proofs.Opened.{shape}
 use Rattle.rowlist.specs.Sides.{rows-of, Open}
-use Rattle.builder.specs.Build.{light-of, step-of}
-use Rattle.builder.specs.declared.build.Step.{Step}
-use Rattle.builder.specs.declared.build.Step.the-variants.{Head, Multiply, Add, One, Nothing, Swap}
+use Rattle.builder.specs.Build.{light-of, making-of}
+use Rattle.builder.specs.declared.build.Making.{Making}
+use Rattle.builder.specs.declared.build.Making.the-variants.{Head, Multiply, Add, One, Nothing, Swap}
 use Rattle.cell.specs.Cell.{Kinds}
 use Rattle.sets.specs.Set.{set-of}
 use Rattle.rowlist.specs.Product.{Product}
@@ -37,7 +37,7 @@ one-list t v f (a ∷ (b ∷ (c ∷ (d ∷ [])))) h = absurd (omega arith)
 one-list t v f (a ∷ (b ∷ (c ∷ (d ∷ (e ∷ o))))) h = record { size = refl; list = refl }
 
 -- what tells one step from another
-abbrev pub rank : Step → ℕ
+abbrev pub rank : Making → ℕ
 rank (Head c) = 0
 rank Multiply = 1
 rank Add = 2
@@ -45,7 +45,7 @@ rank (One v) = 3
 rank Nothing = 4
 rank Swap = 5
 
-abbrev vars-of : Step → ℕ
+abbrev vars-of : Making → ℕ
 vars-of (Head c) = 0
 vars-of Multiply = 0
 vars-of Add = 0
@@ -53,7 +53,7 @@ vars-of (One v) = v
 vars-of Nothing = 0
 vars-of Swap = 0
 
-abbrev pub head-number : Step → ℕ
+abbrev pub head-number : Making → ℕ
 head-number (Head c) = c
 head-number Multiply = 0
 head-number Add = 0
@@ -62,7 +62,7 @@ head-number Nothing = 0
 head-number Swap = 0
 
 -- a pattern's step is another one
-pub other-step : {r s : Step} {A : Type 0} → r ≡ s → ¬ (rank r ≡ rank s) → A
+pub other-step : {r s : Making} {A : Type 0} → r ≡ s → ¬ (rank r ≡ rank s) → A
 other-step e h = absurd (h (ap rank e))
 
 parts-of : (a b c : Bool) → (a && b && c) ≡ true → (a ≡ true) × (b ≡ true) × (c ≡ true)
@@ -76,7 +76,7 @@ module _ (sig : Signature) (k : ℕ) where
     pub light : light-of (not b) q ≡ true
     pub rows-is : rows-of sig k b p ≡ rows-of sig k (not b) q
 
-  pub negated : (p : Pattern) (b : Bool) → WellFormed sig k p → light-of b p ≡ true → step-of (shape p) b ≡ Swap → Negated p b
+  pub negated : (p : Pattern) (b : Bool) → WellFormed sig k p → light-of b p ≡ true → making-of (shape p) b ≡ Swap → Negated p b
   negated (head c ps) b h l w = other-step w (λ z. omega (arith, z))
   negated (and p q) true h l w = other-step w (λ z. omega (arith, z))
   negated (and p q) false h l w = other-step w (λ z. omega (arith, z))
@@ -106,7 +106,7 @@ module _ (sig : Signature) (k : ℕ) where
     pub few : length (rows-of sig k b (two .q)) * length (rows-of sig k b (two .r)) ≤ 64
     pub rows-is : rows-of sig k b p ≡ somes (each combine (rows-of sig k b (two .q)) (rows-of sig k b (two .r)))
 
-  pub multiplied : (p : Pattern) (b : Bool) → WellFormed sig k p → light-of b p ≡ true → step-of (shape p) b ≡ Multiply → Multiplied p b
+  pub multiplied : (p : Pattern) (b : Bool) → WellFormed sig k p → light-of b p ≡ true → making-of (shape p) b ≡ Multiply → Multiplied p b
   multiplied (head c ps) b h l w = other-step w (λ z. omega (arith, z))
   multiplied (and p q) true (well-and h i) l w =
       let s = parts-of (leb (weight-plus p * weight-plus q) 64) (light-plus p) (light-plus q) l in
@@ -137,7 +137,7 @@ module _ (sig : Signature) (k : ℕ) where
     pub two : Two p b
     pub rows-is : rows-of sig k b p ≡ rows-of sig k b (two .q) ++ rows-of sig k b (two .r)
 
-  pub added : (p : Pattern) (b : Bool) → WellFormed sig k p → light-of b p ≡ true → step-of (shape p) b ≡ Add → Added p b
+  pub added : (p : Pattern) (b : Bool) → WellFormed sig k p → light-of b p ≡ true → making-of (shape p) b ≡ Add → Added p b
   added (head c ps) b h l w = other-step w (λ z. omega (arith, z))
   added (and p q) true h l w = other-step w (λ z. omega (arith, z))
   added (and p q) false (well-and h i) l w =
@@ -164,7 +164,7 @@ module _ (K : Kinds) (sig : Signature) (k tag full : ℕ) (o : Open K sig k tag 
     pub short : length (pattern-code p) ≡ 1
     pub rows-is : ws ≡ entries K k (rows-of sig k b p)
 
-  pub one-of : (p : Pattern) (b : Bool) (v : ℕ) → WellFormed sig k p → step-of (shape p) b ≡ One v → Leaf p b (3 ∷ (tag ∷ (v ∷ (full ∷ []))))
+  pub one-of : (p : Pattern) (b : Bool) (v : ℕ) → WellFormed sig k p → making-of (shape p) b ≡ One v → Leaf p b (3 ∷ (tag ∷ (v ∷ (full ∷ []))))
   one-of (head c ps) b v h w = other-step w (λ z. omega (arith, z))
   one-of (and p q) true v h w = other-step w (λ z. omega (arith, z))
   one-of (and p q) false v h w = other-step w (λ z. omega (arith, z))
@@ -178,7 +178,7 @@ module _ (K : Kinds) (sig : Signature) (k tag full : ℕ) (o : Open K sig k tag 
   one-of (var x) true v h w = record { short = refl; rows-is = one-row v (x ∷ []) (sym (ap vars-of w)) }
   one-of (var x) false v h w = other-step w (λ z. omega (arith, z))
 
-  pub none-of : (p : Pattern) (b : Bool) → step-of (shape p) b ≡ Nothing → Leaf p b []
+  pub none-of : (p : Pattern) (b : Bool) → making-of (shape p) b ≡ Nothing → Leaf p b []
   none-of (head c ps) b w = other-step w (λ z. omega (arith, z))
   none-of (and p q) true w = other-step w (λ z. omega (arith, z))
   none-of (and p q) false w = other-step w (λ z. omega (arith, z))

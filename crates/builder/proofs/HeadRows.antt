@@ -34,8 +34,8 @@ use Rattle.rowlist.specs.Sides.{rows-of}
 use Rattle.rowlist.proofs.Kinded.{known-head, kinds-same}
 use Rattle.rowlist.proofs.Typing.{args-there}
 use Rattle.builder.specs.Arguments.{GivenArgs, MadeArgs, HasFirst, few-begun, lights-of, words-of-rows, arg-words, open-words, behind}
-use Rattle.builder.specs.Build.{light-of, step-of, GivenHead, Made}
-use Rattle.builder.specs.declared.build.Step.the-variants.{Head}
+use Rattle.builder.specs.Build.{light-of, making-of, GivenHead, Made}
+use Rattle.builder.specs.declared.build.Making.the-variants.{Head}
 use Rattle.builder.proofs.Behind.{list-words}
 use Rattle.builder.proofs.Building.{head-number, other-step}
 use Rattle.builder.proofs.Parts.{first-part, step-is}
@@ -53,7 +53,7 @@ light-head : (b : Bool) (c : ℕ) (ps : Patterns) → light-of b (head c ps) ≡
 light-head true c ps l = (and-right (leb (product-plus ps) 64) (light-all-plus ps) l, omega (arith, le-of (product-plus ps) 64 (and-left (leb (product-plus ps) 64) (light-all-plus ps) l)))
 light-head false c ps l = (and-right (leb (suc (sum-minus ps)) 64) (light-all-minus ps) l, omega (arith, le-of (suc (sum-minus ps)) 64 (and-left (leb (suc (sum-minus ps)) 64) (light-all-minus ps) l)))
 
-head-of : (sig : Signature) (k : ℕ) (p : Pattern) (b : Bool) (c : ℕ) → WellFormed sig k p → light-of b p ≡ true → step-of (shape p) b ≡ Head c → HeadOf sig k p b c
+head-of : (sig : Signature) (k : ℕ) (p : Pattern) (b : Bool) (c : ℕ) → WellFormed sig k p → light-of b p ≡ true → making-of (shape p) b ≡ Head c → HeadOf sig k p b c
 head-of sig k (head d ps) b c (well-head {ks = ks} i e h) l w =
     subst (HeadOf sig k (head d ps) b) (ap head-number w) (
     let q = args-same sig k d ks e in

@@ -11,9 +11,9 @@ use Rattle.pattern.specs.Pattern.{Pattern, pattern-code, head, and, or, wild, a
 use Rattle.pattern.specs.Read.{Form, form}
 use Rattle.pattern.proofs.Opened.{shape, code-word, code-split, word-form}
 use Rattle.pattern.proofs.PatternBack.{some-pattern-word}
-use Rattle.builder.specs.Build.{GivenPat, Made, step-of}
-use Rattle.builder.specs.declared.build.Step.{Step}
-use Rattle.builder.specs.declared.build.Step.the-variants.{Multiply, Add, One, Nothing, Swap}
+use Rattle.builder.specs.Build.{GivenPat, Made, making-of}
+use Rattle.builder.specs.declared.build.Making.{Making}
+use Rattle.builder.specs.declared.build.Making.the-variants.{Multiply, Add, One, Nothing, Swap}
 use Rattle.rowlist.specs.Sides.{rows-of}
 use Rattle.cell.specs.Coded.{row-code, kinds-of}
 use Rattle.rowlist.specs.Product.{Product, GivenProduct, products}
@@ -40,8 +40,8 @@ abbrev pub Result : {ar : List ℕ} {tag full : ℕ} {w : List ℕ} {b : Bool} {
 Result {b = b} g used read o = Made (kinds-of (g .known .sig)) (g .known .sig) (g .k) b (g .p) used read o
 
 -- the step of the pattern in front, as the code finds it
-pub stepped : {f : Form} {r s : Step} (w : List ℕ) (b : Bool) → f ≡ form (getD w 0 0) → r ≡ step-of f b → r ≡ s → step-of (form (getD w 0 0)) b ≡ s
-stepped w b e h q = ap (λ (f : Form). step-of f b) (sym e) ∙ sym h ∙ q
+pub stepped : {f : Form} {r s : Making} (w : List ℕ) (b : Bool) → f ≡ form (getD w 0 0) → r ≡ making-of f b → r ≡ s → making-of (form (getD w 0 0)) b ≡ s
+stepped w b e h q = ap (λ (f : Form). making-of f b) (sym e) ∙ sym h ∙ q
 
 -- a list in front
 pub in-front : (w o : List ℕ) (n : ℕ) → Product w n o → (n + 1 ≤ length o) × (o ≡ (w ++ (0 ∷ [])) ++ drop (n + 1) o) × WrittenFirst (w ++ (0 ∷ [])) (n + 1) o
@@ -58,15 +58,15 @@ module _ {ar : List ℕ} {tag full : ℕ} {w : List ℕ} {b : Bool} {n m : ℕ} 
   shape-is = ap (λ (l : List ℕ). form (getD l 0 0)) (g .code-is ∙ ap (λ (l : List ℕ). l ++ g .rest) (code-split (g .p))) ∙ word-form (g .known .sig) (g .well)
 
   -- and how its rows are made
-  pub step-is : {s : Step} → step-of (form (getD w 0 0)) b ≡ s → step-of (shape (g .p)) b ≡ s
-  step-is h = ap (λ (f : Form). step-of f b) (sym shape-is) ∙ h
+  pub step-is : {s : Making} → making-of (form (getD w 0 0)) b ≡ s → making-of (shape (g .p)) b ≡ s
+  step-is h = ap (λ (f : Form). making-of f b) (sym shape-is) ∙ h
 
   pub some-word : 1 ≤ length w
   some-word = omega (arith, some-pattern-word (g .p), simp length-append at (ap length (g .code-is)))
 
 module _ {ar : List ℕ} {tag full : ℕ} {w : List ℕ} {b : Bool} {n m : ℕ} (g : GivenPat ar tag full w b n m) where
   -- not
-  module _ (h : step-of (form (getD w 0 0)) b ≡ Swap) (own : ℕ) (own-is : own ≡ 1) where
+  module _ (h : making-of (form (getD w 0 0)) b ≡ Swap) (own : ℕ) (own-is : own ≡ 1) where
     neg-view : Negated (g .known .sig) (g .k) (g .p) b
     neg-view = negated (g .known .sig) (g .k) (g .p) b (g .well) (g .light) (step-is g h)
 
@@ -105,27 +105,27 @@ module _ {ar : List ℕ} {tag full : ℕ} {w : List ℕ} {b : Bool} {n m : ℕ} 
   leaf-made : {ws : List ℕ} → LeafOf ws → (used own : ℕ) (o : List ℕ) → own ≡ 1 → Product ws used o → Result g used own o
   leaf-made e used own o own-is p = record { read-is = own-is ∙ sym (e .short); list = subst (λ (z : List ℕ). Product z used o) (e .rows-is) p }
 
-  one-view : (v : ℕ) → step-of (form (getD w 0 0)) b ≡ One v → LeafOf (3 ∷ (tag ∷ (v ∷ (full ∷ []))))
+  one-view : (v : ℕ) → making-of (form (getD w 0 0)) b ≡ One v → LeafOf (3 ∷ (tag ∷ (v ∷ (full ∷ []))))
   one-view v h = one-of (kinds-of (g .known .sig)) (g .known .sig) (g .k) tag full (g .opened) (g .p) b v (g .well) (step-is g h)
 
-  none-view : step-of (form (getD w 0 0)) b ≡ Nothing → LeafOf []
+  none-view : making-of (form (getD w 0 0)) b ≡ Nothing → LeafOf []
   none-view h = none-of (kinds-of (g .known .sig)) (g .known .sig) (g .k) tag full (g .opened) (g .p) b (step-is g h)
 
-  pub one-given : (v : ℕ) → step-of (form (getD w 0 0)) b ≡ One v → 5 ≤ n
+  pub one-given : (v : ℕ) → making-of (form (getD w 0 0)) b ≡ One v → 5 ≤ n
   one-given v h = leaf-room (one-view v h)
 
-  pub one-made : (v : ℕ) → step-of (form (getD w 0 0)) b ≡ One v → (used own : ℕ) (o : List ℕ) → own ≡ 1 → Product (3 ∷ (tag ∷ (v ∷ (full ∷ [])))) used o → Result g used own o
+  pub one-made : (v : ℕ) → making-of (form (getD w 0 0)) b ≡ One v → (used own : ℕ) (o : List ℕ) → own ≡ 1 → Product (3 ∷ (tag ∷ (v ∷ (full ∷ [])))) used o → Result g used own o
   one-made v h = leaf-made (one-view v h)
 
-  pub none-given : step-of (form (getD w 0 0)) b ≡ Nothing → 1 ≤ n
+  pub none-given : making-of (form (getD w 0 0)) b ≡ Nothing → 1 ≤ n
   none-given h = omega (arith, leaf-room (none-view h))
 
-  pub none-made : step-of (form (getD w 0 0)) b ≡ Nothing → (used own : ℕ) (o : List ℕ) → own ≡ 1 → Product [] used o → Result g used own o
+  pub none-made : making-of (form (getD w 0 0)) b ≡ Nothing → (used own : ℕ) (o : List ℕ) → own ≡ 1 → Product [] used o → Result g used own o
   none-made h = leaf-made (none-view h)
 
 module _ {ar : List ℕ} {tag full : ℕ} {w : List ℕ} {b : Bool} {n m : ℕ} (g : GivenPat ar tag full w b n m) where
   -- two parts that are multiplied: the first in the workspace, the second behind it
-  module _ (h : step-of (form (getD w 0 0)) b ≡ Multiply) (own : ℕ) (own-is : own ≡ 1) where
+  module _ (h : making-of (form (getD w 0 0)) b ≡ Multiply) (own : ℕ) (own-is : own ≡ 1) where
     mult-view : Multiplied (g .known .sig) (g .k) (g .p) b
     mult-view = multiplied (g .known .sig) (g .k) (g .p) b (g .well) (g .light) (step-is g h)
 
@@ -154,7 +154,7 @@ module _ {ar : List ℕ} {tag full : ℕ} {w : List ℕ} {b : Bool} {n m : ℕ} 
     }
 
 module _ {ar : List ℕ} {tag full : ℕ} {w : List ℕ} {b : Bool} {n m : ℕ} (g : GivenPat ar tag full w b n m) where
-  module _ (h : step-of (form (getD w 0 0)) b ≡ Multiply) (own : ℕ) (own-is : own ≡ 1) where
+  module _ (h : making-of (form (getD w 0 0)) b ≡ Multiply) (own : ℕ) (own-is : own ≡ 1) where
     module _ (used read : ℕ) (o : List ℕ) (f : (q : GivenPat ar tag full (from w own) b m n) → Result q used read o) where
       mult-made-first : Made (kinds-of (g .known .sig)) (g .known .sig) (g .k) b (mult-two g h own own-is .q) used read o
       unfolding mult-first
@@ -184,7 +184,7 @@ module _ {ar : List ℕ} {tag full : ℕ} {w : List ℕ} {b : Bool} {n m : ℕ} 
       }
 
 module _ {ar : List ℕ} {tag full : ℕ} {w : List ℕ} {b : Bool} {n m : ℕ} (g : GivenPat ar tag full w b n m) where
-  module _ (h : step-of (form (getD w 0 0)) b ≡ Multiply) (own : ℕ) (own-is : own ≡ 1) where
+  module _ (h : making-of (form (getD w 0 0)) b ≡ Multiply) (own : ℕ) (own-is : own ≡ 1) where
     module _ (used read : ℕ) (o : List ℕ) (f : (q : GivenPat ar tag full (from w own) b m n) → Result q used read o) where
       module _ (n' m' used' read' : ℕ) (l : length o ≡ m) (e : n' ≡ n) (i : m' ≡ length (from o (used + 1))) (ys : List ℕ) (f' : (q : GivenPat ar tag full (from w (read + own)) b m' n') → Result q used' read' ys) (k : length ys ≡ length (from o (used + 1))) where
         mult-made-second : Made (kinds-of (g .known .sig)) (g .known .sig) (g .k) b (mult-two g h own own-is .r) used' read' ys
@@ -229,7 +229,7 @@ module _ {ar : List ℕ} {tag full : ℕ} {w : List ℕ} {b : Bool} {n m : ℕ} 
 
 module _ {ar : List ℕ} {tag full : ℕ} {w : List ℕ} {b : Bool} {n m : ℕ} (g : GivenPat ar tag full w b n m) where
   -- two parts that are added: the second behind the first
-  module _ (h : step-of (form (getD w 0 0)) b ≡ Add) (own : ℕ) (own-is : own ≡ 1) where
+  module _ (h : making-of (form (getD w 0 0)) b ≡ Add) (own : ℕ) (own-is : own ≡ 1) where
     add-view : Added (g .known .sig) (g .k) (g .p) b
     add-view = added (g .known .sig) (g .k) (g .p) b (g .well) (g .light) (step-is g h)
 
@@ -258,7 +258,7 @@ module _ {ar : List ℕ} {tag full : ℕ} {w : List ℕ} {b : Bool} {n m : ℕ} 
     }
 
 module _ {ar : List ℕ} {tag full : ℕ} {w : List ℕ} {b : Bool} {n m : ℕ} (g : GivenPat ar tag full w b n m) where
-  module _ (h : step-of (form (getD w 0 0)) b ≡ Add) (own : ℕ) (own-is : own ≡ 1) where
+  module _ (h : making-of (form (getD w 0 0)) b ≡ Add) (own : ℕ) (own-is : own ≡ 1) where
     module _ (used read : ℕ) (o : List ℕ) (f : (q : GivenPat ar tag full (from w own) b n m) → Result q used read o) where
       add-made-first : Made (kinds-of (g .known .sig)) (g .known .sig) (g .k) b (add-two g h own own-is .q) used read o
       unfolding add-first
@@ -288,7 +288,7 @@ module _ {ar : List ℕ} {tag full : ℕ} {w : List ℕ} {b : Bool} {n m : ℕ} 
       }
 
 module _ {ar : List ℕ} {tag full : ℕ} {w : List ℕ} {b : Bool} {n m : ℕ} (g : GivenPat ar tag full w b n m) where
-  module _ (h : step-of (form (getD w 0 0)) b ≡ Add) (own : ℕ) (own-is : own ≡ 1) where
+  module _ (h : making-of (form (getD w 0 0)) b ≡ Add) (own : ℕ) (own-is : own ≡ 1) where
     module _ (used read : ℕ) (o : List ℕ) (f : (q : GivenPat ar tag full (from w own) b n m) → Result q used read o) where
       module _ (n' m' used' read' : ℕ) (l : length o ≡ n) (e : m' ≡ m) (i : n' ≡ length (from o used)) (ys : List ℕ) (f' : (q : GivenPat ar tag full (from w (read + own)) b n' m') → Result q used' read' ys) (k : length ys ≡ length (from o used)) where
         add-made-second : Made (kinds-of (g .known .sig)) (g .known .sig) (g .k) b (add-two g h own own-is .r) used' read' ys

@@ -13,8 +13,8 @@ use Rattle.pattern.specs.Weight.{light-plus, light-minus, weight-plus}
 use Rattle.pattern.specs.WellFormed.{WellFormed, PatternWords}
 use Rattle.pattern.specs.Word.{own-words}
 use Rattle.sets.specs.Set.{set-of}
-use Rattle.builder.specs.declared.build.Step.{Step}
-use Rattle.builder.specs.declared.build.Step.the-variants.{Head, Multiply, Add, One, Nothing, Swap}
+use Rattle.builder.specs.declared.build.Making.{Making}
+use Rattle.builder.specs.declared.build.Making.the-variants.{Head, Multiply, Add, One, Nothing, Swap}
 use Rattle.cell.specs.Cell.{Kinds, cell-width}
 use Rattle.cell.specs.Coded.{kinds-of}
 use Rattle.rowlist.specs.Product.{Product}
@@ -31,20 +31,20 @@ abbrev pub room-unit : ℕ
 room-unit = 257
 
 -- how the rows of a pattern are made on a side, by what its first word is
-abbrev pub step-of : Form → Bool → Step
-step-of (is-head c) b = Head c
-step-of is-and true = Multiply
-step-of is-and false = Add
-step-of is-or true = Add
-step-of is-or false = Multiply
-step-of is-wild true = One 0
-step-of is-wild false = Nothing
-step-of is-absurd true = Nothing
-step-of is-absurd false = One 0
-step-of is-not b = Swap
-step-of (is-var x) true = One (set-of 0 (x ∷ []))
-step-of (is-var x) false = Nothing
-step-of is-other b = Nothing
+abbrev pub making-of : Form → Bool → Making
+making-of (is-head c) b = Head c
+making-of is-and true = Multiply
+making-of is-and false = Add
+making-of is-or true = Add
+making-of is-or false = Multiply
+making-of is-wild true = One 0
+making-of is-wild false = Nothing
+making-of is-absurd true = Nothing
+making-of is-absurd false = One 0
+making-of is-not b = Swap
+making-of (is-var x) true = One (set-of 0 (x ∷ []))
+making-of (is-var x) false = Nothing
+making-of is-other b = Nothing
 
 -- the pattern in front of the words, and room for what is built
 pub record GivenPat (t : List ℕ) (tag full : ℕ) (w : List ℕ) (b : Bool) (n m : ℕ) : Type 0 where
@@ -63,19 +63,19 @@ pub record GivenPat (t : List ℕ) (tag full : ℕ) (w : List ℕ) (b : Bool) (n
 -- the pattern in front is that of constructor c
 pub record GivenHead (t : List ℕ) (tag full c own : ℕ) (w : List ℕ) (b : Bool) (n m : ℕ) : Type 0 where
   pub pat : GivenPat t tag full w b n m
-  pub word : step-of (form (getD w 0 0)) b ≡ Head c
+  pub word : making-of (form (getD w 0 0)) b ≡ Head c
   pub own-is : own ≡ own-words (form (getD w 0 0))
 
 -- the pattern in front is two parts whose rows are multiplied
 pub record GivenMultiplied (t : List ℕ) (tag full own : ℕ) (w : List ℕ) (b : Bool) (n m : ℕ) : Type 0 where
   pub pat : GivenPat t tag full w b n m
-  pub word : step-of (form (getD w 0 0)) b ≡ Multiply
+  pub word : making-of (form (getD w 0 0)) b ≡ Multiply
   pub own-is : own ≡ own-words (form (getD w 0 0))
 
 -- the pattern in front is two parts whose rows are added
 pub record GivenAdded (t : List ℕ) (tag full own : ℕ) (w : List ℕ) (b : Bool) (n m : ℕ) : Type 0 where
   pub pat : GivenPat t tag full w b n m
-  pub word : step-of (form (getD w 0 0)) b ≡ Add
+  pub word : making-of (form (getD w 0 0)) b ≡ Add
   pub own-is : own ≡ own-words (form (getD w 0 0))
 
 -- what was read and written

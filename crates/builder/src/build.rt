@@ -31,10 +31,10 @@ ghost use Rattle.cell.specs.Coded.{kinds-of};
 ghost use Rattle.cell.specs.RowList.{entries, from};
 ghost use Rattle.rowlist.specs.Product.{GivenProduct, Product, products};
 ghost use Rattle.builder.specs.Arguments.{GivenArgs, MadeArgs};
-ghost use Rattle.builder.specs.Build.{step-of, GivenPat, GivenHead, GivenMultiplied, GivenAdded, Made, GivenPart, GivenWhole, RowsFirst};
+ghost use Rattle.builder.specs.Build.{making-of, GivenPat, GivenHead, GivenMultiplied, GivenAdded, Made, GivenPart, GivenWhole, RowsFirst};
 
 // How the rows of a pattern are made: a constructor's; the products, or both, of its two parts' rows; one row of one cell with these variables; none; its part's on the other side.
-pub enum Step {
+pub enum Making {
     Head(u16),
     Multiply,
     Add,
@@ -65,45 +65,45 @@ fn nothing(out: &mut [u64]) -> usize
     0
 }
 
-fn plus_step(w: Word) -> Step
+fn plus_making(w: Word) -> Making
     requires { ⌜ var-small (form-of w) ⌝ }
-    ensures { λ r. ⌜ r ≡ step-of (form-of w) true ⌝ }
+    ensures { λ r. ⌜ r ≡ making-of (form-of w) true ⌝ }
 {
     match w {
-        Word::Head(c) => Step::Head(c),
-        Word::And => Step::Multiply,
-        Word::Or => Step::Add,
-        Word::Wild => Step::One(0),
-        Word::Absurd => Step::Nothing,
-        Word::Not => Step::Swap,
-        Word::Var(x) => Step::One(only(x as u32)),
-        Word::Other => Step::Nothing,
+        Word::Head(c) => Making::Head(c),
+        Word::And => Making::Multiply,
+        Word::Or => Making::Add,
+        Word::Wild => Making::One(0),
+        Word::Absurd => Making::Nothing,
+        Word::Not => Making::Swap,
+        Word::Var(x) => Making::One(only(x as u32)),
+        Word::Other => Making::Nothing,
     }
 }
 
-fn minus_step(w: Word) -> Step
-    ensures { λ r. ⌜ r ≡ step-of (form-of w) false ⌝ }
+fn minus_making(w: Word) -> Making
+    ensures { λ r. ⌜ r ≡ making-of (form-of w) false ⌝ }
 {
     match w {
-        Word::Head(c) => Step::Head(c),
-        Word::And => Step::Add,
-        Word::Or => Step::Multiply,
-        Word::Wild => Step::Nothing,
-        Word::Absurd => Step::One(0),
-        Word::Not => Step::Swap,
-        Word::Var(_x) => Step::Nothing,
-        Word::Other => Step::Nothing,
+        Word::Head(c) => Making::Head(c),
+        Word::And => Making::Add,
+        Word::Or => Making::Multiply,
+        Word::Wild => Making::Nothing,
+        Word::Absurd => Making::One(0),
+        Word::Not => Making::Swap,
+        Word::Var(_x) => Making::Nothing,
+        Word::Other => Making::Nothing,
     }
 }
 
-fn step_of(w: Word, plus: bool) -> Step
+fn making_of(w: Word, plus: bool) -> Making
     requires { ⌜ var-small (form-of w) ⌝ }
-    ensures { λ r. ⌜ r ≡ step-of (form-of w) plus ⌝ }
+    ensures { λ r. ⌜ r ≡ making-of (form-of w) plus ⌝ }
 {
     if plus {
-        return plus_step(w);
+        return plus_making(w);
     }
-    minus_step(w)
+    minus_making(w)
 }
 
 // The product of the list in front and of that which begins at a word.
@@ -156,20 +156,20 @@ pub fn rows(
 {
     let w = classify(p[0]);
     let own = own_words(w);
-    let s = step_of(w, plus);
+    let s = making_of(w, plus);
     match s {
-        Step::Head(c) => head_rows(t, tag, full, c, own, p, plus, out, work),
-        Step::Multiply => multiplied(t, tag, full, own, p, plus, out, work),
-        Step::Add => added(t, tag, full, own, p, plus, out, work),
-        Step::One(vars) => {
+        Making::Head(c) => head_rows(t, tag, full, c, own, p, plus, out, work),
+        Making::Multiply => multiplied(t, tag, full, own, p, plus, out, work),
+        Making::Add => added(t, tag, full, own, p, plus, out, work),
+        Making::One(vars) => {
             let used = one(tag, vars, full, out);
             Built { used, read: own }
         }
-        Step::Nothing => {
+        Making::Nothing => {
             let used = nothing(out);
             Built { used, read: own }
         }
-        Step::Swap => {
+        Making::Swap => {
             let a = rows(t, tag, full, &p[own..], !plus, out, work);
             let read = a.read + own;
             Built { used: a.used, read }

@@ -30,7 +30,7 @@ use Rattle.admission.specs.declared.admit.Admission.{Admission}
 use Rattle.admission.specs.declared.admit.Admission.the-variants.{Passed, Refused}
 use Rattle.loading.specs.Add.{weights, GivenPlace, ListPlaced, GivenAdd, goes-with, Stepped, lists-room, row-words}
 use Rattle.loading.specs.Lists.{rows-by, rows-for, list-for, lists-for, GivenLists}
-use Rattle.loading.specs.declared.add.Step.the-variants.{Added, Unsound}
+use Rattle.loading.specs.declared.add.Addition.the-variants.{Added, Unsound}
 
 -- what the admission tells of the words
 abbrev Tells : Signature → List ℕ → Admission → Type 0

@@ -19,8 +19,8 @@ use Rattle.store.proofs.Walk.{walk-start, walk-step, walk-end}
 use Rattle.loading.specs.Add.{GivenAdd, goes-with, weights, Stepped, lists-room}
 use Rattle.loading.specs.Lists.{lists-for}
 use Rattle.loading.specs.Load.{GivenLoad, Ready, LoadedAs, patterns, tests}
-use Rattle.loading.specs.declared.add.Step.{Step}
-use Rattle.loading.specs.declared.add.Step.the-variants.{Added, Unsound}
+use Rattle.loading.specs.declared.add.Addition.{Addition}
+use Rattle.loading.specs.declared.add.Addition.the-variants.{Added, Unsound}
 use Rattle.loading.specs.declared.load.Loaded.the-variants.{Sound}
 use Rattle.loading.proofs.Tested.{same-weight, weight-last, tests-light, tests-more, tests-none}
 
@@ -101,7 +101,7 @@ module _ {t table : List ℕ} {n m : ℕ} (g : GivenLoad t table n m) (rs : List
         work-room = omega (arith, m-is, g .work-room);
       }
 
-      module _ (r : length rows ≡ n) (m' : ℕ) (m-is : m' ≡ m) (s : Step) (rows' : List ℕ) (gave : (q : GivenAdd t i used total rows m') → Stepped (q .known .sig) (q .wss) (take (at + 3 + getD table (at + 2) 0 - (at + 3)) (drop (at + 3) table)) s rows') where
+      module _ (r : length rows ≡ n) (m' : ℕ) (m-is : m' ≡ m) (s : Addition) (rows' : List ℕ) (gave : (q : GivenAdd t i used total rows m') → Stepped (q .known .sig) (q .wss) (take (at + 3 + getD table (at + 2) 0 - (at + 3)) (drop (at + 3) table)) s rows') where
         said : Stepped (g .known .sig) (patterns (l .before)) (step .rule .pattern) s rows'
         unfolding given
         said = subst (λ z. Stepped (g .known .sig) (patterns (l .before)) z s rows') words-are (gave (given r m' m-is))

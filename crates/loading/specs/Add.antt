@@ -20,8 +20,8 @@ use Rattle.cell.specs.RowList.{list-code}
 use Rattle.table.specs.Limits.{limits}
 use Rattle.builder.specs.Build.{row-room}
 use Rattle.loading.specs.Lists.{lists-for}
-use Rattle.loading.specs.declared.add.Step.{Step}
-use Rattle.loading.specs.declared.add.Step.the-variants.{Added, Unsound}
+use Rattle.loading.specs.declared.add.Addition.{Addition}
+use Rattle.loading.specs.declared.add.Addition.the-variants.{Added, Unsound}
 
 -- what the patterns weigh in all
 abbrev pub weights : Signature → List (List ℕ) → ℕ
@@ -75,6 +75,6 @@ pub record GivenAdd (t : List ℕ) (n used total : ℕ) (rows : List ℕ) (m : �
 abbrev pub goes-with : Signature → List (List ℕ) → List ℕ → Bool
 goes-with sig wss ws = eqb (refusal-of-pattern sig ws) 0 && leb (weight sig ws + weights sig wss) (limits .weight) && not (any (λ us. shares sig us ws) wss)
 
-abbrev pub Stepped : Signature → List (List ℕ) → List ℕ → Step → List ℕ → Type 0
+abbrev pub Stepped : Signature → List (List ℕ) → List ℕ → Addition → List ℕ → Type 0
 Stepped sig wss ws Unsound rows = goes-with sig wss ws ≡ false
 Stepped sig wss ws (Added used total) rows = (goes-with sig wss ws ≡ true) × (total ≡ weight sig ws + weights sig wss) × (used ≡ length (lists-for sig (wss ++ (ws ∷ [])))) × ((rest : List ℕ) × (rows ≡ lists-for sig (wss ++ (ws ∷ [])) ++ rest)) × (used ≤ lists-room total (length (wss ++ (ws ∷ []))))

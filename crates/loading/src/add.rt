@@ -19,7 +19,7 @@ pub const ROWS_ROOM: usize = WEIGHT as usize * (1 + 3 * PATTERN_WORDS)
     + ROW_ROOM;
 
 // The words used and the weight, with the rule; or that no sound table has it.
-pub enum Step {
+pub enum Addition {
     Added(usize, u16),
     Unsound,
 }
@@ -43,20 +43,20 @@ pub(crate) fn add(
     weight: u16,
     rows: &mut [u64],
     work: &mut [u64],
-) -> Step
+) -> Addition
     requires { ⌜ GivenAdd (now t) n used weight (now rows) (length (now work)) ⌝ }
     ensures { λ r. ⌜ ((g : GivenAdd (now (t .entry)) n used weight (now (rows .entry)) (length (now (work .entry)))) → Stepped (g .known .sig) (g .wss) (now (p .entry)) r (now (rows .exit))) ⌝ }
 {
     let Admission::Passed(w) = admit(t, p, &mut rows[used..], work) else {
-        return Step::Unsound;
+        return Addition::Unsound;
     };
     let total = weight + w;
     if WEIGHT < total {
-        return Step::Unsound;
+        return Addition::Unsound;
     }
     let end = place(t, p, used, rows, work);
     if some_shares(t, rows, n, used + 1) {
-        return Step::Unsound;
+        return Addition::Unsound;
     }
-    Step::Added(end, total)
+    Addition::Added(end, total)
 }

@@ -1,5 +1,5 @@
 // Whether a table is sound (refusal 3), and the rows of all its rules.
-use crate::add::Step;
+use crate::add::Addition;
 use crate::add::add;
 use store::layout::LENGTH;
 use store::layout::RULE_HEAD;
@@ -29,7 +29,7 @@ pub fn load(t: &[u16], table: &[u16], rows: &mut [u64], work: &mut [u64]) -> Loa
     while i < n {
         let from = at + RULE_HEAD;
         let end = from + table[at + LENGTH] as usize;
-        let Step::Added(u, w) = add(t, &table[from..end], i, used, total, rows, work) else {
+        let Addition::Added(u, w) = add(t, &table[from..end], i, used, total, rows, work) else {
             return Loaded::Unsound;
         };
         used = u;

@@ -35,7 +35,7 @@ use Rattle.tree.specs.Limits.{last-number, tree-limit, default-plan}
 use Rattle.tree.specs.Run.{run, run-words}
 use Rattle.tree.specs.RunCall.{RunCall, run-signature, run-booking, run-at}
 use Rattle.table.specs.Calls.{Start, refused, begin, start, on-signature, on-sound, long-table, long-witness, enter-start, enter-number, enter-table, withdraw-number, withdraw-table, too-large, CompileFrom, decide-from, decide-booking, Entered, Empty, Enter, Withdraw, Compile, DecideCall}
-use Rattle.table.specs.Demand1.{FirstOf, Unlawful, Under, ShortTable, ShortWitness, Unsound, InForce, NumberOutside, Held, NotHeld, Malformed, NotLinear, HeavyWords, AmbiguousWords, Full, UnlawfulBooking, TooLarge, Broken, zeros, part-refusals, empty-refusals, enter-refusals, withdraw-refusals, compile-refusals, decide-refusals, run-refusals, Demand1}
+use Rattle.table.specs.Demand1.{FirstOf, Unlawful, Under, ShortTable, ShortWitness, Unsound, OfRulesInForce, NumberOutside, Held, NotHeld, Malformed, NotLinear, HeavyWords, AmbiguousWords, Full, UnlawfulBooking, TooLarge, Broken, zeros, part-refusals, empty-refusals, enter-refusals, withdraw-refusals, compile-refusals, decide-refusals, run-refusals, Demand1}
 use Rattle.table.specs.Limits.{limits, table-length, witness-length}
 use Rattle.table.specs.Matrix.{tree-words}
 use Rattle.table.specs.Refusals.{entry-refusal, withdrawal-refusal, SharesHeld}
@@ -82,10 +82,10 @@ module _ (ss : List ℕ) where
       is-sound : Unsound ss table → ⊥
       is-sound u = u sig rs (signature-is ss sig lawful) (sound-table sig (ss, lawful) table rs holds)
 
-      in-force : (P : Signature → List Rule → Type 0) → P sig rs → InForce ss table P
+      in-force : (P : Signature → List Rule → Type 0) → P sig rs → OfRulesInForce ss table P
       in-force P p = (sig, rs, signature-is ss sig lawful, sound-table sig (ss, lawful) table rs holds, p)
 
-      in-force-not : (P : Signature → List Rule → Type 0) → (P sig rs → ⊥) → InForce ss table P → ⊥
+      in-force-not : (P : Signature → List Rule → Type 0) → (P sig rs → ⊥) → OfRulesInForce ss table P → ⊥
       in-force-not P f (sig′, rs′, w, h, p) =
           let e : sig′ ≡ sig = same-signature sig′ w in
           let q : rs′ ≡ rs = some-inj rs′ rs (sym (table-sound sig′ (ss, is-signature ss sig′ w) table rs′ h) ∙ ap (λ z. sound limits z table) e ∙ holds) in
@@ -163,27 +163,27 @@ module _ (ss : List ℕ) (sig : Signature) (lawful : read-signature ss ≡ some 
   same-pattern : (p q : Pattern) → read-pattern sig ws ≡ some p → PatternWords sig ws q → q ≡ p
   same-pattern p q e w = some-inj q p (sym (words-pattern sig ws q w) ∙ e)
 
-  pattern-first : {R : Type 0} (n m : ℕ) → n ≡ (let q = refusal-of-pattern sig ws in cond (not (eqb q 0)) q m) → (n ≡ m → R) → Next (InForce ss table (λ s r. Malformed s ws)) 7 n (Next (InForce ss table (λ s r. NotLinear s ws)) 8 n (Next (InForce ss table (λ s r. HeavyWords s ws)) 9 n (Next (InForce ss table (λ s r. AmbiguousWords s ws)) 10 n R)))
+  pattern-first : {R : Type 0} (n m : ℕ) → n ≡ (let q = refusal-of-pattern sig ws in cond (not (eqb q 0)) q m) → (n ≡ m → R) → Next (OfRulesInForce ss table (λ s r. Malformed s ws)) 7 n (Next (OfRulesInForce ss table (λ s r. NotLinear s ws)) 8 n (Next (OfRulesInForce ss table (λ s r. HeavyWords s ws)) 9 n (Next (OfRulesInForce ss table (λ s r. AmbiguousWords s ws)) 10 n R)))
   pattern-first {R} n m n-is later = go (read-pattern sig ws) refl
     where
       own : (o : Option Pattern) → read-pattern sig ws ≡ o → n ≡ (let q = refusal-by sig o in cond (not (eqb q 0)) q m)
       own o e = n-is ∙ ap (λ o. let q = refusal-by sig o in cond (not (eqb q 0)) q m) e
 
-      go : (o : Option Pattern) → read-pattern sig ws ≡ o → Next (InForce ss table (λ s r. Malformed s ws)) 7 n (Next (InForce ss table (λ s r. NotLinear s ws)) 8 n (Next (InForce ss table (λ s r. HeavyWords s ws)) 9 n (Next (InForce ss table (λ s r. AmbiguousWords s ws)) 10 n R)))
+      go : (o : Option Pattern) → read-pattern sig ws ≡ o → Next (OfRulesInForce ss table (λ s r. Malformed s ws)) 7 n (Next (OfRulesInForce ss table (λ s r. NotLinear s ws)) 8 n (Next (OfRulesInForce ss table (λ s r. HeavyWords s ws)) 9 n (Next (OfRulesInForce ss table (λ s r. AmbiguousWords s ws)) 10 n R)))
       go none e = inl (in-force ss sig lawful table rs holds (λ s r. Malformed s ws) (λ p w. none≢some (sym e ∙ words-pattern sig ws p w)), own none e)
       go (some p) e = inr (in-force-not ss sig lawful table rs holds (λ s r. Malformed s ws) (λ h. h p (pattern-words sig ws p e)), on-8 (linear-plus p) refl)
         where
-          on-10 : linear-plus p ≡ true → light-plus p ≡ true → (b : Bool) → ambiguous-plus sig 0 p ≡ b → Next (InForce ss table (λ s r. AmbiguousWords s ws)) 10 n R
+          on-10 : linear-plus p ≡ true → light-plus p ≡ true → (b : Bool) → ambiguous-plus sig 0 p ≡ b → Next (OfRulesInForce ss table (λ s r. AmbiguousWords s ws)) 10 n R
           on-10 a c true q =
               let f = sig-facts sig (ss, lawful) in
               inl (in-force ss sig lawful table rs holds (λ s r. AmbiguousWords s ws) (p, pattern-words sig ws p e, ambiguous-exists sig f p (small-0 sig f) (pattern-words sig ws p e .well-formed) q), own (some p) e ∙ rw (a, c, q))
           on-10 a c false q = inr (in-force-not ss sig lawful table rs holds (λ s r. AmbiguousWords s ws) (λ (p′, w, h). true≢false (sym (ambiguous-decided sig p′ (w .well-formed) h) ∙ ap (ambiguous-plus sig 0) (same-pattern p p′ e w) ∙ q)), later (own (some p) e ∙ rw (a, c, q)))
 
-          on-9 : linear-plus p ≡ true → (b : Bool) → light-plus p ≡ b → Next (InForce ss table (λ s r. HeavyWords s ws)) 9 n (Next (InForce ss table (λ s r. AmbiguousWords s ws)) 10 n R)
+          on-9 : linear-plus p ≡ true → (b : Bool) → light-plus p ≡ b → Next (OfRulesInForce ss table (λ s r. HeavyWords s ws)) 9 n (Next (OfRulesInForce ss table (λ s r. AmbiguousWords s ws)) 10 n R)
           on-9 a false q = inl (in-force ss sig lawful table rs holds (λ s r. HeavyWords s ws) (p, pattern-words sig ws p e, heavy-is-some sig p (pattern-words sig ws p e .well-formed) .0 q), own (some p) e ∙ rw (a, q))
           on-9 a true q = inr (in-force-not ss sig lawful table rs holds (λ s r. HeavyWords s ws) (λ (p′, w, h). true≢false (sym q ∙ ap light-plus (sym (same-pattern p p′ e w)) ∙ heavy-is-some sig p′ (w .well-formed) .1 h)), on-10 a q (ambiguous-plus sig 0 p) refl)
 
-          on-8 : (b : Bool) → linear-plus p ≡ b → Next (InForce ss table (λ s r. NotLinear s ws)) 8 n (Next (InForce ss table (λ s r. HeavyWords s ws)) 9 n (Next (InForce ss table (λ s r. AmbiguousWords s ws)) 10 n R))
+          on-8 : (b : Bool) → linear-plus p ≡ b → Next (OfRulesInForce ss table (λ s r. NotLinear s ws)) 8 n (Next (OfRulesInForce ss table (λ s r. HeavyWords s ws)) 9 n (Next (OfRulesInForce ss table (λ s r. AmbiguousWords s ws)) 10 n R))
           on-8 false q = inl (in-force ss sig lawful table rs holds (λ s r. NotLinear s ws) (p, pattern-words sig ws p e, q), own (some p) e ∙ rw q)
           on-8 true q = inr (in-force-not ss sig lawful table rs holds (λ s r. NotLinear s ws) (λ (p′, w, h). true≢false (sym q ∙ ap linear-plus (sym (same-pattern p p′ e w)) ∙ h)), on-9 q (light-plus p) refl)
 
@@ -221,7 +221,7 @@ enter-first : (ss : List ℕ) (n plan : ℕ) (ws before witness : List ℕ) (e :
 enter-first ss n plan ws before witness e after witness′ h =
     (opened ss (long-table limits before && long-witness witness) before (short-either before witness) (long-both before witness) (e .number) (λ s. enter-number limits s n ws) (λ m. refl) (h .number-is) later, kept (enter-start limits ss before witness) (h .number-is) (h .table-is), h .not-12)
   where
-    later : (sig : Signature) (rs : List Rule) → read-signature ss ≡ some sig → sound limits sig before ≡ some rs → e .number ≡ entry-refusal limits sig n ws rs → FirstOf ((4, NumberOutside n) ∷ ((5, InForce ss before (λ s r. Held n r)) ∷ ((7, InForce ss before (λ s r. Malformed s ws)) ∷ ((8, InForce ss before (λ s r. NotLinear s ws)) ∷ ((9, InForce ss before (λ s r. HeavyWords s ws)) ∷ ((10, InForce ss before (λ s r. AmbiguousWords s ws)) ∷ ((11, InForce ss before (λ s r. Full s ws r)) ∷ ((12, InForce ss before (λ s r. SharesHeld s ws r)) ∷ [])))))))) (e .number)
+    later : (sig : Signature) (rs : List Rule) → read-signature ss ≡ some sig → sound limits sig before ≡ some rs → e .number ≡ entry-refusal limits sig n ws rs → FirstOf ((4, NumberOutside n) ∷ ((5, OfRulesInForce ss before (λ s r. Held n r)) ∷ ((7, OfRulesInForce ss before (λ s r. Malformed s ws)) ∷ ((8, OfRulesInForce ss before (λ s r. NotLinear s ws)) ∷ ((9, OfRulesInForce ss before (λ s r. HeavyWords s ws)) ∷ ((10, OfRulesInForce ss before (λ s r. AmbiguousWords s ws)) ∷ ((11, OfRulesInForce ss before (λ s r. Full s ws r)) ∷ ((12, OfRulesInForce ss before (λ s r. SharesHeld s ws r)) ∷ [])))))))) (e .number)
     later sig rs lawful holds n-is =
         test (not (leb 1 n && leb n last-number)) (outside n) (inside n) n-is
         (λ q₁ e₁. test (held n rs) (λ q. in-force ss sig lawful before rs holds (λ s r. Held n r) (held-some n rs q)) (λ q. in-force-not ss sig lawful before rs holds (λ s r. Held n r) (λ y. true≢false (sym (some-held n rs y) ∙ q))) e₁
@@ -241,7 +241,7 @@ withdraw-first : (ss : List ℕ) (n : ℕ) (before : List ℕ) (number : ℕ) (a
 withdraw-first ss n before number after h =
     (opened ss (long-table limits before) before (short-table before) (long-not before) number (λ s. withdraw-number s n) (λ m. refl) (h .number-is) later, kept (start limits ss (long-table limits before) before) (h .number-is) (h .table-is))
   where
-    later : (sig : Signature) (rs : List Rule) → read-signature ss ≡ some sig → sound limits sig before ≡ some rs → number ≡ withdrawal-refusal n rs → FirstOf ((4, NumberOutside n) ∷ ((6, InForce ss before (λ s r. NotHeld n r)) ∷ [])) number
+    later : (sig : Signature) (rs : List Rule) → read-signature ss ≡ some sig → sound limits sig before ≡ some rs → number ≡ withdrawal-refusal n rs → FirstOf ((4, NumberOutside n) ∷ ((6, OfRulesInForce ss before (λ s r. NotHeld n r)) ∷ [])) number
     later sig rs lawful holds n-is =
         test (not (leb 1 n && leb n last-number)) (outside n) (inside n) n-is
         (λ q₁ e₁. test (not (held n rs)) (λ q. in-force ss sig lawful before rs holds (λ s r. NotHeld n r) (λ r i x. true≢false (sym q ∙ ap not (some-held n rs (r, i, x))))) (λ q. in-force-not ss sig lawful before rs holds (λ s r. NotHeld n r) (λ y. let (r, i, x) = held-some n rs (not-false (held n rs) q) in y r i x)) e₁ (λ q₂ e₂. e₂))
@@ -277,7 +277,7 @@ compile-first ss table space number len space′ h =
     not-large sig rs e (inl l) = true≢false (sym (ltb-yes (length space) (length (tree-words default-plan sig rs)) l) ∙ or-left (ltb (length space) (length (tree-words default-plan sig rs))) (ltb tree-limit (length (tree-words default-plan sig rs))) e)
     not-large sig rs e (inr l) = true≢false (sym (ltb-yes tree-limit (length (tree-words default-plan sig rs)) l) ∙ or-right (ltb (length space) (length (tree-words default-plan sig rs))) (ltb tree-limit (length (tree-words default-plan sig rs))) e)
 
-    later : (sig : Signature) (rs : List Rule) → read-signature ss ≡ some sig → sound limits sig table ≡ some rs → number ≡ f (begin sig rs) → FirstOf ((14, InForce ss table (λ s r. TooLarge s r space)) ∷ []) number
+    later : (sig : Signature) (rs : List Rule) → read-signature ss ≡ some sig → sound limits sig table ≡ some rs → number ≡ f (begin sig rs) → FirstOf ((14, OfRulesInForce ss table (λ s r. TooLarge s r space)) ∷ []) number
     later sig rs lawful holds n-is = test (too-large (tree-words default-plan sig rs) space) (λ q. in-force ss sig lawful table rs holds (λ s r. TooLarge s r space) (large sig rs q)) (λ q. in-force-not ss sig lawful table rs holds (λ s r. TooLarge s r space) (not-large sig rs q)) n-is (λ q e. e)
 
     kept : (s : Start) → CompileFrom s space number len space′ → (number ≡ 0 → ⊥) → (len ≡ 0) × (space′ ≡ space)

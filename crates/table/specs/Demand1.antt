@@ -55,8 +55,8 @@ abbrev pub Unsound : List ℕ → List ℕ → Type 0
 Unsound ss table = (sig : Signature) (rs : List Rule) → SignatureWords ss sig → SoundTable limits sig table rs → ⊥
 
 -- something holds of the signature and of the rules in force
-abbrev pub InForce : List ℕ → List ℕ → (Signature → List Rule → Type 0) → Type 0
-InForce ss table P = (sig : Signature) × (rs : List Rule) × SignatureWords ss sig × SoundTable limits sig table rs × P sig rs
+abbrev pub OfRulesInForce : List ℕ → List ℕ → (Signature → List Rule → Type 0) → Type 0
+OfRulesInForce ss table P = (sig : Signature) × (rs : List Rule) × SignatureWords ss sig × SoundTable limits sig table rs × P sig rs
 
 -- "4. The rule number is not 1 to 999."
 abbrev pub NumberOutside : ℕ → Type 0
@@ -115,20 +115,20 @@ enter-refusals ss n ws table witness =
     ∷ (2, ShortTable table ⊎ ShortWitness witness)
     ∷ (3, Unsound ss table)
     ∷ (4, NumberOutside n)
-    ∷ (5, InForce ss table (λ sig rs. Held n rs))
-    ∷ (7, InForce ss table (λ sig rs. Malformed sig ws))
-    ∷ (8, InForce ss table (λ sig rs. NotLinear sig ws))
-    ∷ (9, InForce ss table (λ sig rs. HeavyWords sig ws))
-    ∷ (10, InForce ss table (λ sig rs. AmbiguousWords sig ws))
-    ∷ (11, InForce ss table (λ sig rs. Full sig ws rs))
-    ∷ (12, InForce ss table (λ sig rs. SharesHeld sig ws rs))
+    ∷ (5, OfRulesInForce ss table (λ sig rs. Held n rs))
+    ∷ (7, OfRulesInForce ss table (λ sig rs. Malformed sig ws))
+    ∷ (8, OfRulesInForce ss table (λ sig rs. NotLinear sig ws))
+    ∷ (9, OfRulesInForce ss table (λ sig rs. HeavyWords sig ws))
+    ∷ (10, OfRulesInForce ss table (λ sig rs. AmbiguousWords sig ws))
+    ∷ (11, OfRulesInForce ss table (λ sig rs. Full sig ws rs))
+    ∷ (12, OfRulesInForce ss table (λ sig rs. SharesHeld sig ws rs))
     ∷ []
 
 abbrev pub withdraw-refusals : List ℕ → ℕ → List ℕ → List (ℕ × Type 0)
-withdraw-refusals ss n table = (1, Unlawful ss) ∷ (2, ShortTable table) ∷ (3, Unsound ss table) ∷ (4, NumberOutside n) ∷ (6, InForce ss table (λ sig rs. NotHeld n rs)) ∷ []
+withdraw-refusals ss n table = (1, Unlawful ss) ∷ (2, ShortTable table) ∷ (3, Unsound ss table) ∷ (4, NumberOutside n) ∷ (6, OfRulesInForce ss table (λ sig rs. NotHeld n rs)) ∷ []
 
 abbrev pub compile-refusals : List ℕ → List ℕ → List ℕ → List (ℕ × Type 0)
-compile-refusals ss table space = (1, Unlawful ss) ∷ (2, ShortTable table) ∷ (3, Unsound ss table) ∷ (14, InForce ss table (λ sig rs. TooLarge sig rs space)) ∷ []
+compile-refusals ss table space = (1, Unlawful ss) ∷ (2, ShortTable table) ∷ (3, Unsound ss table) ∷ (14, OfRulesInForce ss table (λ sig rs. TooLarge sig rs space)) ∷ []
 
 abbrev pub decide-refusals : List ℕ → List ℕ → List ℕ → List (ℕ × Type 0)
 decide-refusals ss table bs = (1, Unlawful ss) ∷ (2, ShortTable table) ∷ (3, Unsound ss table) ∷ (13, Under ss (λ sig. UnlawfulBooking sig bs)) ∷ []

@@ -33,7 +33,7 @@ use Rattle.builder.proofs.build.full_of.Reads as full-of-reads
 use Rattle.builder.proofs.build.nothing.Reads as nothing-reads
 use Rattle.builder.proofs.build.one.Reads as one-reads
 use Rattle.builder.proofs.build.place_of.Reads as place-of-reads
-use Rattle.builder.proofs.build.step_of.Reads as step-of-reads
+use Rattle.builder.proofs.build.making_of.Reads as making-of-reads
 use Rattle.builder.proofs.build.times.Reads as times-reads
 use Rattle.pattern.proofs.token.classify.Reads as classify-reads
 use Rattle.pattern.proofs.token.own_words.Reads as own-words-reads
@@ -200,7 +200,7 @@ pub +added+args+head-rows+multiplied+rows-spec : {M : Type 1} → statement M
     (λ c. back-length (c .before .before .before .before .before .before .before .before .before .before .before .before .before .before .before .before .before .before .before .before .rows .last .1 .1 .1 .1 .1 .0) (c .before .before .before .before .before .before .before .before .before .before .rows2 .last .1 .1 .1 .1 .1 .0) (c .before .before .before .before .before .before .before .before .before .before .before .before .before .before .before .before .before .before .before .before .rows .result .used + 1) (mult-bounds (c .before .before .before .before .before .before .before .before .before .before .before .before .before .before .before .before .before .before .before .before .before .before .before .before .before .before .before .before .pre .1 .pat) (c .before .before .before .before .before .before .before .before .before .before .before .before .before .before .before .before .before .before .before .before .before .before .before .before .before .before .before .before .pre .1 .word) _ (c .before .before .before .before .before .before .before .before .before .before .before .before .before .before .before .before .before .before .before .before .before .before .before .before .before .before .before .before .pre .1 .own-is) (c .before .before .before .before .before .before .before .before .before .before .before .before .before .before .before .before .before .before .before .before .rows .result .used) (c .before .before .before .before .before .before .before .before .before .before .before .before .before .before .before .before .before .before .before .before .rows .result .read) (c .before .before .before .before .before .before .before .before .before .before .before .before .before .before .before .before .before .before .before .before .rows .last .1 .1 .1 .1 .1 .0) (c .before .before .before .before .before .before .before .before .before .before .before .before .before .before .before .before .before .before .before .before .rows .ensures) .1) (c .before .before .before .before .before .before .before .before .before .before .rows2 .kept .1 .1 .1 .1 .1 .0) ∙ c .before .before .before .before .before .before .before .before .before .before .before .before .before .before .before .before .before .before .before .before .rows .kept .1 .1 .1 .1 .1 .0)
     (λ c g. mult-made (g .pat) (g .word) _ (g .own-is) (c .before .before .before .before .before .before .before .before .before .before .before .before .before .before .before .before .before .before .before .before .rows .result .used) (c .before .before .before .before .before .before .before .before .before .before .before .before .before .before .before .before .before .before .before .before .rows .result .read) (c .before .before .before .before .before .before .before .before .before .before .before .before .before .before .before .before .before .before .before .before .rows .last .1 .1 .1 .1 .1 .0) (c .before .before .before .before .before .before .before .before .before .before .before .before .before .before .before .before .before .before .before .before .rows .ensures) _ _ (c .before .before .before .before .before .before .before .before .before .before .rows2 .result .used) (c .before .before .before .before .before .before .before .before .before .before .rows2 .result .read) (c .before .before .before .before .before .before .before .before .before .before .before .before .before .before .before .before .before .before .before .before .rows .kept .1 .1 .1 .1 .1 .0) (c .before .before .before .before .before .before .before .before .before .before .before .before .before .before .before .before .before .before .before .before .rows .kept .1 .1 .1 .1 .1 .1 .0) refl (c .before .before .before .before .before .before .before .before .before .before .rows2 .last .1 .1 .1 .1 .1 .0) (c .before .before .before .before .before .before .before .before .before .before .rows2 .ensures) (c .before .before .before .before .before .before .before .before .before .before .rows2 .kept .1 .1 .1 .1 .1 .0) (c .before .before .before .before .before .before .before .before .before .before .rows2 .last .1 .1 .1 .1 .1 .1 .0) _ (c .before .before .before .times .result) (c .before .before .before .before .before .before .before .before .before .before .rows2 .kept .1 .1 .1 .1 .1 .1 .0 ∙ c .before .before .before .before .before .before .before .before .before .before .before .before .before .before .before .before .before .before .before .before .rows .kept .1 .1 .1 .1 .1 .1 .0) (c .before .before .before .times .ensures)))
     (λ t. rows-lts.spec
-    (classify-reads.Asked, classify-reads.Learnt, own-words-reads.Asked, own-words-reads.Learnt, step-of-reads.Asked, step-of-reads.Learnt, head-rows-below t, head-rows.Post, multiplied-below t, multiplied.Post, added-below t, added.Post, one-reads.Asked, one-reads.Learnt, nothing-reads.Asked, nothing-reads.Learnt, rows-below t, rows.Post)
+    (classify-reads.Asked, classify-reads.Learnt, own-words-reads.Asked, own-words-reads.Learnt, making-of-reads.Asked, making-of-reads.Learnt, head-rows-below t, head-rows.Post, multiplied-below t, multiplied.Post, added-below t, added.Post, one-reads.Asked, one-reads.Learnt, nothing-reads.Asked, nothing-reads.Learnt, rows-below t, rows.Post)
     (rows-at t)
     rows.Post
     (λ c. some-word (c .before .before .before .before .before .pre .1))
@@ -208,35 +208,35 @@ pub +added+args+head-rows+multiplied+rows-spec : {M : Type 1} → statement M
     (λ c κs. tt)
     (λ c κs. variable-small (getD (c .before .before .before .before .before .before .before .args .p .now) 0 0) _ (c .before .classify .ensures))
     (λ c. search needs)
-    (λ c κs. (omega (arith, c .before .before .before .before .before .before .before .before .before .before .before .before .before .pre .0), record { pat = c .before .before .before .before .before .before .before .before .before .before .before .before .before .pre .1; word = stepped (c .before .before .before .before .before .before .before .before .before .before .before .before .before .args .p .now) (c .before .before .before .before .before .before .before .before .before .before .before .before .before .args .plus) (c .before .before .before .before .before .before .before .classify .ensures) (c .before .before .before .before .before .step-of .ensures) (c .before .before .before .s .given .1); own-is = c .before .before .before .before .before .before .own-words .ensures }))
+    (λ c κs. (omega (arith, c .before .before .before .before .before .before .before .before .before .before .before .before .before .pre .0), record { pat = c .before .before .before .before .before .before .before .before .before .before .before .before .before .pre .1; word = stepped (c .before .before .before .before .before .before .before .before .before .before .before .before .before .args .p .now) (c .before .before .before .before .before .before .before .before .before .before .before .before .before .args .plus) (c .before .before .before .before .before .before .before .classify .ensures) (c .before .before .before .before .before .making-of .ensures) (c .before .before .before .s .given .1); own-is = c .before .before .before .before .before .before .own-words .ensures }))
     (λ c. search needs)
-    (λ c κs. (omega (arith, c .before .before .before .before .before .before .before .before .before .before .before .before .pre .0), record { pat = c .before .before .before .before .before .before .before .before .before .before .before .before .pre .1; word = stepped (c .before .before .before .before .before .before .before .before .before .before .before .before .args .p .now) (c .before .before .before .before .before .before .before .before .before .before .before .before .args .plus) (c .before .before .before .before .before .before .classify .ensures) (c .before .before .before .before .step-of .ensures) (c .before .before .enum-told .given .1); own-is = c .before .before .before .before .before .own-words .ensures }))
+    (λ c κs. (omega (arith, c .before .before .before .before .before .before .before .before .before .before .before .before .pre .0), record { pat = c .before .before .before .before .before .before .before .before .before .before .before .before .pre .1; word = stepped (c .before .before .before .before .before .before .before .before .before .before .before .before .args .p .now) (c .before .before .before .before .before .before .before .before .before .before .before .before .args .plus) (c .before .before .before .before .before .before .classify .ensures) (c .before .before .before .before .making-of .ensures) (c .before .before .enum-told .given .1); own-is = c .before .before .before .before .before .own-words .ensures }))
     (λ c. search needs)
-    (λ c κs. (omega (arith, c .before .before .before .before .before .before .before .before .before .before .before .before .pre .0), record { pat = c .before .before .before .before .before .before .before .before .before .before .before .before .pre .1; word = stepped (c .before .before .before .before .before .before .before .before .before .before .before .before .args .p .now) (c .before .before .before .before .before .before .before .before .before .before .before .before .args .plus) (c .before .before .before .before .before .before .classify .ensures) (c .before .before .before .before .step-of .ensures) (c .before .before .enum-told2 .given .1); own-is = c .before .before .before .before .before .own-words .ensures }))
+    (λ c κs. (omega (arith, c .before .before .before .before .before .before .before .before .before .before .before .before .pre .0), record { pat = c .before .before .before .before .before .before .before .before .before .before .before .before .pre .1; word = stepped (c .before .before .before .before .before .before .before .before .before .before .before .before .args .p .now) (c .before .before .before .before .before .before .before .before .before .before .before .before .args .plus) (c .before .before .before .before .before .before .classify .ensures) (c .before .before .before .before .making-of .ensures) (c .before .before .enum-told2 .given .1); own-is = c .before .before .before .before .before .own-words .ensures }))
     (λ c. search needs)
-    (λ c κs. one-given (c .before .before .before .before .before .before .before .before .before .before .before .before .pre .1) _ (stepped (c .before .before .before .before .before .before .before .before .before .before .before .before .args .p .now) (c .before .before .before .before .before .before .before .before .before .before .before .before .args .plus) (c .before .before .before .before .before .before .classify .ensures) (c .before .before .before .before .step-of .ensures) (c .before .before .s2 .given .1)))
+    (λ c κs. one-given (c .before .before .before .before .before .before .before .before .before .before .before .before .pre .1) _ (stepped (c .before .before .before .before .before .before .before .before .before .before .before .before .args .p .now) (c .before .before .before .before .before .before .before .before .before .before .before .before .args .plus) (c .before .before .before .before .before .before .classify .ensures) (c .before .before .before .before .making-of .ensures) (c .before .before .s2 .given .1)))
     (λ c. search needs)
-    (λ c κs. none-given (c .before .before .before .before .before .before .before .before .before .before .before .pre .1) (stepped (c .before .before .before .before .before .before .before .before .before .before .before .args .p .now) (c .before .before .before .before .before .before .before .before .before .before .before .args .plus) (c .before .before .before .before .before .classify .ensures) (c .before .before .before .step-of .ensures) (c .before .enum-told3 .given .1)))
+    (λ c κs. none-given (c .before .before .before .before .before .before .before .before .before .before .before .pre .1) (stepped (c .before .before .before .before .before .before .before .before .before .before .before .args .p .now) (c .before .before .before .before .before .before .before .before .before .before .before .args .plus) (c .before .before .before .before .before .classify .ensures) (c .before .before .before .making-of .ensures) (c .before .enum-told3 .given .1)))
     (λ c. search needs)
     (λ c. omega (arith, c .before .before .before .own-words .ensures, some-word (c .before .before .before .before .before .before .before .before .before .before .pre .1)))
     (λ c. omega (arith, c .before .before .before .own-words .ensures, some-word (c .before .before .before .before .before .before .before .before .before .before .pre .1)))
     (λ c. omega (arith, c .before .before .before .own-words .ensures, some-word (c .before .before .before .before .before .before .before .before .before .before .pre .1)))
     (λ c. omega arith)
-    (λ c κs. (simp (length-take, length-drop) (omega (arith, c .before .before .before .before .before .before .own-words .ensures, c .before .before .before .before .before .before .before .before .before .before .before .before .before .pre .0, some-word (c .before .before .before .before .before .before .before .before .before .before .before .before .before .pre .1))), neg-given (c .before .before .before .before .before .before .before .before .before .before .before .before .before .pre .1) (stepped (c .before .before .before .before .before .before .before .before .before .before .before .before .before .args .p .now) (c .before .before .before .before .before .before .before .before .before .before .before .before .before .args .plus) (c .before .before .before .before .before .before .before .classify .ensures) (c .before .before .before .before .before .step-of .ensures) (c .before .before .before .enum-told4 .given .1)) _ (c .before .before .before .before .before .before .own-words .ensures)))
-    (λ c. omega (arith, neg-made (c .before .before .before .before .before .before .before .before .before .before .before .before .before .before .before .before .before .before .before .pre .1) (stepped (c .before .before .before .before .before .before .before .before .before .before .before .before .before .before .before .before .before .before .before .args .p .now) (c .before .before .before .before .before .before .before .before .before .before .before .before .before .before .before .before .before .before .before .args .plus) (c .before .before .before .before .before .before .before .before .before .before .before .before .before .classify .ensures) (c .before .before .before .before .before .before .before .before .before .before .before .step-of .ensures) (c .before .before .before .before .before .before .before .before .before .enum-told4 .given .1)) _ (c .before .before .before .before .before .before .before .before .before .before .before .before .own-words .ensures) (c .before .before .before .before .before .rows .result .used) (c .before .before .before .before .before .rows .result .read) (c .before .before .before .before .before .rows .last .1 .1 .1 .1 .1 .0) (c .before .before .before .before .before .rows .ensures) .1, c .before .before .before .before .before .before .before .before .before .before .before .before .before .before .before .before .before .before .before .good))
+    (λ c κs. (simp (length-take, length-drop) (omega (arith, c .before .before .before .before .before .before .own-words .ensures, c .before .before .before .before .before .before .before .before .before .before .before .before .before .pre .0, some-word (c .before .before .before .before .before .before .before .before .before .before .before .before .before .pre .1))), neg-given (c .before .before .before .before .before .before .before .before .before .before .before .before .before .pre .1) (stepped (c .before .before .before .before .before .before .before .before .before .before .before .before .before .args .p .now) (c .before .before .before .before .before .before .before .before .before .before .before .before .before .args .plus) (c .before .before .before .before .before .before .before .classify .ensures) (c .before .before .before .before .before .making-of .ensures) (c .before .before .before .enum-told4 .given .1)) _ (c .before .before .before .before .before .before .own-words .ensures)))
+    (λ c. omega (arith, neg-made (c .before .before .before .before .before .before .before .before .before .before .before .before .before .before .before .before .before .before .before .pre .1) (stepped (c .before .before .before .before .before .before .before .before .before .before .before .before .before .before .before .before .before .before .before .args .p .now) (c .before .before .before .before .before .before .before .before .before .before .before .before .before .before .before .before .before .before .before .args .plus) (c .before .before .before .before .before .before .before .before .before .before .before .before .before .classify .ensures) (c .before .before .before .before .before .before .before .before .before .before .before .making-of .ensures) (c .before .before .before .before .before .before .before .before .before .enum-told4 .given .1)) _ (c .before .before .before .before .before .before .before .before .before .before .before .before .own-words .ensures) (c .before .before .before .before .before .rows .result .used) (c .before .before .before .before .before .rows .result .read) (c .before .before .before .before .before .rows .last .1 .1 .1 .1 .1 .0) (c .before .before .before .before .before .rows .ensures) .1, c .before .before .before .before .before .before .before .before .before .before .before .before .before .before .before .before .before .before .before .good))
     (λ c. omega arith)
     (λ c. omega arith)
-    (λ c g. c .before .before .before .before .head-rows .ensures (record { pat = g; word = stepped (c .before .before .before .before .before .before .before .before .before .before .before .before .before .before .before .before .before .before .args .p .now) (c .before .before .before .before .before .before .before .before .before .before .before .before .before .before .before .before .before .before .args .plus) (c .before .before .before .before .before .before .before .before .before .before .before .before .classify .ensures) (c .before .before .before .before .before .before .before .before .before .before .step-of .ensures) (c .before .before .before .before .before .before .before .before .s .given .1); own-is = c .before .before .before .before .before .before .before .before .before .before .before .own-words .ensures }))
+    (λ c g. c .before .before .before .before .head-rows .ensures (record { pat = g; word = stepped (c .before .before .before .before .before .before .before .before .before .before .before .before .before .before .before .before .before .before .args .p .now) (c .before .before .before .before .before .before .before .before .before .before .before .before .before .before .before .before .before .before .args .plus) (c .before .before .before .before .before .before .before .before .before .before .before .before .classify .ensures) (c .before .before .before .before .before .before .before .before .before .before .making-of .ensures) (c .before .before .before .before .before .before .before .before .s .given .1); own-is = c .before .before .before .before .before .before .before .before .before .before .before .own-words .ensures }))
     (λ c. omega arith)
     (λ c. omega arith)
-    (λ c g. c .before .before .before .before .multiplied .ensures (record { pat = g; word = stepped (c .before .before .before .before .before .before .before .before .before .before .before .before .before .before .before .before .before .args .p .now) (c .before .before .before .before .before .before .before .before .before .before .before .before .before .before .before .before .before .args .plus) (c .before .before .before .before .before .before .before .before .before .before .before .classify .ensures) (c .before .before .before .before .before .before .before .before .before .step-of .ensures) (c .before .before .before .before .before .before .before .enum-told .given .1); own-is = c .before .before .before .before .before .before .before .before .before .before .own-words .ensures }))
+    (λ c g. c .before .before .before .before .multiplied .ensures (record { pat = g; word = stepped (c .before .before .before .before .before .before .before .before .before .before .before .before .before .before .before .before .before .args .p .now) (c .before .before .before .before .before .before .before .before .before .before .before .before .before .before .before .before .before .args .plus) (c .before .before .before .before .before .before .before .before .before .before .before .classify .ensures) (c .before .before .before .before .before .before .before .before .before .making-of .ensures) (c .before .before .before .before .before .before .before .enum-told .given .1); own-is = c .before .before .before .before .before .before .before .before .before .before .own-words .ensures }))
     (λ c. omega arith)
     (λ c. omega arith)
-    (λ c g. c .before .before .before .before .added .ensures (record { pat = g; word = stepped (c .before .before .before .before .before .before .before .before .before .before .before .before .before .before .before .before .before .args .p .now) (c .before .before .before .before .before .before .before .before .before .before .before .before .before .before .before .before .before .args .plus) (c .before .before .before .before .before .before .before .before .before .before .before .classify .ensures) (c .before .before .before .before .before .before .before .before .before .step-of .ensures) (c .before .before .before .before .before .before .before .enum-told2 .given .1); own-is = c .before .before .before .before .before .before .before .before .before .before .own-words .ensures }))
+    (λ c g. c .before .before .before .before .added .ensures (record { pat = g; word = stepped (c .before .before .before .before .before .before .before .before .before .before .before .before .before .before .before .before .before .args .p .now) (c .before .before .before .before .before .before .before .before .before .before .before .before .before .before .before .before .before .args .plus) (c .before .before .before .before .before .before .before .before .before .before .before .classify .ensures) (c .before .before .before .before .before .before .before .before .before .making-of .ensures) (c .before .before .before .before .before .before .before .enum-told2 .given .1); own-is = c .before .before .before .before .before .before .before .before .before .before .own-words .ensures }))
     (λ c. c .before .before .one .kept .1 .1 .1 .0)
-    (λ c g. one-made g _ (stepped (c .before .before .before .before .before .before .before .before .before .before .before .before .before .before .before .args .p .now) (c .before .before .before .before .before .before .before .before .before .before .before .before .before .before .before .args .plus) (c .before .before .before .before .before .before .before .before .before .classify .ensures) (c .before .before .before .before .before .before .before .step-of .ensures) (c .before .before .before .before .before .s2 .given .1)) (c .before .before .one .result) _ (c .before .before .one .last .1 .1 .1 .0) (c .before .before .before .before .before .before .before .before .own-words .ensures) (c .before .before .one .ensures))
+    (λ c g. one-made g _ (stepped (c .before .before .before .before .before .before .before .before .before .before .before .before .before .before .before .args .p .now) (c .before .before .before .before .before .before .before .before .before .before .before .before .before .before .before .args .plus) (c .before .before .before .before .before .before .before .before .before .classify .ensures) (c .before .before .before .before .before .before .before .making-of .ensures) (c .before .before .before .before .before .s2 .given .1)) (c .before .before .one .result) _ (c .before .before .one .last .1 .1 .1 .0) (c .before .before .before .before .before .before .before .before .own-words .ensures) (c .before .before .one .ensures))
     (λ c. c .before .before .nothing .kept .0)
-    (λ c g. none-made g (stepped (c .before .before .before .before .before .before .before .before .before .before .before .before .before .before .args .p .now) (c .before .before .before .before .before .before .before .before .before .before .before .before .before .before .args .plus) (c .before .before .before .before .before .before .before .before .classify .ensures) (c .before .before .before .before .before .before .step-of .ensures) (c .before .before .before .before .enum-told3 .given .1)) (c .before .before .nothing .result) _ (c .before .before .nothing .last .0) (c .before .before .before .before .before .before .before .own-words .ensures) (c .before .before .nothing .ensures))
+    (λ c g. none-made g (stepped (c .before .before .before .before .before .before .before .before .before .before .before .before .before .before .args .p .now) (c .before .before .before .before .before .before .before .before .before .before .before .before .before .before .args .plus) (c .before .before .before .before .before .before .before .before .classify .ensures) (c .before .before .before .before .before .before .making-of .ensures) (c .before .before .before .before .enum-told3 .given .1)) (c .before .before .nothing .result) _ (c .before .before .nothing .last .0) (c .before .before .before .before .before .before .before .own-words .ensures) (c .before .before .nothing .ensures))
     (λ c. c .before .before .before .before .before .rows .kept .1 .1 .1 .1 .1 .0)
     (λ c. c .before .before .before .before .before .rows .kept .1 .1 .1 .1 .1 .1 .0)
-    (λ c g. neg-made g (stepped (c .before .before .before .before .before .before .before .before .before .before .before .before .before .before .before .before .before .before .before .args .p .now) (c .before .before .before .before .before .before .before .before .before .before .before .before .before .before .before .before .before .before .before .args .plus) (c .before .before .before .before .before .before .before .before .before .before .before .before .before .classify .ensures) (c .before .before .before .before .before .before .before .before .before .before .before .step-of .ensures) (c .before .before .before .before .before .before .before .before .before .enum-told4 .given .1)) _ (c .before .before .before .before .before .before .before .before .before .before .before .before .own-words .ensures) (c .before .before .before .before .before .rows .result .used) (c .before .before .before .before .before .rows .result .read) (c .before .before .before .before .before .rows .last .1 .1 .1 .1 .1 .0) (c .before .before .before .before .before .rows .ensures) .0))
+    (λ c g. neg-made g (stepped (c .before .before .before .before .before .before .before .before .before .before .before .before .before .before .before .before .before .before .before .args .p .now) (c .before .before .before .before .before .before .before .before .before .before .before .before .before .before .before .before .before .before .before .args .plus) (c .before .before .before .before .before .before .before .before .before .before .before .before .before .classify .ensures) (c .before .before .before .before .before .before .before .before .before .before .before .making-of .ensures) (c .before .before .before .before .before .before .before .before .before .enum-told4 .given .1)) _ (c .before .before .before .before .before .before .before .before .before .before .before .before .own-words .ensures) (c .before .before .before .before .before .rows .result .used) (c .before .before .before .before .before .rows .result .read) (c .before .before .before .before .before .rows .last .1 .1 .1 .1 .1 .0) (c .before .before .before .before .before .rows .ensures) .0))

@@ -1,10 +1,10 @@
--- `builder::build::minus_step` meets its contract. Assumes nothing.
+-- `builder::build::minus_making` meets its contract. Assumes nothing.
 use borrow.Author.Needs.{needs}
-use Rattle.builder.proofs.build.minus_step.Statement.{statement}
-use Rattle.builder.proofs.build.minus_step.Tie as tie
+use Rattle.builder.proofs.build.minus_making.Statement.{statement}
+use Rattle.builder.proofs.build.minus_making.Tie as tie
 
-pub minus-step-spec : {M : Type 1} → statement M
-minus-step-spec =
+pub minus-making-spec : {M : Type 1} → statement M
+minus-making-spec =
     tie.close
     (tie.spec
     (λ c. search needs)

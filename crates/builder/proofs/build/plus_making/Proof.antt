@@ -1,14 +1,14 @@
--- `builder::build::plus_step` meets its contract. Assumes nothing.
+-- `builder::build::plus_making` meets its contract. Assumes nothing.
 use mathlib.Core.Path.{ap}
 use native.Mathlib.Omega.{arith}
 use borrow.Author.Needs.{needs}
 use Rattle.sets.proofs.ListSets.{only-one}
-use Rattle.builder.specs.declared.build.Step.the-variants.{One}
-use Rattle.builder.proofs.build.plus_step.Statement.{statement}
-use Rattle.builder.proofs.build.plus_step.Tie as tie
+use Rattle.builder.specs.declared.build.Making.the-variants.{One}
+use Rattle.builder.proofs.build.plus_making.Statement.{statement}
+use Rattle.builder.proofs.build.plus_making.Tie as tie
 
-pub plus-step-spec : {M : Type 1} → statement M
-plus-step-spec =
+pub plus-making-spec : {M : Type 1} → statement M
+plus-making-spec =
     tie.close
     (tie.spec
     (λ c. search needs)
