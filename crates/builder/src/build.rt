@@ -33,7 +33,7 @@ ghost use Rattle.rowlist.specs.Product.{GivenProduct, Product, products};
 ghost use Rattle.builder.specs.Arguments.{GivenArgs, MadeArgs};
 ghost use Rattle.builder.specs.Build.{making-of, GivenPat, GivenHead, GivenMultiplied, GivenAdded, Made, GivenPart, GivenWhole, RowsFirst};
 
-// How the rows of a pattern are made: a constructor's; the products, or both, of its two parts' rows; one row of one cell with these variables; none; its part's on the other side.
+// How the rows of a pattern are made on one side: a constructor's; the products of its two parts' rows; both parts' rows; one row of one cell, with these variables; none; its part's on the other side.
 pub enum Making {
     Head(u16),
     Multiply,

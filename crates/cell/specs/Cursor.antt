@@ -20,18 +20,23 @@ cell-at row at = record { tag = getD row at 0; vars = getD row (at + 1) 0; allow
 abbrev pub Room : List ℕ → Cursor → Type 0
 Room row c = c .at + cell-width ≤ length row + cell-width * c .wildcards
 
+-- the first column's cell
 abbrev pub look-at : List ℕ → Cursor → Cell
 look-at row c = cond (ltb 0 (c .wildcards)) wild-cell (cell-at row (c .at))
 
+-- past the first column, with so many wildcards in its place
 abbrev pub past-column : Cursor → ℕ → Cursor
 past-column c more = cond (ltb 0 (c .wildcards)) (record { at = c .at; wildcards = c .wildcards - 1 + more }) (record { at = c .at + cell-width; wildcards = more })
 
+-- a constructor with n arguments is taken in the first column, whose tag is given
 abbrev pub next-of : Cursor → ℕ → ℕ → Cursor
 next-of c tag n = past-column c (cond (ltb tag kind-tag) 0 n)
 
+-- two cells of one column as one
 abbrev pub join-of : Cell → Cell → Cell
 join-of a b = record { tag = min (a .tag) (b .tag); vars = union (a .vars) (b .vars); allowed = intersection (a .allowed) (b .allowed) }
 
+-- how many columns a cell opens, by the table of a signature
 abbrev pub opens-of : List ℕ → ℕ → ℕ
 opens-of t tag = cond (ltb tag kind-tag) (arity-of t tag) 0
 
