@@ -116,7 +116,7 @@ module _ {t : List ℕ} (g : Known t) where
   room-kept [] w ys r e = none≢some (sym e)
   room-kept (x ∷ xs) w ys r e = room-at (kind-due x) (deep-due x) w xs ys (omega arith) (r .0) (r .1) (sym e)
 
--- ---- the loop over the booking's words
+-- the loop over the booking's words
 
 pub started : (ys : List ℕ) → length ys ≡ due-limit → drop (due-limit - 1) (set ys (due-limit - 1) (due-of depth-limit 0)) ≡ due-of depth-limit 0 ∷ []
 started ys l = drop-set-here ys (due-limit - 1) (due-of depth-limit 0) (omega arith) ∙ ap (λ z. due-of depth-limit 0 ∷ z) (drop-of-length-le ys {i = due-limit} (omega arith))

@@ -34,7 +34,8 @@ use Rattle.path.specs.Standing.{RowStands}
 use Rattle.path.specs.Rows.{RuleRow, line-of, Fit}
 use Rattle.writer.proofs.RowsFit.{rows-fit}
 use Rattle.loading.specs.Lists.{rows-by, rows-for, lists-for, list-for}
-use Rattle.loading.specs.Load.{patterns, tests}
+use Rattle.loading.specs.Load.{patterns}
+use Rattle.loading.proofs.Tested.{tests}
 use Rattle.indexing.specs.Indexing.{row-of, rule-rows, rows-all}
 
 module _ (sig : Signature) where

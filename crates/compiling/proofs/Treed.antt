@@ -21,14 +21,14 @@ use Rattle.writer.specs.Write.{GivenRows, fits, answer, space-after, tree-of-ro
 use Rattle.path.specs.Rows.{line-of}
 use Rattle.writer.specs.declared.write.Written.{Written}
 use Rattle.writer.specs.declared.write.Written.the-variants.{Done, TooLarge}
-use Rattle.loading.specs.Load.{tests}
+use Rattle.loading.proofs.Tested.{tests}
 use Rattle.loading.proofs.Loads.{sound-holds}
 use Rattle.loading.proofs.Tested.{tests-light}
 use Rattle.indexing.specs.Indexing.{rows-all, GivenRules, RulesIndexed}
 use Rattle.compiling.specs.Compile.{InTable}
 use Rattle.compiling.proofs.RowsOf.{lines-are, few-rows, rows-are-fit}
 
--- ---- the answer of the writer as the call's
+-- the answer of the writer as the call's
 
 abbrev pub number-by : Written → ℕ
 number-by (Done n) = 0
@@ -77,7 +77,7 @@ told T space = record {
 treed : (T : Tree) (ts space : List ℕ) (w : Written) (space′ : List ℕ) → layout T 0 ≡ ts → w ≡ answer T space → space′ ≡ space-after T space → TreeIn ts space (number-by w) (length-by w) space′
 treed T ts space w space′ e f h = rw (f, h, ← e) (told T space)
 
--- ---- the rows of the rules
+-- the rows of the rules
 
 module _ {t table lists : List ℕ} (g : InTable t table lists) where
   holds : Holds limits table (g .force .rs)

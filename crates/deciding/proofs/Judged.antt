@@ -29,7 +29,7 @@ use Rattle.store.proofs.LaidFacts.{is-stored}
 use Rattle.store.proofs.Walk.{walk-start, walk-step, walk-end}
 use Rattle.loading.proofs.Loads.{sound-holds}
 use Rattle.loading.proofs.Tested.{passed-at}
-use Rattle.loading.specs.Load.{tests}
+use Rattle.loading.proofs.Tested.{tests}
 use Rattle.deciding.specs.Decide.{Judging, ByRule, answered-by, places-by}
 
 -- the answer by a rule, where its pattern is read

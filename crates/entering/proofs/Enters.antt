@@ -26,7 +26,7 @@ use Rattle.entry.specs.Entry.{entry-answer, Numbered}
 use Rattle.entry.specs.Settle.{EntryOf}
 use Rattle.entry.specs.declared.sound.Entry.the-variants.{Refused}
 
--- ---- 2
+-- 2
 pub long-is : (table witness : List ℕ) → table-length limits ≤ length table → (b : Bool) → b ≡ long-witness witness → b ≡ (long-table limits table && long-witness witness)
 long-is table witness h b e = e ∙ sym (ap (λ z. z && long-witness witness) (leb-yes (table-length limits) (length table) h))
 

@@ -44,7 +44,7 @@ use Rattle.entry.specs.Check.{number-refusal, FreeFor, GivenCheck, Check
 use Rattle.entry.specs.declared.check.Checked.{Checked}
 use Rattle.entry.specs.declared.check.Checked.the-variants.{Free, Refused}
 
--- ---- 4 and 5
+-- 4 and 5
 module _ (n : ℕ) (rs : List Rule) where
   pub too-low : n < 1 → FreeFor n rs (Refused 4)
   too-low h = (omega arith, omega arith, λ later. ap (λ b. cond (not (b && leb n last-number)) 4 (cond (held n rs) 5 later)) (leb-no 1 n h))
@@ -65,7 +65,7 @@ module _ (n : ℕ) (rs : List Rule) where
     not-held : (at : ℕ) → FreeAt n rs at → (later : ℕ) → number-refusal n rs later ≡ later
     not-held at h later = numbered later ∙ ap (λ b. cond b 5 later) (h .not-held)
 
--- ---- 7 to 10
+-- 7 to 10
 refusal-small : (sig : Signature) (o : Option Pattern) → refusal-by sig o ≤ 10
 refusal-small sig none = omega arith
 refusal-small sig (some p) = go (linear-plus p) (light-plus p) (ambiguous-plus sig 0 p)

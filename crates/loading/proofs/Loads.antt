@@ -18,7 +18,8 @@ use Rattle.store.proofs.LaidFacts.{laid-holds, holds-laid, sound-laid, is-store
 use Rattle.store.proofs.Walk.{walk-start, walk-step, walk-end}
 use Rattle.loading.specs.Add.{GivenAdd, goes-with, weights, Stepped, lists-room}
 use Rattle.loading.specs.Lists.{lists-for}
-use Rattle.loading.specs.Load.{GivenLoad, Ready, LoadedAs, patterns, tests}
+use Rattle.loading.specs.Load.{GivenLoad, Ready, LoadedAs, patterns}
+use Rattle.loading.proofs.Tested.{tests}
 use Rattle.loading.specs.declared.add.Addition.{Addition}
 use Rattle.loading.specs.declared.add.Addition.the-variants.{Added, Unsound}
 use Rattle.loading.specs.declared.load.Loaded.the-variants.{Sound}

@@ -16,7 +16,11 @@ use Rattle.table.specs.Limits.{limits}
 use Rattle.table.specs.Rule.{Rule, total-weight}
 use Rattle.table.specs.Sound.{no-shared}
 use Rattle.loading.specs.Add.{weights, goes-with}
-use Rattle.loading.specs.Load.{patterns, tests}
+use Rattle.loading.specs.Load.{patterns}
+
+-- what a sound table's rules are besides the layout
+abbrev pub tests : Signature → List Rule → Bool
+tests sig rs = all (λ r. eqb (refusal-of-pattern sig (r .pattern)) 0) rs && leb (total-weight sig rs) (limits .weight) && no-shared sig rs
 
 module _ (sig : Signature) where
   pub same-weight : (rs : List Rule) → weights sig (patterns rs) ≡ total-weight sig rs

@@ -15,6 +15,7 @@ use Rattle.pattern.specs.WellFormed.{PatternWords}
 use Rattle.row.specs.Admitted.{refusal-of-pattern}
 use Rattle.row.specs.Overlap.{shares}
 use Rattle.row.specs.Row.{rows-plus}
+use Rattle.cell.specs.Cell.{cell-width}
 use Rattle.cell.specs.Coded.{kinds-of}
 use Rattle.cell.specs.RowList.{list-code}
 use Rattle.table.specs.Limits.{limits}
@@ -28,9 +29,9 @@ abbrev pub weights : Signature → List (List ℕ) → ℕ
 weights sig [] = 0
 weights sig (ws ∷ wss) = weight sig ws + weights sig wss
 
--- a row has at most 64 cells of three words, and its number of words
+-- a row has at most 64 cells, and its number of words
 abbrev pub row-words : ℕ
-row-words = 1 + 3 * pattern-limit
+row-words = 1 + cell-width * pattern-limit
 
 -- words of the lists of patterns of this weight: besides their rows, each has its number of words and its end
 abbrev pub lists-room : ℕ → ℕ → ℕ

@@ -47,7 +47,3 @@ pub record InForce (t table : List ℕ) (used total : ℕ) (rows : List ℕ) : T
 abbrev pub LoadedAs : Signature → List ℕ → Loaded → List ℕ → Type 0
 LoadedAs sig table Unsound rows = sound limits sig table ≡ none
 LoadedAs sig table (Sound used total) rows = (rs : List Rule) × (sound limits sig table ≡ some rs) × Ready sig rs used total rows
-
--- what a sound table's rules are besides the layout
-abbrev pub tests : Signature → List Rule → Bool
-tests sig rs = all (λ r. eqb (refusal-of-pattern sig (r .pattern)) 0) rs && leb (total-weight sig rs) (limits .weight) && no-shared sig rs

@@ -4,6 +4,7 @@ use admission::admit::Admission;
 use admission::admit::admit;
 use builder::build::ROW_ROOM;
 use builder::build::build;
+use cell::cell::CELL;
 use pattern::limits::PATTERN_WORDS;
 use store::layout::RULES;
 ghost use lib.ListN.{length};
@@ -13,7 +14,7 @@ ghost use Rattle.loading.specs.Add.{GivenPlace, ListPlaced, GivenAdd, St
 pub const WEIGHT: u16 = 256;
 
 // Room for the rows of all rules of a table, and of one pattern more: the words of a row for each of the weight, two for each rule, and what `build` asks.
-pub const ROWS_ROOM: usize = WEIGHT as usize * (1 + 3 * PATTERN_WORDS)
+pub const ROWS_ROOM: usize = WEIGHT as usize * (1 + CELL * PATTERN_WORDS)
     + 2 * RULES as usize
     + 1
     + ROW_ROOM;

@@ -18,10 +18,14 @@ use Rattle.row.specs.Row.{Rows}
 use Rattle.cell.specs.Cursor.{opens-of}
 use Rattle.tree.specs.Tree.{Line, inserts, after, taken, passed, refined}
 use Rattle.path.specs.Standing.{At, refined-cell}
-use Rattle.path.specs.State.{Indexed, LineAt, RowIs, State, Raised, real-of, keep-of, cell-of, own-of, stop-of, visit-of, bound, one-if}
+use Rattle.path.specs.State.{Indexed, LineAt, RowIs, State, Raised, real-of, kept-by, cell-of, own-of, stop-of, visit-of, bound, one-if}
 use Rattle.path.specs.Variables.{variables}
 use Rattle.path.proofs.StepLaws.{Next, virt-taken, virt-passed, virt-refined, real-taken, real-not, real-passed, real-refined, real-room}
 use Rattle.path.proofs.VariableLaws.{once-rising, no-variables}
+
+-- the rows that are kept, by the cursors before they are raised
+abbrev pub keep-of : List ℕ → List ℕ → (ℕ → Bool) → (ℕ → Bool) → List ℕ → ℕ → ℕ → Bool
+keep-of a rows alive real cur j r = kept-by a rows alive real (getD cur r 0) j r
 
 module _ (sig : Signature) (t a rows : List ℕ) (n : ℕ) where
   -- visits before the cursor are all that counts

@@ -51,7 +51,7 @@ module _ (sig : Signature) (t : List ℕ) where
     pub here : At sig t a stop at own ks rs
 
   module _ (a : List ℕ) (stop at own k : ℕ) (ks : List ℕ) (rs : Rows) (h : At sig t a stop at own (k ∷ ks) rs) where
-    -- ---- a wildcard
+    -- a wildcard
 
     pub virt-taken : (c : ℕ) → memb c (heads sig k) ≡ true → own < suc (length ks) → Next a stop at own (arguments sig c ++ ks) 0 (taken sig (arguments sig c) c rs)
     virt-taken c m l =
@@ -64,7 +64,7 @@ module _ (sig : Signature) (t : List ℕ) where
     pub virt-refined : own < suc (length ks) → refined sig k rs ≡ false
     virt-refined l = let w = is-virt sig t a stop at own k ks rs h l in rw (w .is, open-refs sig k)
 
-  -- ---- a cell
+  -- a cell
 
   pub record CellAt (a : List ℕ) (stop at k : ℕ) (r : Row) (rest : List ℕ) : Type 0 where
     pub tag : getD a at 0 ≡ row-tag r k

@@ -78,10 +78,7 @@ real-of rows alive cur m r = alive r && eqb (own-of rows r (getD cur r 0)) m
 abbrev pub kept-by : List ℕ → List ℕ → (ℕ → Bool) → (ℕ → Bool) → ℕ → ℕ → ℕ → Bool
 kept-by a rows alive real q j r = alive r && not (real r && eqb (bit (getD a (cell-of rows r q + 2) 0) j) 0)
 
--- before the cursors are raised, and after
-abbrev pub keep-of : List ℕ → List ℕ → (ℕ → Bool) → (ℕ → Bool) → List ℕ → ℕ → ℕ → Bool
-keep-of a rows alive real cur j r = kept-by a rows alive real (getD cur r 0) j r
-
+-- by the cursors, which are raised by then
 abbrev pub kept-of : List ℕ → List ℕ → (ℕ → Bool) → (ℕ → Bool) → List ℕ → ℕ → ℕ → Bool
 kept-of a rows alive real cur j r = kept-by a rows alive real (getD cur r 0 - 1) j r
 

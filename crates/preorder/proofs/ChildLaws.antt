@@ -16,14 +16,14 @@ use Rattle.signature.proofs.ListFacts.{all-append, all-first}
 use Rattle.pattern.specs.Limits.{pattern-limit}
 use Rattle.tree.specs.Tree.{Line, taken, after, compile}
 use Rattle.path.specs.Alive.{member}
-use Rattle.path.specs.State.{State, real-of, keep-of, kept-of, cell-of, one-if, Kept}
+use Rattle.path.specs.State.{State, real-of, kept-of, cell-of, one-if, Kept}
 use Rattle.column.specs.Column.{Keeping}
 use Rattle.path.specs.Wrote.{word-limit}
 use Rattle.preorder.specs.Node.{Given, Branching, tree-of, child-of}
 use Rattle.preorder.proofs.KindLaws.{kind-below, heads-few, head-there, head-low, head-number, head-below, head-arity, head-arguments, head-kinds}
 use Rattle.preorder.proofs.NodeLaws.{state-same, real-same, raised-same, raised-low, real-cell}
 use Rattle.preorder.proofs.Options.{somes-step}
-use Rattle.path.proofs.StateLaws.{state-take, state-frame}
+use Rattle.path.proofs.StateLaws.{keep-of, state-take, state-frame}
 
 module _ {t a rows : List ℕ} {n : ℕ} {s re cur vis : List ℕ} {ncols vn base len k : ℕ} (b : Branching t a rows n s re cur vis ncols vn base len k) where
   kinds : (k < b .given .known .decoded .n) × All (λ i. i < b .given .known .decoded .n) (b .ks)
@@ -91,7 +91,7 @@ module _ {t a rows : List ℕ} {n : ℕ} {s re cur vis : List ℕ} {ncols vn bas
         ap₂ (λ ls z. compile dft fuel sig (arguments sig head ++ b .ks) ls z)
         (sym (somes-step (b .given .f) (after vn (taken sig (arguments sig head) head)) 0 n)) (let q : vn + 1 ≡ suc vn = omega arith in q)
 
-  -- ---- what the calls in the loop ask
+  -- what the calls in the loop ask
 
   pub head-bounds : (count-of t k ≤ heads-limit) × (k < kind-limit)
   head-bounds = (heads-few (b .given .known) k kind-there, kind-below (b .given .known) k kind-there)

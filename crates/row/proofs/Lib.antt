@@ -1,3 +1,4 @@
+pub mod Kept
 pub mod PassedFacts
 pub mod Exists
 pub mod OverlapFacts

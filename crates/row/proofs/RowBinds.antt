@@ -17,7 +17,8 @@ use Rattle.pattern.specs.Pattern.{Patterns, head, Pattern, pcons, pnil, var, wi
 use Rattle.pattern.specs.Places.{binds}
 use Rattle.pattern.proofs.Unique.{binds-append}
 use Rattle.row.specs.Row.{Row, Rows, named, free, rcons, combine, combines, rnil, open-rows, open-row, other-than, rows-plus, rows-minus, args-plus, args-minus}
-use Rattle.row.specs.RowFits.{row-binds, rows-bind, row-fits, rows-fit, kept-fits}
+use Rattle.row.specs.RowFits.{row-binds, rows-bind, row-fits, rows-fit}
+use Rattle.row.proofs.Kept.{kept-fits}
 use Rattle.row.proofs.Places.{all-each}
 use Rattle.row.proofs.RowMeet.{combine-fits}
 

@@ -11,7 +11,8 @@ use Rattle.signature.proofs.Booleans.{and-false, and-true, and-both, apart, and
 use Rattle.signature.proofs.Members.{memb-empty, memb-keep}
 use Rattle.signature.proofs.Tests.{eqb-eq}
 use Rattle.row.specs.Row.{Rows, named, Row, rcons, combine, free, combines, rnil}
-use Rattle.row.specs.RowFits.{kept-fits, kept-fit, row-fits, rows-fit}
+use Rattle.row.specs.RowFits.{row-fits, rows-fit}
+use Rattle.row.proofs.Kept.{kept-fits, kept-fit}
 
 -- whether two rows as one fit
 kept-named : (xs : List ℕ) (c d : ℕ) (vs : Values) (m : Option Rows) → kept-fits (m >>= λ ts. some (named xs c ts)) (con d vs) ≡ (eqb c d && kept-fit m vs)

@@ -19,7 +19,8 @@ use Rattle.pattern.specs.Pattern.{Patterns, head, Pattern, var, wild, absurd-pa
 use Rattle.pattern.specs.WellFormed.{WellFormed, well-not, well-and, well-or, well-head, AllWellFormed, well-nil, well-cons}
 use Rattle.pattern.proofs.Decided.{fit-swap, fit-both, fit-or, fit-back, not-both, not-either}
 use Rattle.row.specs.Row.{Row, combine, each, Rows, named, rcons, free, open-rows, other-than, args-plus, rows-plus, args-minus, rows-minus, open-row}
-use Rattle.row.specs.RowFits.{fits-some, kept-fits, row-fits, fits-somes, rows-fit}
+use Rattle.row.specs.RowFits.{fits-some, row-fits, rows-fit}
+use Rattle.row.proofs.Kept.{kept-fits, fits-somes}
 use Rattle.row.proofs.RowMeet.{combine-fits}
 
 -- products of two lists of rows

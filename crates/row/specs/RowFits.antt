@@ -32,23 +32,9 @@ abbrev mutual
   rows-fit (rcons r rs) vnil = false
   rows-fit (rcons r rs) (vcons v vs) = row-fits r v && rows-fit rs vs
 
--- a row that is not dropped fits a value
-abbrev pub kept-fits : Option Row → Value → Bool
-kept-fits none v = false
-kept-fits (some r) v = row-fits r v
-
--- the same of the arguments' rows
-abbrev pub kept-fit : Option Rows → Values → Bool
-kept-fit none vs = false
-kept-fit (some rs) vs = rows-fit rs vs
-
 -- some row of a list fits
 abbrev pub fits-some : List Row → Value → Bool
 fits-some rs v = any (λ r. row-fits r v) rs
-
--- the same of lists of the arguments' rows
-abbrev pub fits-somes : List Rows → Values → Bool
-fits-somes rss vs = any (λ rs. rows-fit rs vs) rss
 
 -- a row binds x at place j, on a value at place i
 abbrev mutual

@@ -9,7 +9,7 @@ use lib.ListN.{length, getD, drop, take, set, replicate, length-append, take-app
 use borrow.Author.Fill.{fill-more}
 use lib.Seq.{take-all, take-at, drop-at, set-at, getD-at, drop-drop, take-suc, drop-cons, length-take-le, getD-take, getD-drop, getD-append-add, take-take, take-append-le, drop-append-le, drop-length}
 
--- ---- to the right
+-- to the right
 
 abbrev pub Right : List ℕ → ℕ → ℕ → ℕ → List ℕ
 Right l j end d = take (j + d) l ++ (take (end - j) (drop j l) ++ drop (end + d) l)
@@ -44,7 +44,7 @@ right-more l s j end d p h g e =
     let f : s ≡ Right l (suc (j - 1)) end d = e ∙ ap (λ (n : ℕ). Right l n end d) back in
     rw f (right-step l (j - 1) end d (omega arith) g)
 
--- ---- to the left
+-- to the left
 
 abbrev pub Left : List ℕ → ℕ → ℕ → ℕ → List ℕ
 Left l at j d = take (at - d) l ++ (take (j - at) (drop at l) ++ drop (j - d) l)
@@ -81,7 +81,7 @@ left-more l s at j d p h g e =
     ∙ set-at (A ++ B) x X v (j - d) len
     ∙ sym (ap₂ (λ (m q : List ℕ). A ++ (m ++ q)) next (ap (λ (n : ℕ). drop n l) past) ∙ (simp append-assoc))
 
--- ---- the parts that are lent
+-- the parts that are lent
 
 pub zeros-more : (t t₀ : List ℕ) (i : ℕ) → i < length t₀ → t ≡ replicate i 0 ++ drop i t₀ → set t i 0 ≡ replicate (i + 1) 0 ++ drop (i + 1) t₀
 zeros-more t t₀ i h e = rw e (fill-more i 0 t₀ h)

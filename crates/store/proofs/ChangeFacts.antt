@@ -20,7 +20,7 @@ use Rattle.store.specs.Change.{GivenPut, GivenTake}
 use Rattle.store.proofs.LaidFacts.{zeros-left, behind, room, is-stored}
 use Rattle.store.proofs.Walk.{words-append, words-length, parted, rule-at}
 
--- ---- rules
+-- rules
 
 add-there : (r : Rule) {before after : List Rule} → All (λ s. s .number < r .number) before → All (λ s. r .number < s .number) after → add-rule r (before ++ after) ≡ before ++ (r ∷ after)
 add-there r none-left none-left = refl
@@ -38,7 +38,7 @@ take-there n r e (also s l h) a = rw (eqb-no n (s .number) (λ q. omega arith), 
 stored-is : (rs : List Rule) (lent : List ℕ) → stored limits rs lent ≡ length rs ∷ (rules-words rs ++ behind lent rs)
 stored-is rs lent = ap (λ (x : List ℕ). length rs ∷ x) (append-assoc (rules-words rs) (replicate (zeros-left rs) 0) (drop (table-length limits) lent))
 
--- ---- words
+-- words
 
 drop-zeros : (d z : ℕ) (R : List ℕ) → d ≤ z → drop d (replicate z 0 ++ R) ≡ replicate (z - d) 0 ++ R
 drop-zeros d z R l =
@@ -82,12 +82,12 @@ first-word S n Y e = ap (λ (x : List ℕ). getD x 0 0) e
 counted : (S Y : List ℕ) (n m : ℕ) → S ≡ n ∷ Y → set S 0 m ≡ m ∷ Y
 counted S Y n m e = ap (λ (x : List ℕ). set x 0 m) e
 
--- ---- the empty table
+-- the empty table
 
 pub emptied : (t ys : List ℕ) → table-length limits ≤ length t → ys ≡ replicate (length (take (table-length limits) t)) 0 → ys ++ drop (table-length limits) t ≡ stored limits [] t
 emptied t ys l e = ap (λ (x : List ℕ). x ++ drop (table-length limits) t) (e ∙ ap (λ (n : ℕ). replicate n 0) (length-take-le (table-length limits) t l))
 
--- ---- a rule's words
+-- a rule's words
 
 pub written : (w p ys : List ℕ) (n pl l : ℕ) → length w ≡ 3 + length p → l ≡ length p → ys ≡ p → let W = set (set (set w 0 n) 1 pl) 2 l in take 3 W ++ (ys ++ drop (length W - 3) (drop 3 W)) ≡ n ∷ (pl ∷ (length p ∷ p))
 written [] p ys n pl l h k e = absurd (omega arith)
@@ -98,7 +98,7 @@ written (a ∷ (b ∷ (c ∷ w))) p ys n pl l h k e =
     let none-behind : drop (suc (suc (suc (length w))) - 3) w ≡ [] = ap (λ (q : ℕ). drop q w) m ∙ drop-length w in
     ap₂ (λ (x : ℕ) (u : List ℕ). n ∷ (pl ∷ (x ∷ u))) k (ap₂ (λ (u v : List ℕ). u ++ v) e none-behind ∙ append-nil p)
 
--- ---- a rule put in
+-- a rule put in
 
 module _ {table : List ℕ} {at number : ℕ} {pattern : List ℕ} (g : GivenPut table at number pattern) (plan : ℕ) where
   abbrev rule : Rule
@@ -152,7 +152,7 @@ module _ {table : List ℕ} {at number : ℕ} {pattern : List ℕ} (g : GivenPut
         ∙ sym (stored-is (B ++ (rule ∷ A)) table)
         ∙ ap (λ (x : List Rule). stored limits x table) (sym (ap (add-rule rule) (f .are) ∙ add-there rule (f .below) (f .above)))
 
--- ---- a rule taken out
+-- a rule taken out
 
 module _ {table : List ℕ} {at : ℕ} (g : GivenTake table at) where
   abbrev h : HeldAt (g .number) (g .rs) at

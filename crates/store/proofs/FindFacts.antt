@@ -19,7 +19,7 @@ use Rattle.store.proofs.Walk.{walk-start, walk-step, walk-end}
 pub count-is : {table : List ℕ} {rs : List Rule} → Holds limits table rs → getD table 0 0 ≡ length rs
 count-is h = ap (λ (x : List ℕ). getD x 0 0) (is-stored h)
 
--- ---- the numbers before and behind a rule
+-- the numbers before and behind a rule
 
 rises-above : {m : ℕ} {rs : List Rule} → Rises m rs → All (λ r. m < r .number) rs
 rises-above rises-nil = none-left
@@ -43,7 +43,7 @@ none-held n (also r p ps) = rw (eqb-no n (r .number) p) (none-held n ps)
 held-nowhere : (n : ℕ) {before after : List Rule} → All (λ r. r .number < n) before → All (λ r. n < r .number) after → held n (before ++ after) ≡ false
 held-nowhere n b a = none-held n (all-append (all-imp (λ r (l : r .number < n) e. omega arith) b) (all-imp (λ r (l : n < r .number) e. omega arith) a))
 
--- ---- the walk
+-- the walk
 
 abbrev pub Now : List Rule → ℕ → ℕ → Type 0
 Now rs i at = (before : List Rule) × (after : List Rule) × Walked rs before after i at
@@ -62,7 +62,7 @@ module _ {table : List ℕ} {rs : List Rule} (h : Holds limits table rs) (i at :
       let (e, q) = walk-end w (omega (arith, count-is h)) in
       w .at-is ∙ ap (λ (x : List Rule). suc (length (rules-words x))) (sym q)
 
--- ---- the walk past the rules below n
+-- the walk past the rules below n
 
 abbrev pub Seek : ℕ → List Rule → ℕ → ℕ → Type 0
 Seek n rs i at = (before : List Rule) × (after : List Rule) × Walked rs before after i at × All (λ r. r .number < n) before

@@ -29,7 +29,7 @@ zeros-left rs = table-length limits - suc (length (rules-words rs))
 abbrev pub behind : List ℕ → List Rule → List ℕ
 behind table rs = replicate (zeros-left rs) 0 ++ drop (table-length limits) table
 
--- ---- read
+-- read
 
 laid-of : (rs : List Rule) (body tail : List ℕ) → length body ≡ (rules-length limits) → length rs ≤ limits .rules → read-rules (length rs) 0 body ≡ some rs → laid limits (length rs ∷ (body ++ tail)) ≡ some rs
 laid-of rs body tail n few e =
@@ -53,7 +53,7 @@ module _ {table : List ℕ} {rs : List Rule} (h : Holds limits table rs) where
       let e : table ≡ length rs ∷ (body ++ drop (table-length limits) table) = sym (take-append-drop (table-length limits) table) ∙ ap (λ (x : List ℕ). x ++ drop (table-length limits) table) (h .layout) in
       ap (laid limits) e ∙ laid-of rs body (drop (table-length limits) table) (simp (length-append, length-replicate) (omega arith)) (h .few) (read-back (zeros-left rs) (h .rises))
 
--- ---- what was read
+-- what was read
 
 laid-parts : (n : ℕ) (ws : List ℕ) (rs : List Rule) → (leb (rules-length limits) (length ws) && leb n (limits .rules)) ≡ true → Were n 0 (take (rules-length limits) ws) rs → Holds limits (n ∷ ws) rs
 laid-parts n ws rs a (h, k, (z, x)) =
@@ -73,7 +73,7 @@ laid-holds (n ∷ ws) rs e =
 pub one-list : (table : List ℕ) (rs qs : List Rule) → Holds limits table rs → Holds limits table qs → rs ≡ qs
 one-list table rs qs h g = same-some rs qs (laid limits table) (holds-laid h) (holds-laid g)
 
--- ---- soundness is the layout and three tests
+-- soundness is the layout and three tests
 
 bind-bind : {A B C : Type 0} (m : Option A) (f : A → Option B) (g : B → Option C) → (m >>= λ a. f a >>= g) ≡ (m >>= f >>= g)
 bind-bind none f g = refl
@@ -89,7 +89,7 @@ sound-holds sig table rs e =
     let (u, e₂, f₂) = bind-some (require (all (λ r. eqb (refusal-of-pattern sig (r .pattern)) 0) qs && leb (total-weight sig qs) (limits .weight) && no-shared sig qs)) _ rs f₁ in
     subst (Holds limits table) (some-inj qs rs f₂) (laid-holds table qs e₁)
 
--- ---- whether a table has that layout
+-- whether a table has that layout
 
 pub is-laid : (table : List ℕ) → is-some (laid limits table) ≡ true → (rs : List Rule) × Holds limits table rs
 is-laid table e = go (laid limits table) refl e
@@ -105,7 +105,7 @@ not-laid sig table e = sound-laid sig table ∙ go (laid limits table) _ e
     go none f q = refl
     go (some rs) f q = true≢false q
 
--- ---- stored
+-- stored
 
 pub stored-holds : (lent : List ℕ) (rs : List Rule) → table-length limits ≤ length lent → Rises 0 rs → length rs ≤ limits .rules → All (λ r. length (r .pattern) ≤ pattern-limit) rs → Holds limits (stored limits rs lent) rs
 stored-holds lent rs l h few short =

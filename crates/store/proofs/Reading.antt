@@ -52,7 +52,7 @@ module _ (n m a b l : ℕ) (ws : List ℕ) where
   one-more : m < a → a ≤ last-number → l ≤ length ws → is-some (read-rules (suc n) m (a ∷ (b ∷ (l ∷ ws)))) ≡ is-some (read-rules n a (drop l ws))
   one-more h k f = rw (ltb-yes m a h, leb-yes a last-number k, split-some l ws f) (is-some-on (read-rules n a (drop l ws)) _)
 
--- ---- the words of a table
+-- the words of a table
 
 module _ (t : List ℕ) (long : table-length limits ≤ length t) where
   from-length : (at : ℕ) → length (from t at) ≡ table-length limits - at
@@ -101,7 +101,7 @@ module _ (t : List ℕ) (long : table-length limits ≤ length t) where
       pub on : m < getD t at 0 → getD t at 0 ≤ last-number → getD t (at + 2) 0 ≤ table-length limits - (at + 3) → is-some (read-rules (suc n) m (from t at)) ≡ is-some (read-rules n (getD t at 0) (from t (at + 3 + getD t (at + 2) 0)))
       on h k f = ap (λ (x : List ℕ). is-some (read-rules (suc n) m x)) (from-head at fits) ∙ one-more n m (getD t at 0) (getD t (at + 1) 0) (getD t (at + 2) 0) (from t (at + 3)) h k (omega (arith, from-length (at + 3))) ∙ ap (λ (x : List ℕ). is-some (read-rules n (getD t at 0) x)) (drop-drop (getD t (at + 2) 0) (at + 3) (take (table-length limits) t))
 
--- ---- the whole
+-- the whole
 
 pub laid-over : (t : List ℕ) → limits .rules < getD t 0 0 → is-some (laid limits t) ≡ false
 laid-over [] h = refl

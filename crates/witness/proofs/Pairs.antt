@@ -16,7 +16,8 @@ use Rattle.signature.proofs.ListFacts.{Kept, kept, dropped}
 use Rattle.signature.proofs.Tests.{none≢some, some-inj}
 use Rattle.pattern.specs.Limits.{pattern-limit}
 use Rattle.row.specs.Row.{Row, Rows, combine}
-use Rattle.row.specs.RowFits.{Good, good-named, good-free, Goods, goods-nil, goods-cons, place-count, row-fits, kept-fits}
+use Rattle.row.specs.RowFits.{Good, good-named, good-free, Goods, goods-nil, goods-cons, place-count, row-fits}
+use Rattle.row.proofs.Kept.{kept-fits}
 use Rattle.row.proofs.OverlapFacts.{combine-good}
 use Rattle.row.proofs.Places.{combine-places}
 use Rattle.row.proofs.RowMeet.{combine-fits}
