@@ -14,7 +14,7 @@ const WITNESS: usize = 4200;
 
 fn main() {
     let mut all = [0u16; WORDS];
-    let m = shown::file::read_words(b"calls.bin", &mut all);
+    let m = shown::file::read_words(b"calls.bin", false, &mut all);
     let mut signature = [0u16; SIGNATURE];
     let mut table = [0u16; TABLE];
     let mut space = [0u16; SPACE];

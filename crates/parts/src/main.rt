@@ -3,7 +3,7 @@
 mod large;
 mod show;
 
-use shown::file::read_numbers;
+use shown::file::read_words;
 use shown::file::size;
 ghost use Prim.Native.Nat.{_≤_};
 ghost use lib.ListN.{length};
@@ -39,7 +39,7 @@ fn cases(all: &[u16]) {
 
 fn main() {
     let mut all = [0u16; WORDS];
-    let n = read_numbers(b"cases.txt", &mut all);
+    let n = read_words(b"cases.txt", true, &mut all);
     cases(&all[..n]);
     large::counts();
     // one kind: 0 has four arguments, 1 none, 2 one

@@ -3,7 +3,7 @@
 mod show;
 
 use decoding::decode::decode;
-use shown::file::read_numbers;
+use shown::file::read_words;
 use shown::file::size;
 use signature::decoded::DECODED;
 ghost use Rattle.signature.specs.Decoded.{Known};
@@ -32,6 +32,6 @@ fn main() {
         return;
     }
     let mut all = [0u16; WORDS];
-    let n = read_numbers(b"patterns.txt", &mut all);
+    let n = read_words(b"patterns.txt", true, &mut all);
     lines(&t, &all[..n]);
 }

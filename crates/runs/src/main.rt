@@ -44,6 +44,6 @@ fn cases(all: &[u16]) {
 
 fn main() {
     let mut all = [0u16; WORDS];
-    let n = read_words(b"runs.bin", &mut all);
+    let n = read_words(b"runs.bin", false, &mut all);
     cases(&all[..n]);
 }

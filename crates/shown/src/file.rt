@@ -40,14 +40,6 @@ pub fn read(name: &[u8], out: &mut [u8]) -> usize
     n
 }
 
-pub fn read_words(name: &[u8], out: &mut [u16]) -> usize
-    ensures { λ r. ⌜ Counts r (now (out .exit)) ⌝ }
-{
-    let mut bytes = [0u8; BYTES];
-    let n = read(name, &mut bytes);
-    words(&bytes[..n], out)
-}
-
 // Between two bytes of a text: 0; inside a number that is worth n so far, n + 1; behind a #, COMMENT.
 const LAST: usize = 65536;
 
@@ -134,12 +126,16 @@ fn numbers(text: &[u8], out: &mut [u16]) -> usize
     n
 }
 
-pub fn read_numbers(name: &[u8], out: &mut [u16]) -> usize
+// The words of a file: numbers of a text, or two bytes each.
+pub fn read_words(name: &[u8], text: bool, out: &mut [u16]) -> usize
     ensures { λ r. ⌜ Counts r (now (out .exit)) ⌝ }
 {
     let mut bytes = [0u8; BYTES];
     let n = read(name, &mut bytes);
-    numbers(&bytes[..n], out)
+    if text {
+        return numbers(&bytes[..n], out);
+    }
+    words(&bytes[..n], out)
 }
 
 pub fn size(x: u16) -> usize
