@@ -23,8 +23,8 @@
 extern "C" {
 #endif
 
-#define BELLGANTLET_VERSION "0.2.0"
-#define BELLGANTLET_VERSION_NUMBER 200  /* 10,000 times the first number, 100 times the second, the third */
+#define BELLGANTLET_VERSION "0.3.0"
+#define BELLGANTLET_VERSION_NUMBER 300  /* 10,000 times the first number, 100 times the second, the third */
 
 enum {
     BELLGANTLET_SIGNATURE = 1533,   /* the most words of a lawful signature: 255 constructors with four arguments, one without */
@@ -35,6 +35,8 @@ enum {
     BELLGANTLET_PATTERN = 64,       /* the most words of a pattern */
     BELLGANTLET_LAST_RULE = 999,    /* rules are numbered from 1 */
     BELLGANTLET_VARIABLES = 16,
+    BELLGANTLET_LEVEL = 1000,       /* the word of level 0 at a number kind; of level n it is n more */
+    BELLGANTLET_LAST_LEVEL = 100,
     BELLGANTLET_UNBOUND = 65535     /* the place of a variable that is not bound */
 };
 
@@ -44,10 +46,10 @@ enum {
     BELLGANTLET_STACK_ENTER = 860160,
     BELLGANTLET_STACK_WITHDRAW = 860160,
     BELLGANTLET_STACK_DECIDE = 860160,
-    BELLGANTLET_STACK_COMPILE = 2097152,
+    BELLGANTLET_STACK_COMPILE = 2228224,
     BELLGANTLET_STACK_RUN = 16384,
     BELLGANTLET_STACK_PART = 8192,
-    BELLGANTLET_STACK_ANY = 2097152     /* the most of all calls */
+    BELLGANTLET_STACK_ANY = 2228224     /* the most of all calls */
 };
 
 /* The numbers; bellgantlet_refusal_text says what each means. */
@@ -68,7 +70,8 @@ enum {
     BELLGANTLET_BOOKING_UNLAWFUL = 13,
     BELLGANTLET_TREE_TOO_LARGE = 14,
     BELLGANTLET_TREE_BROKEN = 15,
-    BELLGANTLET_PLACE_OUTSIDE = 16
+    BELLGANTLET_PLACE_OUTSIDE = 16,
+    BELLGANTLET_RANGE_WRONG = 18    /* in checking order directly after 7 */
 };
 
 /* What a number means, for a planner. */
@@ -92,6 +95,7 @@ static inline const char *bellgantlet_refusal_text(uint16_t number)
     case BELLGANTLET_TREE_TOO_LARGE: return "The tree exceeds the lent slice or 32,768 words.";
     case BELLGANTLET_TREE_BROKEN: return "The tree is broken.";
     case BELLGANTLET_PLACE_OUTSIDE: return "The place is not below the booking's length.";
+    case BELLGANTLET_RANGE_WRONG: return "The low of a range exceeds its high, or its high exceeds 100.";
     default: return "The call is refused.";
     }
 }
@@ -128,7 +132,7 @@ typedef struct {
 uint16_t bellgantlet_empty(uint16_t *table, size_t table_words);
 
 /* Enters a rule. On 12 a booking that both rules take stands first in the witness buffer, whose rest stays; on every
- * refusal the table stays. Refusals: 1, 2, 3, 4, 5, 7, 8, 9, 10, 11, 12. */
+ * refusal the table stays. Refusals: 1, 2, 3, 4, 5, 7, 18, 8, 9, 10, 11, 12. */
 bellgantlet_entered bellgantlet_enter(
     const uint16_t *signature, size_t signature_words,
     uint16_t number, uint16_t plan,

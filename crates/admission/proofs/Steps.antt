@@ -11,7 +11,9 @@ use Rattle.signature.proofs.Tests.{true≢false}
 use Rattle.pattern.specs.Given.{Patterned}
 use Rattle.pattern.specs.Linear.{linear-plus}
 use Rattle.pattern.specs.Pattern.{Pattern}
+use Rattle.pattern.specs.Ranged.{ranged}
 use Rattle.pattern.specs.Read.{read-pattern}
+use Rattle.reading.specs.Ranges.{Readable}
 use Rattle.weighing.specs.Weighing.{weighed}
 use Rattle.pattern.specs.Weight.{weight-plus, light-plus}
 use Rattle.weighing.specs.declared.weight.Weighed.{Weighed}
@@ -55,46 +57,63 @@ module _ {t : List ℕ} {n m : ℕ} (g : GivenWords t n m) (ws : List ℕ) where
       pub patterned : Patterned t ws
       patterned = record { known = g .known; pattern = the-pattern .0; read = the-pattern .1 }
 
-      module _ (l : Bool) (l-is : (q : Patterned t ws) → l ≡ linear-plus (q .pattern)) where
-        linear-so : linear-plus (the-pattern .0) ≡ l
-        unfolding patterned
-        linear-so = sym (l-is patterned)
+      pub readable : Readable ws
+      readable = record { sig = g .known .sig; pattern = the-pattern .0; read = the-pattern .1 }
 
-        pub not-linear : l ≡ false → Refused 8 ≡ admission-of (g .known .sig) ws
-        not-linear h = let z = linear-so ∙ h in sym (ap (admission-by (g .known .sig)) (the-pattern .1) ∙ (rw z))
+      module _ (u : Bool) (u-is : (q : Readable ws) → u ≡ ranged (q .pattern)) where
+        ranged-so : ranged (the-pattern .0) ≡ u
+        unfolding readable
+        ranged-so = sym (u-is readable)
 
-        module _ (y : l ≡ true) (r : Weighed) (r-is : (q : Patterned t ws) → r ≡ weighed (q .pattern)) where
-          weighed-so : Says (the-pattern .0) r
+        pub wrong-range : u ≡ false → Refused 18 ≡ admission-of (g .known .sig) ws
+        wrong-range h = let z = ranged-so ∙ h in sym (ap (admission-by (g .known .sig)) (the-pattern .1) ∙ (rw z))
+
+        module _ (v : u ≡ true) (l : Bool) (l-is : (q : Patterned t ws) → l ≡ linear-plus (q .pattern)) where
+          linear-so : linear-plus (the-pattern .0) ≡ l
           unfolding patterned
-          weighed-so = subst (Says (the-pattern .0)) (sym (r-is patterned)) (says (the-pattern .0))
+          linear-so = sym (l-is patterned)
 
-          pub too-heavy : r ≡ Heavy → Refused 9 ≡ admission-of (g .known .sig) ws
-          too-heavy h =
-              let x = linear-so ∙ y in
-              let z : light-plus (the-pattern .0) ≡ false = subst (Says (the-pattern .0)) h weighed-so in
-              sym (ap (admission-by (g .known .sig)) (the-pattern .1) ∙ (rw (x, z)))
+          pub not-linear : l ≡ false → Refused 8 ≡ admission-of (g .known .sig) ws
+          not-linear h =
+              let s = ranged-so ∙ v in
+              let z = linear-so ∙ h in
+              sym (ap (admission-by (g .known .sig)) (the-pattern .1) ∙ (rw (s, z)))
 
-          module _ (w : ℕ) (light : r ≡ Light w) where
-            light-so : (light-plus (the-pattern .0) ≡ true) × (w ≡ weight-plus (the-pattern .0))
-            light-so = subst (Says (the-pattern .0)) light weighed-so
+          module _ (y : l ≡ true) (r : Weighed) (r-is : (q : Patterned t ws) → r ≡ weighed (q .pattern)) where
+            weighed-so : Says (the-pattern .0) r
+            unfolding patterned
+            weighed-so = subst (Says (the-pattern .0)) (sym (r-is patterned)) (says (the-pattern .0))
 
-            pub whole-given : GivenWhole t ws n m
-            whole-given =
-                record { known = g .known; p = the-pattern .0; words = pattern-words (g .known .sig) ws (the-pattern .0) (the-pattern .1); light = light-so .0; room = g .room; work-room = g .work-room }
+            pub too-heavy : r ≡ Heavy → Refused 9 ≡ admission-of (g .known .sig) ws
+            too-heavy h =
+                let s = ranged-so ∙ v in
+                let x = linear-so ∙ y in
+                let z : light-plus (the-pattern .0) ≡ false = subst (Says (the-pattern .0)) h weighed-so in
+                sym (ap (admission-by (g .known .sig)) (the-pattern .1) ∙ (rw (s, x, z)))
 
-            module _ (a : Bool) (a-is : (q : GivenWhole t ws n m) → a ≡ ambiguous-plus (q .known .sig) 0 (q .p)) where
-              ambiguous-so : ambiguous-plus (g .known .sig) 0 (the-pattern .0) ≡ a
-              unfolding whole-given
-              ambiguous-so = sym (a-is whole-given)
+            module _ (w : ℕ) (light : r ≡ Light w) where
+              light-so : (light-plus (the-pattern .0) ≡ true) × (w ≡ weight-plus (the-pattern .0))
+              light-so = subst (Says (the-pattern .0)) light weighed-so
 
-              pub is-ambiguous : a ≡ true → Refused 10 ≡ admission-of (g .known .sig) ws
-              is-ambiguous h =
-                  let x = linear-so ∙ y in
-                  let z = ambiguous-so ∙ h in
-                  sym (ap (admission-by (g .known .sig)) (the-pattern .1) ∙ (rw (x, light-so .0, z)))
+              pub whole-given : GivenWhole t ws n m
+              whole-given =
+                  record { known = g .known; p = the-pattern .0; words = pattern-words (g .known .sig) ws (the-pattern .0) (the-pattern .1); light = light-so .0; ranges = ranged-so ∙ v; room = g .room; work-room = g .work-room }
 
-              pub passes : a ≡ false → Passed w ≡ admission-of (g .known .sig) ws
-              passes h =
-                  let x = linear-so ∙ y in
-                  let z = ambiguous-so ∙ h in
-                  sym (ap (admission-by (g .known .sig)) (the-pattern .1) ∙ (rw (x, light-so .0, z)) ∙ ap Passed (sym (light-so .1)))
+              module _ (a : Bool) (a-is : (q : GivenWhole t ws n m) → a ≡ ambiguous-plus (q .known .sig) 0 (q .p)) where
+                ambiguous-so : ambiguous-plus (g .known .sig) 0 (the-pattern .0) ≡ a
+                unfolding whole-given
+                ambiguous-so = sym (a-is whole-given)
+
+                pub is-ambiguous : a ≡ true → Refused 10 ≡ admission-of (g .known .sig) ws
+                is-ambiguous h =
+                    let s = ranged-so ∙ v in
+                    let x = linear-so ∙ y in
+                    let z = ambiguous-so ∙ h in
+                    sym (ap (admission-by (g .known .sig)) (the-pattern .1) ∙ (rw (s, x, light-so .0, z)))
+
+                pub passes : a ≡ false → Passed w ≡ admission-of (g .known .sig) ws
+                passes h =
+                    let s = ranged-so ∙ v in
+                    let x = linear-so ∙ y in
+                    let z = ambiguous-so ∙ h in
+                    sym (ap (admission-by (g .known .sig)) (the-pattern .1) ∙ (rw (s, x, light-so .0, z)) ∙ ap Passed (sym (light-so .1)))

@@ -1,4 +1,4 @@
--- 01, Turned down: 7 to 10, and the weight of a pattern that passes them.
+-- 01, Turned down: 7 to 10, and the weight of a pattern that passes them; 02, job 1: 18 "stands directly after 7".
 use mathlib.Core.List.{List}
 use mathlib.Core.Option.{Option}
 use mathlib.Core.Bool.{cond}
@@ -25,7 +25,7 @@ abbrev pub number-of : Admission → ℕ
 number-of (Passed w) = 0
 number-of (Refused n) = n
 
--- the first refusal of 7 to 10 that applies to these words, or what they weigh
+-- the first refusal of 7, 18 and 8 to 10 that applies to these words, or what they weigh
 abbrev pub admission-by : Signature → Option Pattern → Admission
 admission-by sig o = cond (eqb (refusal-by sig o) 0) (Passed (weight-by o)) (Refused (refusal-by sig o))
 

@@ -1,10 +1,12 @@
-// The first of refusals 7 to 10 that applies to a pattern, or its weight.
+// The first of refusals 7, 18 and 8 to 10 that applies to a pattern, or its weight.
 use ambiguity::ambiguous::ambiguous;
 use linearity::linear::linear;
+use reading::ranges::ranged;
 use reading::read::well_formed;
 use signature::refusals::AMBIGUOUS;
 use signature::refusals::MALFORMED;
 use signature::refusals::NOT_LINEAR;
+use signature::refusals::RANGE_WRONG;
 use signature::refusals::TOO_HEAVY;
 use weighing::weight::Weighed;
 use weighing::weight::weigh;
@@ -23,6 +25,9 @@ pub fn admit(t: &[u16], p: &[u16], out: &mut [u64], work: &mut [u64]) -> Admissi
 {
     if !well_formed(t, p) {
         return Admission::Refused(MALFORMED);
+    }
+    if !ranged(p) {
+        return Admission::Refused(RANGE_WRONG);
     }
     if !linear(t, p) {
         return Admission::Refused(NOT_LINEAR);

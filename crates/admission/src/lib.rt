@@ -1,2 +1,2 @@
-// A pattern by itself: refusals 7 to 10, and its weight.
+// A pattern by itself: refusals 7, 18 and 8 to 10, and its weight.
 pub mod admit;

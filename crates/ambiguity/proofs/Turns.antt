@@ -2,7 +2,7 @@
 use mathlib.Core.Path.{_≡_, refl, sym, ap, ap₂, subst, _∙_}
 use mathlib.Core.List.{List, [], _∷_, _++_, append-assoc}
 use mathlib.Core.Bool.{Bool, true, false, _&&_, _||_}
-use Prim.Native.Nat.{ℕ, zero, suc, _+_, _*_, _-_, _<_, _≤_}
+use Prim.Native.Nat.{ℕ, suc, _+_, _-_, _<_, _≤_}
 use native.Mathlib.Omega.{arith}
 use lib.ListN.{length, drop, getD, length-append, length-drop}
 use lib.Seq.{drop-at, drop-drop}
@@ -13,19 +13,20 @@ use Rattle.signature.proofs.KnownFacts.{is-constructor, arity-is, few-arguments
 use Rattle.signature.proofs.Booleans.{or-assoc, or-true, or-false}
 use Rattle.pattern.specs.Given.{Opens}
 use Rattle.pattern.specs.Linearity.{side-of, behind}
-use Rattle.pattern.specs.Pattern.{Pattern, head, and, or, wild, absurd-pat, neg, var, Patterns, pnil, pcons, pattern-code, patterns-code}
+use Rattle.pattern.specs.Pattern.{Pattern, head, and, or, wild, absurd-pat, neg, var, range, Patterns, pnil, pattern-code, patterns-code}
 use Rattle.pattern.specs.Read.{Form, form}
 use Rattle.pattern.specs.WellFormed.{WellFormed, well-head, AllWellFormed, well-nil, well-cons}
-use Rattle.pattern.specs.Word.{part-count}
-use Rattle.pattern.proofs.Opened.{shape, inner, inner-length, kind-count, inner-count, shape-is, code-split}
+use Rattle.pattern.specs.Ranged.{all-ranged}
+use Rattle.pattern.specs.Word.{part-count, own-words}
+use Rattle.pattern.proofs.Opened.{shape, inner, inner-length, kind-count, inner-count, shape-is, code-word, code-split, own-rest, behind-own}
 use Rattle.pattern.proofs.ReadSteps.{part, to-end}
 use Rattle.builder.specs.Arguments.{lights-of}
-use Rattle.builder.specs.Build.{room-unit, GivenPart}
+use Rattle.builder.specs.Build.{GivenPart}
 use Rattle.builder.proofs.ArgSteps.{NextArg, next-arg}
 use Rattle.ambiguity.specs.Ambiguity.{ambiguous-of, has-vars, taken-twice, kind-behind, own-variable, Judged}
 use Rattle.ambiguity.specs.declared.ambiguous.Part.{Part}
 use Rattle.ambiguity.specs.declared.ambiguous.Part.the-variants.{Clear, Ambiguous}
-use Rattle.ambiguity.proofs.Behind.{side-at, side-is, any-of, any-cons, any-none, some-vars, Parts, parts-behind}
+use Rattle.ambiguity.proofs.Behind.{side-at, side-is, any-of, any-cons, any-none, some-vars, parts-behind}
 
 abbrev pub as-opens : {t : List ℕ} {k : ℕ} {w : List ℕ} {b : Bool} {n m : ℕ} (g : GivenPart t k w b n m) → Opens t w
 as-opens {k = k} g = record { known = g .known; kind = k; pattern = g .pattern; well = g .well; rest = g .rest; words = g .words }
@@ -38,6 +39,7 @@ module _ {t : List ℕ} {k : ℕ} {w : List ℕ} {b : Bool} {n m : ℕ} (g : Giv
     pub well : AllWellFormed (g .known .sig) ks ps
     pub there : All (λ i. i < g .known .decoded .n) ks
     pub light : lights-of s ps ≡ true
+    pub ranges : all-ranged ps ≡ true
     pub kinds : (i : ℕ) → i < length ks → kind-behind t k f (j + i) ≡ getD ks i 0
     pub many : length ks ≡ left
     pub words : drop at w ≡ patterns-code ps ++ g .rest
@@ -45,11 +47,11 @@ module _ {t : List ℕ} {k : ℕ} {w : List ℕ} {b : Bool} {n m : ℕ} (g : Giv
     pub ambiguous : ambiguous-of b (g .known .sig) k (g .pattern) ≡ ((has-vars b (g .pattern) && taken-twice b (g .known .sig) k (g .pattern)) || any-of s (g .known .sig) ks ps)
     pub vars-are : has-vars b (g .pattern) ≡ (vars || some-vars s ps)
 
-  pub start : (f : Form) → f ≡ form (getD w 0 0) → (s vars : Bool) (c : ℕ) → side-of s ≡ behind f (side-of b) → vars ≡ own-variable b f → c ≡ part-count t f → Left f s vars 1 (c - 0) 0
+  pub start : (f : Form) → f ≡ form (getD w 0 0) → (s vars : Bool) (c : ℕ) → side-of s ≡ behind f (side-of b) → vars ≡ own-variable b f → c ≡ part-count t f → Left f s vars (own-words f) (c - 0) 0
   start f e s vars c a h m =
       let o = as-opens g in
       let z : f ≡ shape (g .pattern) = shape-is o f e in
-      let q = parts-behind (g .known) b k (g .pattern) (g .there) (g .well) (g .light) in
+      let q = parts-behind (g .known) b k (g .pattern) (g .there) (g .well) (g .light) (g .ranges) in
       let i : s ≡ side-at b (shape (g .pattern)) = side-is s b f a ∙ ap (side-at b) z in
       record {
         ks = q .ks;
@@ -57,10 +59,11 @@ module _ {t : List ℕ} {k : ℕ} {w : List ℕ} {b : Bool} {n m : ℕ} (g : Giv
         well = q .well;
         there = q .there;
         light = subst (λ x. lights-of x (inner (g .pattern)) ≡ true) (sym i) (q .light);
+        ranges = q .ranges;
         kinds = λ j l. ap₂ (λ x y. kind-behind t k x y) z (omega arith) ∙ q .kinds j l;
         many = sym (kind-count (g .known .sig) (q .well)) ∙ inner-count (g .known) (g .well) ∙ ap (part-count t) (sym z) ∙ omega (arith, m);
-        words = ap (drop 1) (g .words ∙ ap (λ x. x ++ g .rest) (code-split (g .pattern)));
-        ends = inner-length (g .pattern);
+        words = ap (λ x. drop (own-words x) w) z ∙ ap (drop (own-words (shape (g .pattern)))) (g .words ∙ ap (λ x. x ++ g .rest) (code-split (g .pattern)) ∙ ap (λ x. code-word (g .pattern) ∷ x) (append-assoc (own-rest (g .pattern)) (patterns-code (inner (g .pattern))) (g .rest))) ∙ behind-own (g .pattern) (code-word (g .pattern)) (patterns-code (inner (g .pattern)) ++ g .rest);
+        ends = ap (λ x. own-words x + length (patterns-code (inner (g .pattern)))) z ∙ inner-length (g .pattern);
         ambiguous = q .ambiguous ∙ ap (λ x. (has-vars b (g .pattern) && taken-twice b (g .known .sig) k (g .pattern)) || any-of x (g .known .sig) (q .ks) (inner (g .pattern))) (sym i);
         vars-are = q .vars ∙ ap (λ x. own-variable b (shape (g .pattern)) || some-vars x (inner (g .pattern))) (sym i) ∙ ap (λ x. own-variable b x || some-vars s (inner (g .pattern))) (sym z) ∙ ap (λ x. x || some-vars s (inner (g .pattern))) (sym h);
       }
@@ -82,7 +85,7 @@ module _ {t : List ℕ} {k : ℕ} {w : List ℕ} {b : Bool} {n m : ℕ} (g : Giv
   first-kind = getD (l .ks) 0 0
 
   abbrev view : NextArg (g .known .sig) s (g .known .decoded .n) (l .ks) (l .ps) first-kind (drop 1 (l .ks))
-  view = next-arg (g .known .sig) s (g .known .decoded .n) first-kind (drop 1 (l .ks)) (l .ks) (l .ps) (cut (l .ks) some) (l .well) (l .light) (l .there)
+  view = next-arg (g .known .sig) s (g .known .decoded .n) first-kind (drop 1 (l .ks)) (l .ks) (l .ps) (cut (l .ks) some) (l .well) (l .light) (l .ranges) (l .there)
 
   size : length (patterns-code (l .ps)) ≡ length (pattern-code (view .p)) + length (patterns-code (view .qs))
   size = ap (λ z. length (patterns-code z)) (view .parts-are) ∙ length-append (pattern-code (view .p)) (patterns-code (view .qs))
@@ -103,6 +106,7 @@ module _ {t : List ℕ} {k : ℕ} {w : List ℕ} {b : Bool} {n m : ℕ} (g : Giv
       words = to-end w at ∙ words-are;
       well = view .well;
       light = view .light;
+      ranges = view .ranges .0;
       room = omega (arith, i, g .room, l .ends, size);
       work-room = omega (arith, i', g .work-room, l .ends, size);
     }
@@ -136,6 +140,7 @@ module _ {t : List ℕ} {k : ℕ} {w : List ℕ} {b : Bool} {n m : ℕ} (g : Giv
           well = view .wells;
           there = view .theres;
           light = view .lights;
+          ranges = view .ranges .1;
           kinds = λ x y. ap (kind-behind t k f) (omega arith) ∙ l .kinds (suc x) (omega (arith, y, length-drop 1 (l .ks))) ∙ next-kind (l .ks) x;
           many = length-drop 1 (l .ks) ∙ omega (arith, l .many);
           words = sym (drop-drop used at w) ∙ ap (drop used) words-are ∙ drop-at (pattern-code (view .p)) (patterns-code (view .qs) ++ g .rest) used (sym (so .2));
@@ -184,17 +189,18 @@ module _ {t : List ℕ} {k : ℕ} {w : List ℕ} {b : Bool} {n m : ℕ} (g : Giv
   few-parts f e = rw (shape-is (as-opens g) f e) (go (g .pattern) (g .well))
     where
       go : (p : Pattern) → WellFormed (g .known .sig) k p → part-count t (shape p) ≤ argument-limit
-      go (head c ps) (well-head {ks = ks} s i h) = let q = is-constructor (g .known) k c ks i in omega (arith, arity-is (g .known) c q, few-arguments (g .known) c q)
+      go (head c ps) (well-head {ks = ks} s i h) = let q = is-constructor (g .known) k c ks (omega (arith, s)) i in omega (arith, arity-is (g .known) c q, few-arguments (g .known) c q)
       go (and p q) h = omega arith
       go (or p q) h = omega arith
       go wild h = omega arith
       go absurd-pat h = omega arith
       go (neg p) h = omega arith
       go (var x) h = omega arith
+      go (range low high) h = omega arith
 
   module _ (n' m' : ℕ) (i : n' ≡ n) (i' : m' ≡ m) where
     pub again : GivenPart t k w b n' m'
-    again = record { known = g .known; there = g .there; pattern = g .pattern; rest = g .rest; words = g .words; well = g .well; light = g .light; room = omega (arith, i, g .room); work-room = omega (arith, i', g .work-room) }
+    again = record { known = g .known; there = g .there; pattern = g .pattern; rest = g .rest; words = g .words; well = g .well; light = g .light; ranges = g .ranges; room = omega (arith, i, g .room); work-room = omega (arith, i', g .work-room) }
 
     pub twice-so : (vars q : Bool) → ((o : GivenPart t k w b n' m') → q ≡ (vars && taken-twice b (o .known .sig) k (o .pattern))) → q ≡ (vars && taken-twice b (g .known .sig) k (g .pattern))
     unfolding again

@@ -1,14 +1,14 @@
 -- Two parts of a pattern, their rows behind each other.
 use mathlib.Core.Path.{_≡_, refl, ap, _∙_, sym}
-use mathlib.Core.List.{List, [], _∷_, _++_, append-assoc}
+use mathlib.Core.List.{List, _++_, append-assoc}
 use mathlib.Core.Bool.{Bool, true, false, not, cond}
-use Prim.Native.Nat.{ℕ, _+_, _*_, _≤_, _<_, _-_}
+use Prim.Native.Nat.{ℕ, _+_, _≤_, _<_, _-_}
 use native.Mathlib.Omega.{arith}
 use lib.Dec.{ltb}
 use lib.ListN.{length, take, drop, length-append, length-drop}
 use lib.Seq.{drop-at, length-take-le}
 use Rattle.signature.specs.Decoded.{count-of}
-use Rattle.signature.specs.Limits.{kind-limit}
+use Rattle.signature.specs.Limits.{kind-limit, heads-limit}
 use Rattle.signature.specs.Lists.{is-empty, somes}
 use Rattle.sets.specs.Set.{bit}
 use Rattle.signature.specs.Signature.{Signature}
@@ -17,7 +17,7 @@ use Rattle.pattern.specs.Pattern.{Pattern, pattern-code}
 use Rattle.pattern.proofs.PatternBack.{some-pattern-word}
 use Rattle.row.specs.Row.{combine, each}
 use Rattle.cell.specs.Coded.{kinds-of}
-use Rattle.cell.specs.RowList.{from, entries, list-code}
+use Rattle.cell.specs.RowList.{from, list-code}
 use Rattle.cell.proofs.Walk.{from-is, back}
 use Rattle.rowlist.specs.Sides.{rows-of, Open}
 use Rattle.builder.specs.Build.{GivenPat, Made}
@@ -39,7 +39,7 @@ module _ {t : List ℕ} {k : ℕ} {w : List ℕ} {b : Bool} {n m : ℕ} (g : Giv
   pub kind-small : k < kind-limit
   kind-small = omega (arith, g .there, kinds-same (g .known), words-of (g .known) .few-kinds)
 
-  pub few-of-kind : count-of t k ≤ 64
+  pub few-of-kind : count-of t k ≤ heads-limit
   few-of-kind = omega (arith, g .known .decoded .head-count k (g .there), few-heads (g .known) k (g .there))
 
   module _ (full : ℕ) (f : (i : ℕ) → bit full i ≡ cond (ltb i (count-of t k)) 1 0) where
@@ -56,6 +56,7 @@ module _ {t : List ℕ} {k : ℕ} {w : List ℕ} {b : Bool} {n m : ℕ} (g : Giv
       code-is = g .words;
       well = g .well-first;
       light = g .light-first;
+      ranges = g .ranges-first;
       opened = opened;
       room = omega (arith, g .room);
       work-room = omega (arith, g .work-room);
@@ -79,6 +80,7 @@ module _ {t : List ℕ} {k : ℕ} {w : List ℕ} {b : Bool} {n m : ℕ} (g : Giv
         code-is = from-is w read ∙ ap (drop read) (g .words) ∙ drop-at (pattern-code (g .first)) (pattern-code (g .second) ++ g .rest) read (sym (first-made .read-is));
         well = g .well-second;
         light = g .light-second;
+        ranges = g .ranges-second;
         opened = opened;
         room =
             let z : n' ≡ n - (used + 1) = i ∙ ap length (from-is o (used + 1)) ∙ length-drop (used + 1) o ∙ ap (λ (x : ℕ). x - (used + 1)) l in

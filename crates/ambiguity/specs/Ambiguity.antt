@@ -8,8 +8,8 @@ use Rattle.signature.specs.Decoded.{argument-of}
 use Rattle.signature.specs.Lists.{is-empty}
 use Rattle.signature.specs.Signature.{Signature}
 use Rattle.pattern.specs.Linearity.{side-of, vars-at}
-use Rattle.pattern.specs.Pattern.{Pattern, head, and, or, wild, absurd-pat, neg, var, pattern-code}
-use Rattle.pattern.specs.Read.{Form, is-head, is-var, is-and, is-or, is-wild, is-absurd, is-not, is-other}
+use Rattle.pattern.specs.Pattern.{Pattern, head, and, or, wild, absurd-pat, neg, var, range, pattern-code}
+use Rattle.pattern.specs.Read.{Form, is-head, is-var, is-and, is-or, is-wild, is-absurd, is-not, is-range, is-other}
 use Rattle.row.specs.Overlap.{ambiguous-plus, ambiguous-minus}
 use Rattle.ambiguity.specs.Parts.{meets}
 use Rattle.ambiguity.specs.declared.ambiguous.Part.{Part}
@@ -31,6 +31,7 @@ doubles b is-or = b
 doubles b is-wild = false
 doubles b is-absurd = false
 doubles b is-not = false
+doubles b is-range = false
 doubles b is-other = false
 
 -- and a value of its kind that both parts take
@@ -42,6 +43,7 @@ taken-twice b sig k wild = false
 taken-twice b sig k absurd-pat = false
 taken-twice b sig k (neg p) = false
 taken-twice b sig k (var x) = false
+taken-twice b sig k (range low high) = false
 
 -- t is the table of a signature: the kind of the j-th part behind a word at a place of kind k
 abbrev pub kind-behind : List ℕ → ℕ → Form → ℕ → ℕ
@@ -52,6 +54,7 @@ kind-behind t k is-or j = k
 kind-behind t k is-wild j = k
 kind-behind t k is-absurd j = k
 kind-behind t k is-not j = k
+kind-behind t k is-range j = k
 kind-behind t k is-other j = k
 
 -- a word's own variable: at the plus side only
@@ -63,6 +66,7 @@ own-variable b is-or = false
 own-variable b is-wild = false
 own-variable b is-absurd = false
 own-variable b is-not = false
+own-variable b is-range = false
 own-variable b is-other = false
 
 -- what is answered of a part

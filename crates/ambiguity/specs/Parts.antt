@@ -7,6 +7,7 @@ use lib.ListN.{length}
 use Rattle.signature.specs.Decoded.{Known}
 use Rattle.signature.specs.Signature.{Signature}
 use Rattle.pattern.specs.Pattern.{Pattern, pattern-code}
+use Rattle.pattern.specs.Ranged.{ranged}
 use Rattle.pattern.specs.WellFormed.{WellFormed}
 use Rattle.row.specs.Overlap.{overlap, overlap-minus}
 use Rattle.builder.specs.Build.{light-of, room-unit}
@@ -23,6 +24,8 @@ pub record GivenTwo (t : List ℕ) (k : ℕ) (w : List ℕ) (b : Bool) (n m : �
   pub well-second : WellFormed (known .sig) k second
   pub light-first : light-of b first ≡ true
   pub light-second : light-of b second ≡ true
+  pub ranges-first : ranged first ≡ true
+  pub ranges-second : ranged second ≡ true
   pub room : room-unit * (length (pattern-code first) + length (pattern-code second)) ≤ n
   pub work-room : room-unit * (length (pattern-code first) + length (pattern-code second)) ≤ m
 

@@ -43,6 +43,7 @@ fn is_variable(w: Word, plus: bool) -> bool
         Word::Absurd => false,
         Word::Not => false,
         Word::Var(_x) => plus,
+        Word::Range => false,
         Word::Other => false,
     }
 }
@@ -59,6 +60,7 @@ fn is_double(w: Word, plus: bool) -> bool
         Word::Absurd => false,
         Word::Not => false,
         Word::Var(_x) => false,
+        Word::Range => false,
         Word::Other => false,
     }
 }
@@ -76,6 +78,7 @@ fn part_kind(t: &[u16], w: Word, k: usize, j: usize) -> usize
         Word::Absurd => k,
         Word::Not => k,
         Word::Var(_x) => k,
+        Word::Range => k,
         Word::Other => k,
     }
 }
@@ -137,7 +140,7 @@ fn ambiguous_at(
     Part::Clear(vars, at)
 }
 
-// Whether a pattern past 7 to 9 is ambiguous.
+// Whether a pattern past 7, 18, 8 and 9 is ambiguous.
 pub fn ambiguous(t: &[u16], p: &[u16], out: &mut [u64], work: &mut [u64]) -> bool
     requires { ⌜ GivenWhole (now t) (now p) (length (now out)) (length (now work)) ⌝ }
     ensures { λ r. ⌜ ((g : GivenWhole (now (t .entry)) (now (p .entry)) (length (now (out .entry))) (length (now (work .entry)))) → r ≡ ambiguous-plus (g .known .sig) 0 (g .p)) ⌝ }

@@ -2,7 +2,7 @@
 use builder::build::rows;
 use cell::cell::KIND_TAG;
 use overlap::lists::lists_meet;
-use sets::set::full;
+use sets::heads::full;
 use signature::decoded::count_of;
 ghost use mathlib.Core.Path.{_≡_};
 ghost use mathlib.Core.Bool.{not};

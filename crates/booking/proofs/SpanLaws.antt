@@ -6,12 +6,12 @@ use native.Mathlib.Nat.{add-zero}
 use native.Mathlib.Omega.{arith}
 use lib.ListN.{length, drop, getD, length-append}
 use lib.Seq.{drop-drop, getD-drop}
-use Rattle.signature.specs.Decoded.{Known, Starts, arity-of}
+use Rattle.signature.specs.Decoded.{Known, Starts, head-arity}
+use Rattle.signature.specs.Limits.{level-base}
 use Rattle.signature.specs.Lawful.{of-kind, OfKinds, of-kinds-nil, of-kinds-cons}
 use Rattle.signature.specs.Signature.{Signature}
 use Rattle.signature.specs.Value.{Values, vnil, vcons, code, codes, size, sizes}
-use Rattle.signature.proofs.Heads.{args-same}
-use Rattle.signature.proofs.KnownFacts.{arity-is, is-constructor}
+use Rattle.signature.proofs.KnownFacts.{head-arity-is, is-constructor}
 use Rattle.signature.proofs.Values.{length-code, some-size}
 
 abbrev then : Values → Values → Values
@@ -70,9 +70,9 @@ left-done {sig} {b} {n} {left} {at} h l = go (l .kinded) (l .many) (l .ends)
 pub record Next (t : List ℕ) (sig : Signature) (b : List ℕ) (n left at : ℕ) : Type 0 where
   pub below : at < n
   pub within : n ≤ length b
-  pub constructor : getD b at 0 < length sig
-  pub next : Left sig b n (left - 1 + arity-of t (getD b at 0)) (at + 1)
-  pub few : left - 1 + arity-of t (getD b at 0) ≤ length b
+  pub constructor : getD b at 0 < level-base → getD b at 0 < length sig
+  pub next : Left sig b n (left - 1 + head-arity t (getD b at 0)) (at + 1)
+  pub few : left - 1 + head-arity t (getD b at 0) ≤ length b
 
 pub left-next : {t b : List ℕ} {n left at : ℕ} (g : Known t) → 0 < left → Left (g .sig) b n left at → Next t (g .sig) b n left at
 left-next {t} {b} {n} {left} {at} g h l = go (l .kinded) (l .words) (l .many) (l .ends)
@@ -82,15 +82,14 @@ left-next {t} {b} {n} {left} {at} g h l = go (l .kinded) (l .words) (l .many) (l
     go (of-kinds-cons {k = k} {ks = ks} {vs = vs} (of-kind {c = c} {ks = js} {vs = us} a p) q) d m e =
         let all : drop at b ≡ c ∷ ((codes us ++ codes vs) ++ l .rest) = d in
         let word : getD b at 0 ≡ c = ap (λ i. getD b i 0) (sym (add-zero at)) ∙ sym (getD-drop at b 0 0) ∙ ap (λ x. getD x 0 0) all in
-        let known : c < length (g .sig) = is-constructor g k c js a in
-        let arity : arity-of t c ≡ length js = arity-is g c known ∙ ap length (args-same (g .sig) k c js a) in
+        let arity : head-arity t c ≡ length js = head-arity-is g k c js a in
         let kinds = then-kinds (g .sig) p q in
-        let more : length (js ++ ks) ≡ left - 1 + arity-of t c = omega (arith, length-append js ks) in
+        let more : length (js ++ ks) ≡ left - 1 + head-arity t c = omega (arith, length-append js ks) in
         let sum : at + 1 + sizes (then us vs) ≡ n = omega (arith, then-sizes us vs) in
         record {
           below = omega arith;
           within = l .inside;
-          constructor = rw word known;
+          constructor = λ l. rw word (is-constructor g k c js (rw word at l) a);
           next = rw word (record {
             kinds = js ++ ks;
             values = then us vs;

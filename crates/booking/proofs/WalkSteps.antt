@@ -9,15 +9,15 @@ use native.Mathlib.Omega.{arith}
 use lib.Dec.{eqb}
 use lib.ListN.{length, drop, getD, set, length-append, length-drop, length-map, length-set, drop-of-length-le}
 use lib.Seq.{drop-cons}
-use Rattle.signature.specs.Decoded.{Known}
+use Rattle.signature.specs.Decoded.{Known, kinds-of}
 use Rattle.signature.specs.Limits.{argument-limit, depth-limit}
-use Rattle.signature.specs.Lists.{_>>=_}
+use Rattle.signature.specs.Lists.{_>>=_, All, also}
 use Rattle.signature.specs.Signature.{Signature, arguments-at}
 use Rattle.booking.specs.Walk.{due-depths, due-of, kind-due, deep-due, due-limit, Room, walk-at, walk-word, walk, ended, still-due, Inside}
 use Rattle.booking.specs.declared.walk.Walked.{Walked}
 use Rattle.booking.specs.declared.walk.Walked.the-variants.{At, Refused}
-use Rattle.signature.proofs.Heads.{args-same}
-use Rattle.signature.proofs.KnownFacts.{few-arguments, is-constructor}
+use Rattle.signature.proofs.KnownFacts.{few-of-head, arguments-below}
+use Rattle.signature.proofs.LawfulFacts.{kinds-above}
 use Rattle.signature.proofs.Tests.{bind-some, none≢some, some-inj, eqb-eq, eqb-ne}
 
 drop-set-here : {A : Type 0} (l : List A) (n : ℕ) (a : A) → n < length l → drop n (set l n a) ≡ a ∷ drop (suc n) l
@@ -93,36 +93,44 @@ module _ (sig : Signature) where
   walk-on ys at w ks zs l h e z = sym (walk-here ys at w l ∙ walk-at-some _ (deep-due (getD ys at 0)) w _ ks h e ∙ ap some (sym z))
 
 -- the arguments of one more constructor fit
-pub room-here : (ys : List ℕ) (at : ℕ) → length ys ≡ due-limit → at < due-limit → (deep-due (getD ys at 0) ≡ 0 → ⊥) → Room (drop at ys) → argument-limit ≤ at + 1
-room-here ys at l h n r =
-    let a : Room (getD ys at 0 ∷ drop (at + 1) ys) = rw (front ys at (omega arith)) at r in
+pub room-here : (m : ℕ) (ys : List ℕ) (at : ℕ) → length ys ≡ due-limit → at < due-limit → (deep-due (getD ys at 0) ≡ 0 → ⊥) → Room m (drop at ys) → argument-limit ≤ at + 1
+room-here m ys at l h n r =
+    let a : Room m (getD ys at 0 ∷ drop (at + 1) ys) = rw (front ys at (omega arith)) at r in
     omega (arith, a .0, length-drop (at + 1) ys)
 
-room-append : (d : ℕ) (ks xs : List ℕ) → d < due-depths → length ks + length xs ≤ suc ((argument-limit - 1) * (depth-limit - d)) → Room xs → Room (map (due-of d) ks ++ xs)
-room-append d [] xs h l r = r
-room-append d (k ∷ ks) xs h l r =
+-- and the kind of the first value due exists
+pub kind-here : (m : ℕ) (ys : List ℕ) (at : ℕ) → at < length ys → Room m (drop at ys) → kind-due (getD ys at 0) < m
+kind-here m ys at h r =
+    let a : Room m (getD ys at 0 ∷ drop (at + 1) ys) = rw (front ys at h) at r in
+    a .1
+
+room-append : (m d : ℕ) (ks xs : List ℕ) → All (λ k. k < m) ks → d < due-depths → length ks + length xs ≤ suc ((argument-limit - 1) * (depth-limit - d)) → Room m xs → Room m (map (due-of d) ks ++ xs)
+room-append m d [] xs a h l r = r
+room-append m d (k ∷ ks) xs (also x p a) h l r =
     let e : deep-due (due-of d k) ≡ d = omega arith in
-    (rw e (omega (arith, length-append (map (due-of d) ks) xs, length-map ks (due-of d))), room-append d ks xs h (omega arith) r)
+    let f : kind-due (due-of d k) ≡ k = omega arith in
+    (rw e (omega (arith, length-append (map (due-of d) ks) xs, length-map ks (due-of d))), rw f p, room-append m d ks xs a h (omega arith) r)
 
 module _ {t : List ℕ} (g : Known t) where
-  room-at : (k d w : ℕ) (xs ys : List ℕ) → d < due-depths → length xs ≤ (argument-limit - 1) * (depth-limit - d) → Room xs → walk-at (g .sig) k d w xs ≡ some ys → Room ys
+  room-at : (k d w : ℕ) (xs ys : List ℕ) → d < due-depths → length xs ≤ (argument-limit - 1) * (depth-limit - d) → Room (kinds-of t) xs → walk-at (g .sig) k d w xs ≡ some ys → Room (kinds-of t) ys
   room-at k zero w xs ys h l r e = none≢some e
   room-at k (suc d) w xs ys h l r e =
       let (ks, a, b) = bind-some (arguments-at (g .sig) k w) _ ys e in
-      let n : length ks ≤ argument-limit = subst (λ z. length z ≤ argument-limit) (args-same (g .sig) k w ks a) (few-arguments g w (is-constructor g k w ks a)) in
-      subst Room (some-inj (map (due-of d) ks ++ xs) ys b) (room-append d ks xs (omega arith) (omega arith) r)
+      let n : length ks ≤ argument-limit = few-of-head g k w ks a in
+      let m : All (λ j. j < kinds-of t) ks = rw (g .decoded .kind-count) (arguments-below g k w ks a) in
+      subst (Room (kinds-of t)) (some-inj (map (due-of d) ks ++ xs) ys b) (room-append (kinds-of t) d ks xs m (omega arith) (omega arith) r)
 
-  pub room-kept : (xs : List ℕ) (w : ℕ) (ys : List ℕ) → Room xs → some ys ≡ walk-word (g .sig) xs w → Room ys
+  pub room-kept : (xs : List ℕ) (w : ℕ) (ys : List ℕ) → Room (kinds-of t) xs → some ys ≡ walk-word (g .sig) xs w → Room (kinds-of t) ys
   room-kept [] w ys r e = none≢some (sym e)
-  room-kept (x ∷ xs) w ys r e = room-at (kind-due x) (deep-due x) w xs ys (omega arith) (r .0) (r .1) (sym e)
+  room-kept (x ∷ xs) w ys r e = room-at (kind-due x) (deep-due x) w xs ys (omega arith) (r .0) (r .2) (sym e)
+
+  pub room-first : (xs : List ℕ) → xs ≡ due-of depth-limit 0 ∷ [] → Room (kinds-of t) xs
+  room-first xs e = rw e (omega arith, omega (arith, kinds-above (g .sig) (g .decoded .n) (g .decoded .kinds-are), g .decoded .kind-count), tt)
 
 -- the loop over the booking's words
 
 pub started : (ys : List ℕ) → length ys ≡ due-limit → drop (due-limit - 1) (set ys (due-limit - 1) (due-of depth-limit 0)) ≡ due-of depth-limit 0 ∷ []
 started ys l = drop-set-here ys (due-limit - 1) (due-of depth-limit 0) (omega arith) ∙ ap (λ z. due-of depth-limit 0 ∷ z) (drop-of-length-le ys {i = due-limit} (omega arith))
-
-pub room-first : (xs : List ℕ) → xs ≡ due-of depth-limit 0 ∷ [] → Room xs
-room-first xs e = rw e (omega arith, tt)
 
 pub next-place : (r : Walked) (n : ℕ) → r ≡ At n → Inside r → n ≤ due-limit
 next-place r n e h = rw e at h

@@ -2,7 +2,7 @@
 use mathlib.Core.List.{List, [], _∷_, _++_, map}
 use mathlib.Core.Option.{Option, some, none}
 use mathlib.Core.Bool.{Bool, true, false}
-use Prim.Native.Nat.{ℕ, zero, suc, _+_, _-_, _*_, _/_, _%_, _≤_}
+use Prim.Native.Nat.{ℕ, zero, suc, _+_, _-_, _*_, _/_, _%_, _≤_, _<_}
 use lib.ListN.{length, drop}
 use Rattle.signature.specs.Limits.{argument-limit, depth-limit}
 use Rattle.signature.specs.Lists.{_>>=_}
@@ -27,12 +27,12 @@ deep-due x = x % due-depths
 abbrev pub due-limit : ℕ
 due-limit = 1 + (argument-limit - 1) * depth-limit
 
--- behind a value due stand at most three for each level above it
-abbrev pub Room : List ℕ → Type 0
-Room [] = Unit {0}
-Room (x ∷ xs) = (length xs ≤ (argument-limit - 1) * (depth-limit - deep-due x)) × Room xs
+-- the kind of a value due is one of n, and behind it stand at most three for each level above it
+abbrev pub Room : ℕ → List ℕ → Type 0
+Room n [] = Unit {0}
+Room n (x ∷ xs) = (length xs ≤ (argument-limit - 1) * (depth-limit - deep-due x)) × (kind-due x < n) × Room n xs
 
--- the constructor w stands for the first value due, and its arguments are due instead
+-- the head w stands for the first value due, and its arguments are due instead
 abbrev pub walk-at : Signature → ℕ → ℕ → ℕ → List ℕ → Option (List ℕ)
 walk-at sig k zero w xs = none
 walk-at sig k (suc d) w xs = arguments-at sig k w >>= λ ks. some (map (due-of d) ks ++ xs)

@@ -1,15 +1,17 @@
 // The booking check as one walk over the words. All that it keeps between two words is the values still due: they
 // stand at the end of a lent slice of 769 words, the next one in front.
 use signature::decoded;
+use signature::decoded::LAST_LEVEL;
+use signature::decoded::LEVEL_BASE;
 ghost use mathlib.Core.Path.{_≡_};
 ghost use mathlib.Core.List.{[], _∷_, _++_, map};
 ghost use Prim.Native.Nat.{_<_, _≤_};
 ghost use lib.ListN.{length, drop};
-ghost use Rattle.signature.specs.Decoded.{Known, Starts};
-ghost use Rattle.signature.specs.Limits.{argument-limit, depth-limit};
+ghost use Rattle.signature.specs.Decoded.{Known, Starts, kinds-of};
+ghost use Rattle.signature.specs.Limits.{argument-limit, depth-limit, level-base};
 ghost use Rattle.signature.specs.Lists.{is-some};
 ghost use Rattle.signature.specs.Read.{read-booking};
-ghost use Rattle.signature.specs.Signature.{arguments};
+ghost use Rattle.signature.specs.Signature.{arguments, arguments-at};
 ghost use Rattle.signature.specs.Value.{size};
 ghost use Rattle.booking.specs.Walk.{due-of, due-limit, Room, walk-word, still-due, Inside};
 
@@ -38,27 +40,52 @@ fn start(due: &mut [u16]) -> usize
 }
 
 // The arguments of c become due, the first in front.
-fn arguments_due(t: &[u16], due: &mut [u16], at: usize, c: usize, deep: u16) -> usize
+fn arguments_due(t: &[u16], due: &mut [u16], at: usize, c: u16, deep: u16) -> usize
     requires { ⌜ Known (now t) ⌝ }
     requires { ⌜ (length (now due) ≡ due-limit) × (at ≤ due-limit) × (argument-limit ≤ at) × (deep < depth-limit) ⌝ }
-    requires { ⌜ ((g : Known (now t)) → c < length (g .sig)) ⌝ }
+    requires { ⌜ ((g : Known (now t)) → c < level-base → c < length (g .sig)) ⌝ }
     ensures within { λ r. ⌜ r ≤ due-limit ⌝ }
     ensures added { λ r. ⌜ ((g : Known (now (t .entry))) → drop r (now (due .exit)) ≡ map (due-of deep) (arguments (g .sig) c) ++ drop at (now (due .entry))) ⌝ }
 {
-    let mut j = decoded::arity_of(t, c) as usize;
+    let mut j = decoded::head_arity(t, c) as usize;
     let mut top = at;
     while j > 0 {
         j -= 1;
         top -= 1;
-        due[top] = DUE_DEPTHS * decoded::argument_of(t, c, j) + deep;
+        due[top] = DUE_DEPTHS * decoded::argument_of(t, c as usize, j) + deep;
     }
     top
+}
+
+// Whether a word from 1,000 on may stand where a value of kind k is due: a level at a number kind.
+fn level_stands(t: &[u16], k: u16, w: u16) -> bool
+    requires { ⌜ Known (now t) × (k < kinds-of (now t)) × (level-base ≤ w) ⌝ }
+    ensures { λ r. ⌜ ((g : Known (now (t .entry))) → r ≡ is-some (arguments-at (g .sig) k w)) ⌝ }
+{
+    if w > LEVEL_BASE + LAST_LEVEL {
+        return false;
+    }
+    decoded::first_of(t, k as usize) == LEVEL_BASE
+}
+
+// Whether a word may stand where a value of kind k is due: a level, or a constructor of the kind.
+fn may_stand(t: &[u16], k: u16, w: u16) -> bool
+    requires { ⌜ Known (now t) × (k < kinds-of (now t)) ⌝ }
+    ensures { λ r. ⌜ ((g : Known (now (t .entry))) → r ≡ is-some (arguments-at (g .sig) k w)) ⌝ }
+{
+    if w >= LEVEL_BASE {
+        return level_stands(t, k, w);
+    }
+    if decoded::constructors_of(t) <= w {
+        return false;
+    }
+    decoded::kind_of(t, w as usize) == k
 }
 
 // One word of a booking.
 fn step(t: &[u16], due: &mut [u16], at: usize, w: u16) -> Walked
     requires { ⌜ Known (now t) ⌝ }
-    requires { ⌜ (length (now due) ≡ due-limit) × (at ≤ due-limit) × Room (drop at (now due)) ⌝ }
+    requires { ⌜ (length (now due) ≡ due-limit) × (at ≤ due-limit) × Room (kinds-of (now t)) (drop at (now due)) ⌝ }
     ensures within { λ r. ⌜ Inside r ⌝ }
     ensures walked { λ r. ⌜ ((g : Known (now (t .entry))) → still-due r (now (due .exit)) ≡ walk-word (g .sig) (drop at (now (due .entry))) w) ⌝ }
 {
@@ -70,14 +97,10 @@ fn step(t: &[u16], due: &mut [u16], at: usize, w: u16) -> Walked
     if deep == 0 {
         return Walked::Refused;
     }
-    if decoded::constructors_of(t) <= w {
+    if !may_stand(t, x / DUE_DEPTHS, w) {
         return Walked::Refused;
     }
-    let c = w as usize;
-    if decoded::kind_of(t, c) != x / DUE_DEPTHS {
-        return Walked::Refused;
-    }
-    Walked::At(arguments_due(t, due, at + 1, c, deep - 1))
+    Walked::At(arguments_due(t, due, at + 1, w, deep - 1))
 }
 
 // A lawful booking of the signature whose table is t.
@@ -109,8 +132,7 @@ pub fn span(t: &[u16], b: &[u16]) -> usize
     let mut left: usize = 1;
     let mut at = 0;
     while left > 0 {
-        let c = b[at] as usize;
-        left = left - 1 + decoded::arity_of(t, c) as usize;
+        left = left - 1 + decoded::head_arity(t, b[at]) as usize;
         at += 1;
     }
     at

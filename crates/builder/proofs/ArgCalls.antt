@@ -9,7 +9,7 @@ use lib.Dec.{ltb}
 use lib.ListN.{length, take, drop, length-append}
 use lib.Seq.{drop-at, length-take-le}
 use Rattle.signature.specs.Decoded.{arity-of, argument-of, count-of}
-use Rattle.signature.specs.Limits.{kind-limit}
+use Rattle.signature.specs.Limits.{kind-limit, heads-limit}
 use Rattle.sets.specs.Set.{bit}
 use Rattle.signature.specs.Signature.{Signature, arguments}
 use Rattle.signature.proofs.KnownFacts.{argument-is, argument-small}
@@ -20,6 +20,7 @@ use Rattle.builder.specs.Arguments.{GivenArgs, few-begun, HasFirst, word
 use Rattle.rowlist.specs.Next.{GivenNext}
 use Rattle.rowlist.specs.Sides.{rows-of, Open}
 use Rattle.builder.specs.Build.{GivenPat, Made}
+use Rattle.cell.specs.Cell.{cell-code}
 use Rattle.cell.specs.Coded.{kinds-of, row-code}
 use Rattle.rowlist.specs.Grow.{words-list, ListFirst}
 use Rattle.row.specs.Row.{open-row, rows-minus}
@@ -47,9 +48,9 @@ module _ {t : List ℕ} {c j : ℕ} {w : List ℕ} {b : Bool} {used : ℕ} {o : 
     view =
         next-arg (g .known .sig) b (g .known .decoded .n) arg (drop (j + 1) (arguments (g .known .sig) c)) (g .ks) (g .ps)
         (sym (g .kinds) ∙ drop-next j (arguments (g .known .sig) c) below ∙ ap (λ (k : ℕ). k ∷ drop (j + 1) (arguments (g .known .sig) c)) (sym (arg-is ∙ argument-is (g .known) c (g .head) j below)))
-        (g .well) (g .light) (g .there)
+        (g .well) (g .light) (g .ranges) (g .there)
 
-    pub few-of-kind : count-of t arg ≤ 64
+    pub few-of-kind : count-of t arg ≤ heads-limit
     few-of-kind = omega (arith, g .known .decoded .head-count arg (view .there), few-heads (g .known) arg (view .there))
 
     pub size-is : length (patterns-code (g .ps)) ≡ length (pattern-code (view .p)) + length (patterns-code (view .qs))
@@ -62,8 +63,8 @@ module _ {t : List ℕ} {c j : ℕ} {w : List ℕ} {b : Bool} {used : ℕ} {o : 
       opened : Open (kinds-of (g .known .sig)) (g .known .sig) arg (256 + arg) full
       opened = let q = open-kind (g .known) arg (view .there) in record { kind = q .kind; some = q .some; within = q .within; tag-is = refl; full-is = full-set (g .known) arg (view .there) full f }
 
-      pub wild-is : _≡_ {A = List ℕ} ((256 + arg) ∷ (0 ∷ (full ∷ []))) (row-code (kinds-of (g .known .sig)) (open-row (g .known .sig) arg) arg)
-      wild-is = ap₂ (λ (x y : ℕ). (256 + arg) ∷ (x ∷ (y ∷ []))) (sym (set-nil 0)) (opened .full-is)
+      pub wild-is : _≡_ {A = List ℕ} (cell-code (256 + arg) 0 full) (row-code (kinds-of (g .known .sig)) (open-row (g .known .sig) arg) arg)
+      wild-is = ap₂ (λ (x y : ℕ). cell-code (256 + arg) x y) (sym (set-nil 0)) (opened .full-is)
 
       pub arg-given : (k k' : ℕ) → k ≡ m - (used + 1) → k' ≡ length o → GivenPat t (256 + arg) full w b k k'
       arg-given k k' e e' = record {
@@ -75,6 +76,7 @@ module _ {t : List ℕ} {c j : ℕ} {w : List ℕ} {b : Bool} {used : ℕ} {o : 
         code-is = g .code-is ∙ ap (λ (z : Patterns). patterns-code z ++ g .rest) (view .parts-are) ∙ append-assoc (pattern-code (view .p)) (patterns-code (view .qs)) (g .rest);
         well = view .well;
         light = view .light;
+        ranges = view .ranges .0;
         opened = opened;
         room = omega (arith, e, begun-small g, size-is, g .work-room, g .some-words);
         work-room = omega (arith, e', size-is, g .room);

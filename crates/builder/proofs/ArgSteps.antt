@@ -13,6 +13,7 @@ use Rattle.signature.proofs.Booleans.{and-left, and-right}
 use Rattle.signature.proofs.KnownFacts.{arity-is}
 use Rattle.signature.proofs.Tests.{times-less}
 use Rattle.pattern.specs.Pattern.{Pattern, Patterns, pnil, pcons, patterns-code}
+use Rattle.pattern.specs.Ranged.{ranged, all-ranged}
 use Rattle.pattern.specs.Weight.{light-plus, light-minus, light-all-plus, light-all-minus}
 use Rattle.pattern.specs.WellFormed.{WellFormed, AllWellFormed, well-nil, well-cons}
 use Rattle.builder.specs.Arguments.{GivenArgs, MadeArgs, lights-of}
@@ -36,20 +37,21 @@ pub record NextArg (sig : Signature) (b : Bool) (n : ℕ) (ks : List ℕ) (ps : 
   pub wells : AllWellFormed sig js qs
   pub light : light-of b p ≡ true
   pub lights : lights-of b qs ≡ true
+  pub ranges : (ranged p ≡ true) × (all-ranged qs ≡ true)
   pub there : k < n
   pub theres : All (λ j. j < n) js
 
-pub next-arg : (sig : Signature) (b : Bool) (n k : ℕ) (js ks : List ℕ) (ps : Patterns) → ks ≡ k ∷ js → AllWellFormed sig ks ps → lights-of b ps ≡ true → All (λ j. j < n) ks → NextArg sig b n ks ps k js
-next-arg sig b n k js ks ps e h l a = go ps (subst (λ (z : List ℕ). AllWellFormed sig z ps) e h) l (subst (λ (z : List ℕ). All (λ j. j < n) z) e a)
+pub next-arg : (sig : Signature) (b : Bool) (n k : ℕ) (js ks : List ℕ) (ps : Patterns) → ks ≡ k ∷ js → AllWellFormed sig ks ps → lights-of b ps ≡ true → all-ranged ps ≡ true → All (λ j. j < n) ks → NextArg sig b n ks ps k js
+next-arg sig b n k js ks ps e h l r a = go ps (subst (λ (z : List ℕ). AllWellFormed sig z ps) e h) l r (subst (λ (z : List ℕ). All (λ j. j < n) z) e a)
   where
     split : (b : Bool) (p : Pattern) (qs : Patterns) → lights-of b (pcons p qs) ≡ true → (light-of b p ≡ true) × (lights-of b qs ≡ true)
     split true p qs z = (and-left (light-plus p) (light-all-plus qs) z, and-right (light-plus p) (light-all-plus qs) z)
     split false p qs z = (and-left (light-minus p) (light-all-minus qs) z, and-right (light-minus p) (light-all-minus qs) z)
 
-    go : (ps : Patterns) → AllWellFormed sig (k ∷ js) ps → lights-of b ps ≡ true → All (λ j. j < n) (k ∷ js) → NextArg sig b n ks ps k js
-    go (pcons p qs) (well-cons w ws) z (also i t ts) =
+    go : (ps : Patterns) → AllWellFormed sig (k ∷ js) ps → lights-of b ps ≡ true → all-ranged ps ≡ true → All (λ j. j < n) (k ∷ js) → NextArg sig b n ks ps k js
+    go (pcons p qs) (well-cons w ws) z r (also i t ts) =
         let y = split b p qs z in
-        record { p = p; qs = qs; kinds-are = e; parts-are = refl; well = w; wells = ws; light = y .0; lights = y .1; there = t; theres = ts }
+        record { p = p; qs = qs; kinds-are = e; parts-are = refl; well = w; wells = ws; light = y .0; lights = y .1; ranges = (and-left (ranged p) (all-ranged qs) r, and-right (ranged p) (all-ranged qs) r); there = t; theres = ts }
 
 pub drop-next : (j : ℕ) (l : List ℕ) → j < length l → drop j l ≡ getD l j 0 ∷ drop (j + 1) l
 drop-next j [] h = absurd (omega arith)

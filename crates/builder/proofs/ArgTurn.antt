@@ -18,6 +18,7 @@ use Rattle.builder.specs.Arguments.{GivenArgs, MadeArgs, few-begun, HasF
 use Rattle.rowlist.specs.Next.{GivenNextAt, next-made, next-rows}
 use Rattle.rowlist.specs.Sides.{rows-of}
 use Rattle.builder.specs.Build.{GivenPat, Made}
+use Rattle.cell.specs.Cell.{cell-code}
 use Rattle.cell.specs.Coded.{kinds-of, row-code}
 use Rattle.rowlist.specs.Grow.{words-list}
 use Rattle.rowlist.specs.Product.{Product}
@@ -71,10 +72,10 @@ module _ {t : List ℕ} {c j : ℕ} {w : List ℕ} {b : Bool} {used : ℕ} {o : 
   next-given n i = next-at b refl n i
 
   abbrev begun' : List (List ℕ)
-  begun' = next-rows b ((256 + arg) ∷ (0 ∷ (full ∷ []))) (g .begun) (words-of-rows (g .known .sig) arg (rows-of (g .known .sig) arg b (view g h arg arg-is .p)))
+  begun' = next-rows b (cell-code (256 + arg) 0 full) (g .begun) (words-of-rows (g .known .sig) arg (rows-of (g .known .sig) arg b (view g h arg arg-is .p)))
 
   next-list : (d : Bool) (z : b ≡ d) (n : ℕ) (i : n ≡ length o) → next-made d (256 + arg) full (back v (used + 1) ys) (used + 1) n (next-at d z n i)
-      ≡ words-list (next-rows d ((256 + arg) ∷ (0 ∷ (full ∷ []))) (g .begun) (words-of-rows (g .known .sig) arg (rows-of (g .known .sig) arg b (view g h arg arg-is .p))))
+      ≡ words-list (next-rows d (cell-code (256 + arg) 0 full) (g .begun) (words-of-rows (g .known .sig) arg (rows-of (g .known .sig) arg b (view g h arg arg-is .p))))
   unfolding next-at
   next-list true z n i = refl
   next-list false z n i = refl
@@ -85,7 +86,7 @@ module _ {t : List ℕ} {c j : ℕ} {w : List ℕ} {b : Bool} {used : ℕ} {o : 
     made-next = subst (λ (z : List ℕ). Product z r o') (next-list b refl n i) (f'' (next-given n i))
 
     few-next : few-begun b (length begun') (view g h arg arg-is .qs) × (length begun' ≤ 64)
-    few-next = next-few b (g .known .sig) arg (view g h arg arg-is .p) (view g h arg arg-is .qs) ((256 + arg) ∷ (0 ∷ (full ∷ []))) (g .begun) (g .first) (subst (λ (z : Patterns). few-begun b (length (g .begun)) z) (view g h arg arg-is .parts-are) (g .few))
+    few-next = next-few b (g .known .sig) arg (view g h arg arg-is .p) (view g h arg arg-is .qs) (cell-code (256 + arg) 0 full) (g .begun) (g .first) (subst (λ (z : Patterns). few-begun b (length (g .begun)) z) (view g h arg arg-is .parts-are) (g .few))
 
     pub rest-given : (m' : ℕ) → m' ≡ m → GivenArgs t c (j + 1) (from w read) b r o' m'
     rest-given m' z = record {
@@ -101,19 +102,20 @@ module _ {t : List ℕ} {c j : ℕ} {w : List ℕ} {b : Bool} {used : ℕ} {o : 
           from-is w read ∙ ap (drop read) q ∙ drop-at (pattern-code (view g h arg arg-is .p)) (patterns-code (view g h arg arg-is .qs) ++ g .rest) read (sym (made .read-is));
       well = view g h arg arg-is .wells;
       light = view g h arg arg-is .lights;
+      ranges = view g h arg arg-is .ranges .1;
       there = view g h arg arg-is .theres;
       begun = begun';
       list = made-next;
-      filled = next-filled b ((256 + arg) ∷ (0 ∷ (full ∷ []))) (g .begun) (words-of-rows (g .known .sig) arg (rows-of (g .known .sig) arg b (view g h arg arg-is .p))) (g .filled);
+      filled = next-filled b (cell-code (256 + arg) 0 full) (g .begun) (words-of-rows (g .known .sig) arg (rows-of (g .known .sig) arg b (view g h arg arg-is .p))) (g .filled);
       a = g .a + length (pattern-code (view g h arg arg-is .p));
       some-words = omega (arith, g .some-words);
       short =
           let x : 3 * (g .a + length (pattern-code (view g h arg arg-is .p))) ≡ 3 * g .a + 3 * length (pattern-code (view g h arg arg-is .p)) = omega arith in
-          rw x (next-short b (3 * g .a) (3 * length (pattern-code (view g h arg arg-is .p))) ((256 + arg) ∷ (0 ∷ (full ∷ []))) (g .begun) (words-of-rows (g .known .sig) arg (rows-of (g .known .sig) arg b (view g h arg arg-is .p))) (omega (arith, some-pattern-word (view g h arg arg-is .p))) (g .short)
+          rw x (next-short b (3 * g .a) (3 * length (pattern-code (view g h arg arg-is .p))) (cell-code (256 + arg) 0 full) (g .begun) (words-of-rows (g .known .sig) arg (rows-of (g .known .sig) arg b (view g h arg arg-is .p))) (omega (arith, some-pattern-word (view g h arg arg-is .p))) (g .short)
           (words-short (g .known .sig) arg (length (pattern-code (view g h arg arg-is .p))) (rows-places (g .known .sig) arg (view g h arg arg-is .p) b (view g h arg arg-is .well))));
       few = few-next .0;
       count = few-next .1;
-      first = next-first b ((256 + arg) ∷ (0 ∷ (full ∷ []))) (g .begun) (words-of-rows (g .known .sig) arg (rows-of (g .known .sig) arg b (view g h arg arg-is .p))) (g .first);
+      first = next-first b (cell-code (256 + arg) 0 full) (g .begun) (words-of-rows (g .known .sig) arg (rows-of (g .known .sig) arg b (view g h arg arg-is .p))) (g .first);
       room = omega (arith, size-is g h arg arg-is, g .room, same);
       work-room = omega (arith, size-is g h arg arg-is, g .work-room, z);
     }

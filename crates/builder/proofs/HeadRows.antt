@@ -1,32 +1,32 @@
 -- The rows of a constructor: the row that is begun, the arguments behind it, and on the minus side the row of the other heads.
-use borrow.Author.Tests.{ne-eqb}
 use mathlib.Core.Path.{_≡_, refl, ap, ap₂, _∙_, sym, subst}
 use mathlib.Core.List.{List, map, [], _∷_, _++_, append-nil}
 use mathlib.Core.Option.{some}
-use mathlib.Core.Bool.{Bool, true, false, not, cond, _&&_}
-use Prim.Native.Nat.{ℕ, suc, _+_, _-_, _^_, _≤_, _<_}
+use mathlib.Core.Bool.{Bool, true, false, not, cond}
+use Prim.Native.Nat.{ℕ, suc, _+_, _-_, _≤_, _<_}
 use native.Mathlib.Omega.{arith}
 use lib.Dec.{eqb, leb}
-use lib.ListN.{length, length-append, getD}
+use lib.ListN.{length, length-append}
 use Rattle.signature.specs.Decoded.{first-of, decoded-length}
-use Rattle.signature.specs.Limits.{kind-limit}
-use Rattle.signature.specs.Lists.{memb, keep, is-empty}
-use Rattle.sets.specs.Set.{set-limit, bit, set-of, Within}
+use Rattle.signature.specs.Limits.{kind-limit, heads-limit, level-base}
+use Rattle.signature.specs.Lists.{keep}
+use Rattle.sets.specs.Set.{bit, set-of, Within}
 use Rattle.signature.specs.Signature.{Signature, heads, arguments, arguments-at}
 use Rattle.signature.proofs.Booleans.{and-left, and-right}
 use Rattle.signature.proofs.Heads.{args-same}
 use Rattle.signature.proofs.KnownFacts.{words-of, is-constructor, long}
-use Rattle.signature.proofs.Members.{memb-keep}
-use Rattle.signature.proofs.Tests.{eqb-eq, eqb-ne, eqb-self, le-of, true≢false}
-use Rattle.pattern.specs.Pattern.{Pattern, head, and, or, wild, absurd-pat, neg, var, pattern-code, Patterns, patterns-code}
+use Rattle.signature.proofs.Tests.{le-of, true≢false}
+use Rattle.pattern.specs.Pattern.{Pattern, head, and, or, wild, absurd-pat, neg, var, range, pattern-code, Patterns, patterns-code}
+use Rattle.pattern.specs.Ranged.{ranged, all-ranged}
 use Rattle.pattern.specs.Weight.{product-plus, sum-minus, light-all-plus, light-all-minus}
 use Rattle.pattern.specs.WellFormed.{WellFormed, AllWellFormed, well-head}
 use Rattle.pattern.proofs.Opened.{shape}
+use Rattle.cell.specs.Cell.{cell-code}
 use Rattle.cell.specs.Coded.{kinds-of, row-code}
 use Rattle.cell.specs.RowList.{from, entries}
-use Rattle.sets.proofs.ListSets.{all-but, only-one, set-nil, set-some, within-keep}
+use Rattle.sets.proofs.ListSets.{all-but, only-one, set-nil, within-keep}
 use Rattle.cell.proofs.Walk.{each-append}
-use Rattle.row.specs.Row.{Rows, named, free, other-than, args-plus, args-minus}
+use Rattle.row.specs.Row.{Rows, named, other-than, args-plus, args-minus}
 use Rattle.rowlist.specs.Grow.{words-list, appends}
 use Rattle.rowlist.specs.Next.{GivenOthers, others-code}
 use Rattle.rowlist.specs.Product.{Product}
@@ -39,6 +39,7 @@ use Rattle.builder.specs.declared.build.Making.the-variants.{Head}
 use Rattle.builder.proofs.Behind.{list-words}
 use Rattle.builder.proofs.Building.{head-number, other-step}
 use Rattle.builder.proofs.Parts.{first-part, step-is}
+use Rattle.builder.proofs.Ranges.{allowing-list}
 
 -- a pattern whose first word is a constructor
 pub record HeadOf (sig : Signature) (k : ℕ) (p : Pattern) (b : Bool) (c : ℕ) : Type 0 where
@@ -47,29 +48,32 @@ pub record HeadOf (sig : Signature) (k : ℕ) (p : Pattern) (b : Bool) (c : ℕ)
   pub inside : arguments-at sig k c ≡ some (arguments sig c)
   pub wells : AllWellFormed sig (arguments sig c) ps
   pub light : lights-of b ps ≡ true
+  pub ranges : all-ranged ps ≡ true
+  pub constructor : c < level-base
   pub few : few-begun b 1 ps
 
 light-head : (b : Bool) (c : ℕ) (ps : Patterns) → light-of b (head c ps) ≡ true → (lights-of b ps ≡ true) × few-begun b 1 ps
 light-head true c ps l = (and-right (leb (product-plus ps) 64) (light-all-plus ps) l, omega (arith, le-of (product-plus ps) 64 (and-left (leb (product-plus ps) 64) (light-all-plus ps) l)))
 light-head false c ps l = (and-right (leb (suc (sum-minus ps)) 64) (light-all-minus ps) l, omega (arith, le-of (suc (sum-minus ps)) 64 (and-left (leb (suc (sum-minus ps)) 64) (light-all-minus ps) l)))
 
-head-of : (sig : Signature) (k : ℕ) (p : Pattern) (b : Bool) (c : ℕ) → WellFormed sig k p → light-of b p ≡ true → making-of (shape p) b ≡ Head c → HeadOf sig k p b c
-head-of sig k (head d ps) b c (well-head {ks = ks} i e h) l w =
+head-of : (sig : Signature) (k : ℕ) (p : Pattern) (b : Bool) (c : ℕ) → WellFormed sig k p → light-of b p ≡ true → ranged p ≡ true → making-of (shape p) b ≡ Head c → HeadOf sig k p b c
+head-of sig k (head d ps) b c (well-head {ks = ks} i e h) l r w =
     subst (HeadOf sig k (head d ps) b) (ap head-number w) (
     let q = args-same sig k d ks e in
     let y = light-head b d ps l in
-    record { ps = ps; p-is = refl; inside = e ∙ ap some (sym q); wells = subst (λ (js : List ℕ). AllWellFormed sig js ps) (sym q) h; light = y .0; few = y .1 })
-head-of sig k (and p q) true c h l w = other-step w (λ z. omega (arith, z))
-head-of sig k (and p q) false c h l w = other-step w (λ z. omega (arith, z))
-head-of sig k (or p q) true c h l w = other-step w (λ z. omega (arith, z))
-head-of sig k (or p q) false c h l w = other-step w (λ z. omega (arith, z))
-head-of sig k wild true c h l w = other-step w (λ z. omega (arith, z))
-head-of sig k wild false c h l w = other-step w (λ z. omega (arith, z))
-head-of sig k absurd-pat true c h l w = other-step w (λ z. omega (arith, z))
-head-of sig k absurd-pat false c h l w = other-step w (λ z. omega (arith, z))
-head-of sig k (neg p) b c h l w = other-step w (λ z. omega (arith, z))
-head-of sig k (var x) true c h l w = other-step w (λ z. omega (arith, z))
-head-of sig k (var x) false c h l w = other-step w (λ z. omega (arith, z))
+    record { ps = ps; p-is = refl; inside = e ∙ ap some (sym q); wells = subst (λ (js : List ℕ). AllWellFormed sig js ps) (sym q) h; light = y .0; ranges = r; constructor = omega (arith, i); few = y .1 })
+head-of sig k (and p q) true c h l r w = other-step w (λ z. omega (arith, z))
+head-of sig k (and p q) false c h l r w = other-step w (λ z. omega (arith, z))
+head-of sig k (or p q) true c h l r w = other-step w (λ z. omega (arith, z))
+head-of sig k (or p q) false c h l r w = other-step w (λ z. omega (arith, z))
+head-of sig k wild true c h l r w = other-step w (λ z. omega (arith, z))
+head-of sig k wild false c h l r w = other-step w (λ z. omega (arith, z))
+head-of sig k absurd-pat true c h l r w = other-step w (λ z. omega (arith, z))
+head-of sig k absurd-pat false c h l r w = other-step w (λ z. omega (arith, z))
+head-of sig k (neg p) b c h l r w = other-step w (λ z. omega (arith, z))
+head-of sig k (var x) true c h l r w = other-step w (λ z. omega (arith, z))
+head-of sig k (var x) false c h l r w = other-step w (λ z. omega (arith, z))
+head-of sig k (range low high) b c h l r w = other-step w (λ z. omega (arith, z))
 
 has-first : (b : Bool) (v : List ℕ) (vs : List (List ℕ)) → HasFirst b (v ∷ vs)
 has-first true v vs = tt
@@ -78,7 +82,7 @@ has-first false v vs = tt
 -- the words of its rows
 module _ (sig : Signature) (k c : ℕ) where
   abbrev pub begin : List ℕ
-  begin = c ∷ (set-of 0 [] ∷ (set-of (kinds-of sig .first k) (c ∷ []) ∷ []))
+  begin = cell-code c (set-of 0 []) (set-of (kinds-of sig .first k) (c ∷ []))
 
   named-words : (rss : List Rows) → appends begin (arg-words sig (arguments sig c) rss) ≡ words-of-rows sig k (map (named [] c) rss)
   named-words [] = refl
@@ -88,11 +92,7 @@ module _ (sig : Signature) (k c : ℕ) where
   named-list rss = ap words-list (named-words rss) ∙ list-words (kinds-of sig) k (map (named [] c) rss)
 
 pub other-list : (sig : Signature) (k c rest : ℕ) → Within (kinds-of sig .first k) (heads sig k) → rest ≡ set-of (kinds-of sig .first k) (keep (λ d. not (eqb c d)) (heads sig k)) → others-code (256 + k) rest ≡ entries (kinds-of sig) k (other-than sig k c)
-other-list sig k c rest w e = rw e (go (keep (λ d. not (eqb c d)) (heads sig k)) (within-keep _ (λ d. not (eqb c d)) (heads sig k) w))
-  where
-    go : (cs : List ℕ) → Within (kinds-of sig .first k) cs → others-code (256 + k) (set-of (kinds-of sig .first k) cs) ≡ entries (kinds-of sig) k (cond (is-empty cs) [] (free [] cs ∷ []))
-    go [] w = rw (set-nil (kinds-of sig .first k))
-    go (d ∷ ds) w = rw (ne-eqb _ 0 (set-some (kinds-of sig .first k) d ds w), set-nil 0)
+other-list sig k c rest w e = rw e (allowing-list sig k (keep (λ d. not (eqb c d)) (heads sig k)) (within-keep _ (λ d. not (eqb c d)) (heads sig k) w))
 
 -- what the calls ask and give
 module _ {t : List ℕ} {tag full c own : ℕ} {w : List ℕ} {b : Bool} {n m : ℕ} (g : GivenHead t tag full c own w b n m) where
@@ -100,7 +100,7 @@ module _ {t : List ℕ} {tag full c own : ℕ} {w : List ℕ} {b : Bool} {n m : 
   sig = g .pat .known .sig
 
   view : HeadOf (g .pat .known .sig) (g .pat .k) (g .pat .p) b c
-  view = head-of (g .pat .known .sig) (g .pat .k) (g .pat .p) b c (g .pat .well) (g .pat .light) (step-is (g .pat) (g .word))
+  view = head-of (g .pat .known .sig) (g .pat .k) (g .pat .p) b c (g .pat .well) (g .pat .light) (g .pat .ranges) (step-is (g .pat) (g .word))
 
   first-is : first-of t (tag - 256) ≡ kinds-of sig .first (g .pat .k)
   first-is = let z : tag - 256 ≡ g .pat .k = omega (arith, g .pat .opened .tag-is) in ap (first-of t) z ∙ g .pat .known .decoded .first-head (g .pat .k) (g .pat .there)
@@ -108,9 +108,9 @@ module _ {t : List ℕ} {tag full c own : ℕ} {w : List ℕ} {b : Bool} {n m : 
   size-is : length (pattern-code (g .pat .p)) ≡ 1 + length (patterns-code (view .ps))
   size-is = ap (λ (z : Pattern). length (pattern-code z)) (view .p-is) ∙ omega arith
 
-  pub head-place : (length t ≡ decoded-length) × (256 ≤ tag) × (tag < 256 + kind-limit) × (first-of t (tag - 256) ≤ c) × (c < first-of t (tag - 256) + set-limit)
+  pub head-place : (length t ≡ decoded-length) × (256 ≤ tag) × (tag < 256 + kind-limit) × (first-of t (tag - 256) ≤ c) × (c < first-of t (tag - 256) + heads-limit)
   head-place =
-      let h = known-head (g .pat .known) (g .pat .k) c _ (view .inside) in (
+      let h = known-head (g .pat .known) (g .pat .k) c _ (view .constructor) (view .inside) in (
         long (g .pat .known),
         omega (arith, g .pat .opened .tag-is),
         omega (arith, g .pat .opened .tag-is, g .pat .there, kinds-same (g .pat .known), words-of (g .pat .known) .few-kinds),
@@ -121,14 +121,14 @@ module _ {t : List ℕ} {tag full c own : ℕ} {w : List ℕ} {b : Bool} {n m : 
   pub head-room : 5 ≤ n
   head-room = omega (arith, g .pat .room, size-is)
 
-  module _ (i x used : ℕ) (o : List ℕ) (at : i ≡ c - first-of t (tag - 256)) (e : (j : ℕ) → bit x j ≡ cond (eqb j i) 1 0) (l : Product (3 ∷ (c ∷ (0 ∷ (x ∷ [])))) used o) (same : length o ≡ n) where
-    begin-is : begin sig (g .pat .k) c ≡ c ∷ (0 ∷ (x ∷ []))
-    begin-is = ap₂ (λ (a d : ℕ). c ∷ (a ∷ (d ∷ []))) (set-nil 0) (sym (only-one (kinds-of sig .first (g .pat .k)) c i x (at ∙ ap (λ (f : ℕ). c - f) first-is) e))
+  module _ (i x used : ℕ) (o : List ℕ) (at : i ≡ c - first-of t (tag - 256)) (e : (j : ℕ) → bit x j ≡ cond (eqb j i) 1 0) (l : Product (3 ∷ cell-code c 0 x) used o) (same : length o ≡ n) where
+    begin-is : begin sig (g .pat .k) c ≡ cell-code c 0 x
+    begin-is = ap₂ (λ (a d : ℕ). cell-code c a d) (set-nil 0) (sym (only-one (kinds-of sig .first (g .pat .k)) c i x (at ∙ ap (λ (f : ℕ). c - f) first-is) e))
 
     pub args-given : (m' : ℕ) → m' ≡ m → GivenArgs t c 0 (from w own) b used o m'
     args-given m' q = record {
       known = g .pat .known;
-      head = is-constructor (g .pat .known) (g .pat .k) c _ (view .inside);
+      head = is-constructor (g .pat .known) (g .pat .k) c _ (view .constructor) (view .inside);
       ks = arguments sig c;
       kinds = refl;
       ps = view .ps;
@@ -136,6 +136,7 @@ module _ {t : List ℕ} {tag full c own : ℕ} {w : List ℕ} {b : Bool} {n m : 
       code-is = first-part w c (patterns-code (view .ps)) (g .pat .rest) own (g .own-is) (g .pat .code-is ∙ ap (λ (z : Pattern). pattern-code z ++ g .pat .rest) (view .p-is));
       well = view .wells;
       light = view .light;
+      ranges = view .ranges;
       there = args-there (g .pat .known) (g .pat .k) c _ (view .inside);
       begun = begin sig (g .pat .k) c ∷ [];
       list = subst (λ (v : List ℕ). Product (words-list (v ∷ [])) used o) (sym begin-is) l;
@@ -198,7 +199,7 @@ module _ {t : List ℕ} {tag full c own : ℕ} {w : List ℕ} {b : Bool} {n m : 
           let k = g .pat .k in
           let R = map (named [] c) (args-minus sig (arguments sig c) (view .ps)) in
           let d : i ≡ c - K .first k = at ∙ ap (λ (j : ℕ). c - j) first-is in
-          let low : K .first k ≤ c = known-head (g .pat .known) k c _ (view .inside) .low in
+          let low : K .first k ≤ c = known-head (g .pat .known) k c _ (view .constructor) (view .inside) .low in
           let set : rest ≡ set-of (K .first k) (keep (λ d. not (eqb c d)) (heads sig k)) = all-but (K .first k) c (heads sig k) full rest (g .pat .opened .within) low (g .pat .opened .full-is) (λ j. h j ∙ ap (λ (i : ℕ). cond (eqb j i) 0 (bit full j)) d) in
           let one : others-code tag rest ≡ entries K k (other-than sig k c) = ap (λ (a : ℕ). others-code a rest) (g .pat .opened .tag-is) ∙ other-list sig k c rest (g .pat .opened .within) set in
           let all : others-code tag rest ++ words-list (others-given z m'' y .vs) ≡ entries K k (rows-of sig k b (g .pat .p)) =

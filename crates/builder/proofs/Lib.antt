@@ -6,5 +6,6 @@ pub mod Building
 pub mod HeadRows
 pub mod NextLists
 pub mod Parts
+pub mod Ranges
 pub mod Rooms
 pub mod Whole

@@ -1,25 +1,27 @@
 -- The parts of the pattern in front of the words, and what is made of their rows.
 use mathlib.Core.Path.{_≡_, _∙_, ap, ap₂, sym, subst}
 use mathlib.Core.List.{List, _∷_, _++_, append-assoc, []}
-use mathlib.Core.Bool.{Bool, not, true, false}
-use Prim.Native.Nat.{ℕ, _+_, _≤_, _-_, _<_}
+use mathlib.Core.Bool.{Bool, not}
+use Prim.Native.Nat.{ℕ, _+_, _≤_, _-_, _<_, _^_}
 use native.Mathlib.Numerals.{add-one}
 use native.Mathlib.Omega.{arith}
 use lib.ListN.{drop, length, length-append, length-take, take-append-drop, getD, length-drop, take}
 use lib.Seq.{drop-at, length-take-le, take-take, take-at}
-use Rattle.pattern.specs.Pattern.{Pattern, pattern-code, head, and, or, wild, absurd-pat, neg, var}
+use Rattle.pattern.specs.Pattern.{Pattern, pattern-code, and, range}
 use Rattle.pattern.specs.Read.{Form, form}
-use Rattle.pattern.proofs.Opened.{shape, code-word, code-split, word-form}
+use Rattle.pattern.proofs.Opened.{shape, code-split, word-form}
 use Rattle.pattern.proofs.PatternBack.{some-pattern-word}
-use Rattle.builder.specs.Build.{GivenPat, Made, making-of}
+use Rattle.pattern.specs.Word.{own-words}
+use Rattle.builder.specs.Build.{GivenPat, GivenRange, Made, making-of}
 use Rattle.builder.specs.declared.build.Making.{Making}
-use Rattle.builder.specs.declared.build.Making.the-variants.{Multiply, Add, One, Nothing, Swap}
+use Rattle.builder.specs.declared.build.Making.the-variants.{Multiply, Add, One, Nothing, Swap, Range}
 use Rattle.rowlist.specs.Sides.{rows-of}
+use Rattle.cell.specs.Cell.{cell-code, first-word}
 use Rattle.cell.specs.Coded.{row-code, kinds-of}
 use Rattle.rowlist.specs.Product.{Product, GivenProduct, products}
 use Rattle.row.specs.Row.{Row}
 use Rattle.cell.specs.RowList.{from, WrittenFirst, entries, list-code}
-use Rattle.builder.proofs.Building.{Negated, negated, Leaf, one-of, none-of, Two, Multiplied, multiplied, Added, added}
+use Rattle.builder.proofs.Building.{RangeOf, range-of, Negated, negated, Leaf, one-of, none-of, Two, Multiplied, multiplied, Added, added}
 use Rattle.builder.proofs.Rooms.{list-small, all-small, rows-places}
 use Rattle.rowlist.proofs.Typing.{typed-rows}
 use Rattle.cell.proofs.Walk.{from-is, back, part-back, each-append}
@@ -68,7 +70,7 @@ module _ {ar : List ℕ} {tag full : ℕ} {w : List ℕ} {b : Bool} {n m : ℕ} 
   -- not
   module _ (h : making-of (form (getD w 0 0)) b ≡ Swap) (own : ℕ) (own-is : own ≡ 1) where
     neg-view : Negated (g .known .sig) (g .k) (g .p) b
-    neg-view = negated (g .known .sig) (g .k) (g .p) b (g .well) (g .light) (step-is g h)
+    neg-view = negated (g .known .sig) (g .k) (g .p) b (g .well) (g .light) (g .ranges) (step-is g h)
 
     pub neg-given : GivenPat ar tag full (from w own) (not b) n m
     neg-given = record {
@@ -80,6 +82,7 @@ module _ {ar : List ℕ} {tag full : ℕ} {w : List ℕ} {b : Bool} {n m : ℕ} 
       code-is = first-part w 260 (pattern-code (neg-view .q)) (g .rest) own own-is (g .code-is ∙ ap (λ (l : List ℕ). l ++ g .rest) (neg-view .code-is));
       well = neg-view .well;
       light = neg-view .light;
+      ranges = neg-view .ranges;
       opened = g .opened;
       room = omega (arith, g .room, ap length (neg-view .code-is));
       work-room = omega (arith, g .work-room, ap length (neg-view .code-is));
@@ -105,17 +108,17 @@ module _ {ar : List ℕ} {tag full : ℕ} {w : List ℕ} {b : Bool} {n m : ℕ} 
   leaf-made : {ws : List ℕ} → LeafOf ws → (used own : ℕ) (o : List ℕ) → own ≡ 1 → Product ws used o → Result g used own o
   leaf-made e used own o own-is p = record { read-is = own-is ∙ sym (e .short); list = subst (λ (z : List ℕ). Product z used o) (e .rows-is) p }
 
-  one-view : (v : ℕ) → making-of (form (getD w 0 0)) b ≡ One v → LeafOf (3 ∷ (tag ∷ (v ∷ (full ∷ []))))
+  one-view : (v : ℕ) → making-of (form (getD w 0 0)) b ≡ One v → LeafOf (3 ∷ cell-code tag v full) × (v < 65536)
   one-view v h = one-of (kinds-of (g .known .sig)) (g .known .sig) (g .k) tag full (g .opened) (g .p) b v (g .well) (step-is g h)
 
   none-view : making-of (form (getD w 0 0)) b ≡ Nothing → LeafOf []
   none-view h = none-of (kinds-of (g .known .sig)) (g .known .sig) (g .k) tag full (g .opened) (g .p) b (step-is g h)
 
-  pub one-given : (v : ℕ) → making-of (form (getD w 0 0)) b ≡ One v → 5 ≤ n
-  one-given v h = leaf-room (one-view v h)
+  pub one-given : (v : ℕ) → making-of (form (getD w 0 0)) b ≡ One v → (5 ≤ n) × (first-word tag v < 2 ^ 64)
+  one-given v h = (leaf-room (one-view v h .0), omega (arith, one-view v h .1, g .opened .tag-is, g .opened .kind))
 
-  pub one-made : (v : ℕ) → making-of (form (getD w 0 0)) b ≡ One v → (used own : ℕ) (o : List ℕ) → own ≡ 1 → Product (3 ∷ (tag ∷ (v ∷ (full ∷ [])))) used o → Result g used own o
-  one-made v h = leaf-made (one-view v h)
+  pub one-made : (v : ℕ) → making-of (form (getD w 0 0)) b ≡ One v → (used own : ℕ) (o : List ℕ) → own ≡ 1 → Product (3 ∷ cell-code tag v full) used o → Result g used own o
+  one-made v h = leaf-made (one-view v h .0)
 
   pub none-given : making-of (form (getD w 0 0)) b ≡ Nothing → 1 ≤ n
   none-given h = omega (arith, leaf-room (none-view h))
@@ -123,11 +126,38 @@ module _ {ar : List ℕ} {tag full : ℕ} {w : List ℕ} {b : Bool} {n m : ℕ} 
   pub none-made : making-of (form (getD w 0 0)) b ≡ Nothing → (used own : ℕ) (o : List ℕ) → own ≡ 1 → Product [] used o → Result g used own o
   none-made h = leaf-made (none-view h)
 
+  -- a range
+  module _ (h : making-of (form (getD w 0 0)) b ≡ Range) where
+    range-view : RangeOf (g .known .sig) (g .k) (g .p)
+    range-view = range-of (g .known .sig) (g .k) (g .p) b (g .well) (g .ranges) (step-is g h)
+
+    pub range-given : GivenRange tag full w n
+    range-given = record {
+      sig = g .known .sig;
+      k = g .k;
+      low = range-view .low;
+      high = range-view .high;
+      rest = g .rest;
+      code-is = g .code-is ∙ ap (λ (p : Pattern). pattern-code p ++ g .rest) (range-view .p-is);
+      number = range-view .number;
+      right = range-view .right;
+      opened = g .opened;
+      room = omega (arith, g .room, ap (λ (p : Pattern). length (pattern-code p)) (range-view .p-is));
+    }
+
+    pub range-made : (used own : ℕ) (o : List ℕ) → own ≡ own-words (form (getD w 0 0))
+        → ((q : GivenRange tag full w n) → Product (entries (kinds-of (q .sig)) (q .k) (rows-of (q .sig) (q .k) b (range (q .low) (q .high)))) used o) → Result g used own o
+    unfolding range-given
+    range-made used own o e f = record {
+      read-is = e ∙ ap own-words (shape-is g ∙ ap shape (range-view .p-is)) ∙ ap (λ (p : Pattern). length (pattern-code p)) (sym (range-view .p-is));
+      list = subst (λ (p : Pattern). Product (entries (kinds-of (g .known .sig)) (g .k) (rows-of (g .known .sig) (g .k) b p)) used o) (sym (range-view .p-is)) (f range-given);
+    }
+
 module _ {ar : List ℕ} {tag full : ℕ} {w : List ℕ} {b : Bool} {n m : ℕ} (g : GivenPat ar tag full w b n m) where
   -- two parts that are multiplied: the first in the workspace, the second behind it
   module _ (h : making-of (form (getD w 0 0)) b ≡ Multiply) (own : ℕ) (own-is : own ≡ 1) where
     mult-view : Multiplied (g .known .sig) (g .k) (g .p) b
-    mult-view = multiplied (g .known .sig) (g .k) (g .p) b (g .well) (g .light) (step-is g h)
+    mult-view = multiplied (g .known .sig) (g .k) (g .p) b (g .well) (g .light) (g .ranges) (step-is g h)
 
     abbrev mult-two : Two (g .known .sig) (g .k) (g .p) b
     mult-two = mult-view .two
@@ -148,6 +178,7 @@ module _ {ar : List ℕ} {tag full : ℕ} {w : List ℕ} {b : Bool} {n m : ℕ} 
       code-is = first-part w _ (pattern-code (mult-two .q) ++ pattern-code (mult-two .r)) (g .rest) own own-is mult-code ∙ append-assoc (pattern-code (mult-two .q)) (pattern-code (mult-two .r)) (g .rest);
       well = mult-two .well .0;
       light = mult-two .light .0;
+      ranges = mult-two .ranges .0;
       opened = g .opened;
       room = omega (arith, g .work-room, mult-length);
       work-room = omega (arith, g .room, mult-length);
@@ -176,6 +207,7 @@ module _ {ar : List ℕ} {tag full : ℕ} {w : List ℕ} {b : Bool} {n m : ℕ} 
         code-is = second-part w _ (pattern-code (mult-two g h own own-is .q)) (pattern-code (mult-two g h own own-is .r)) (g .rest) read own own-is (mult-code g h own own-is) (mult-made-first .read-is);
         well = mult-two g h own own-is .well .1;
         light = mult-two g h own own-is .light .1;
+        ranges = mult-two g h own own-is .ranges .1;
         opened = g .opened;
         room =
             let z : m' ≡ m - (used + 1) = i ∙ ap length (from-is o (used + 1)) ∙ length-drop (used + 1) o ∙ ap (λ (x : ℕ). x - (used + 1)) l in
@@ -231,7 +263,7 @@ module _ {ar : List ℕ} {tag full : ℕ} {w : List ℕ} {b : Bool} {n m : ℕ} 
   -- two parts that are added: the second behind the first
   module _ (h : making-of (form (getD w 0 0)) b ≡ Add) (own : ℕ) (own-is : own ≡ 1) where
     add-view : Added (g .known .sig) (g .k) (g .p) b
-    add-view = added (g .known .sig) (g .k) (g .p) b (g .well) (g .light) (step-is g h)
+    add-view = added (g .known .sig) (g .k) (g .p) b (g .well) (g .light) (g .ranges) (step-is g h)
 
     abbrev add-two : Two (g .known .sig) (g .k) (g .p) b
     add-two = add-view .two
@@ -252,6 +284,7 @@ module _ {ar : List ℕ} {tag full : ℕ} {w : List ℕ} {b : Bool} {n m : ℕ} 
       code-is = first-part w _ (pattern-code (add-two .q) ++ pattern-code (add-two .r)) (g .rest) own own-is add-code ∙ append-assoc (pattern-code (add-two .q)) (pattern-code (add-two .r)) (g .rest);
       well = add-two .well .0;
       light = add-two .light .0;
+      ranges = add-two .ranges .0;
       opened = g .opened;
       room = omega (arith, g .room, add-length);
       work-room = omega (arith, g .work-room, add-length);
@@ -280,6 +313,7 @@ module _ {ar : List ℕ} {tag full : ℕ} {w : List ℕ} {b : Bool} {n m : ℕ} 
         code-is = second-part w _ (pattern-code (add-two g h own own-is .q)) (pattern-code (add-two g h own own-is .r)) (g .rest) read own own-is (add-code g h own own-is) (add-made-first .read-is);
         well = add-two g h own own-is .well .1;
         light = add-two g h own own-is .light .1;
+        ranges = add-two g h own own-is .ranges .1;
         opened = g .opened;
         room =
             let z : n' ≡ n - used = i ∙ ap length (from-is o used) ∙ length-drop used o ∙ ap (λ (x : ℕ). x - used) l in

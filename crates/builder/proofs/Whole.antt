@@ -7,8 +7,8 @@ use native.Mathlib.Omega.{arith}
 use lib.Dec.{ltb}
 use lib.ListN.{length, drop, length-append}
 use Rattle.signature.specs.Decoded.{count-of, decoded-length}
-use Rattle.signature.specs.Limits.{kind-limit}
-use Rattle.sets.specs.Set.{set-limit, bit}
+use Rattle.signature.specs.Limits.{kind-limit, heads-limit}
+use Rattle.sets.specs.Set.{bit}
 use Rattle.signature.proofs.KnownFacts.{long, words-of}
 use Rattle.signature.proofs.Tests.{times-less}
 use Rattle.pattern.specs.Pattern.{pattern-code}
@@ -24,7 +24,7 @@ use Rattle.builder.proofs.Rooms.{entries-le, rows-places}
 
 -- a part
 module _ {t w : List ℕ} {k n m : ℕ} {b : Bool} (g : GivenPart t k w b n m) where
-  pub part-known : (length t ≡ decoded-length) × (k < kind-limit) × (count-of t k ≤ set-limit)
+  pub part-known : (length t ≡ decoded-length) × (k < kind-limit) × (count-of t k ≤ heads-limit)
   part-known = (
     long (g .known),
     omega (arith, g .there, kinds-same (g .known), words-of (g .known) .few-kinds),
@@ -44,6 +44,7 @@ module _ {t w : List ℕ} {k n m : ℕ} {b : Bool} (g : GivenPart t k w b n m) w
           code-is = g .words;
           well = g .well;
           light = g .light;
+          ranges = g .ranges;
           opened = record { kind = q .kind; some = q .some; within = q .within; tag-is = refl; full-is = full-set (g .known) k (g .there) full f };
           room = g .room;
           work-room = g .work-room;
@@ -66,6 +67,7 @@ module _ {t w : List ℕ} {n m : ℕ} (g : GivenWhole t w n m) where
         words = sym (append-nil (pattern-code (g .p)) ∙ g .words .is-code);
         well = g .words .well-formed;
         light = g .light;
+        ranges = g .ranges;
         room = omega (arith, s, g .words .at-most, g .room);
         work-room = omega (arith, s, g .words .at-most, g .work-room);
       }

@@ -9,6 +9,7 @@ use Rattle.signature.specs.Lists.{All}
 use Rattle.signature.specs.Signature.{Signature, arguments}
 use Rattle.pattern.specs.Limits.{part-weight-limit}
 use Rattle.pattern.specs.Pattern.{Patterns, patterns-code}
+use Rattle.pattern.specs.Ranged.{all-ranged}
 use Rattle.pattern.specs.Weight.{product-plus, sum-minus, light-all-plus, light-all-minus}
 use Rattle.pattern.specs.WellFormed.{AllWellFormed}
 use Rattle.builder.specs.Build.{room-unit}
@@ -61,6 +62,7 @@ pub record GivenArgs (t : List ℕ) (c j : ℕ) (w : List ℕ) (b : Bool) (used 
   pub code-is : w ≡ patterns-code ps ++ rest
   pub well : AllWellFormed (known .sig) ks ps
   pub light : lights-of b ps ≡ true
+  pub ranges : all-ranged ps ≡ true
   pub there : All (λ k. k < known .decoded .n) ks
   pub begun : List (List ℕ)
   pub list : Product (words-list begun) used o

@@ -5,16 +5,17 @@ use mathlib.Core.Bool.{Bool, true, false}
 use Prim.Native.Nat.{ℕ, _<_, _+_, _*_, _≤_}
 use lib.ListN.{length, getD}
 use Rattle.signature.specs.Decoded.{Known}
-use Rattle.signature.specs.Signature.{Signature}
-use Rattle.pattern.specs.Pattern.{Pattern, pattern-code}
+use Rattle.signature.specs.Signature.{Signature, is-number-kind}
+use Rattle.pattern.specs.Pattern.{Pattern, range, pattern-code}
 use Rattle.pattern.specs.Limits.{pattern-limit}
-use Rattle.pattern.specs.Read.{Form, form, is-head, is-var, is-and, is-or, is-wild, is-absurd, is-not, is-other}
+use Rattle.pattern.specs.Read.{Form, form, is-head, is-var, is-and, is-or, is-wild, is-absurd, is-not, is-range, is-other}
+use Rattle.pattern.specs.Range.{right-range}
+use Rattle.pattern.specs.Ranged.{ranged}
 use Rattle.pattern.specs.Weight.{light-plus, light-minus, weight-plus}
 use Rattle.pattern.specs.WellFormed.{WellFormed, PatternWords}
-use Rattle.pattern.specs.Word.{own-words}
 use Rattle.sets.specs.Set.{set-of}
 use Rattle.builder.specs.declared.build.Making.{Making}
-use Rattle.builder.specs.declared.build.Making.the-variants.{Head, Multiply, Add, One, Nothing, Swap}
+use Rattle.builder.specs.declared.build.Making.the-variants.{Head, Multiply, Add, One, Nothing, Swap, Range}
 use Rattle.cell.specs.Cell.{Kinds, cell-width}
 use Rattle.cell.specs.Coded.{kinds-of}
 use Rattle.rowlist.specs.Product.{Product}
@@ -44,6 +45,7 @@ making-of is-absurd false = One 0
 making-of is-not b = Swap
 making-of (is-var x) true = One (set-of 0 (x ∷ []))
 making-of (is-var x) false = Nothing
+making-of is-range b = Range
 making-of is-other b = Nothing
 
 -- the pattern in front of the words, and room for what is built
@@ -56,6 +58,7 @@ pub record GivenPat (t : List ℕ) (tag full : ℕ) (w : List ℕ) (b : Bool) (n
   pub code-is : w ≡ pattern-code p ++ rest
   pub well : WellFormed (known .sig) k p
   pub light : light-of b p ≡ true
+  pub ranges : ranged p ≡ true
   pub opened : Open (kinds-of (known .sig)) (known .sig) k tag full
   pub room : room-unit * length (pattern-code p) ≤ n
   pub work-room : room-unit * length (pattern-code p) ≤ m
@@ -64,19 +67,32 @@ pub record GivenPat (t : List ℕ) (tag full : ℕ) (w : List ℕ) (b : Bool) (n
 pub record GivenHead (t : List ℕ) (tag full c own : ℕ) (w : List ℕ) (b : Bool) (n m : ℕ) : Type 0 where
   pub pat : GivenPat t tag full w b n m
   pub word : making-of (form (getD w 0 0)) b ≡ Head c
-  pub own-is : own ≡ own-words (form (getD w 0 0))
+  pub own-is : own ≡ 1
 
 -- the pattern in front is two parts whose rows are multiplied
 pub record GivenMultiplied (t : List ℕ) (tag full own : ℕ) (w : List ℕ) (b : Bool) (n m : ℕ) : Type 0 where
   pub pat : GivenPat t tag full w b n m
   pub word : making-of (form (getD w 0 0)) b ≡ Multiply
-  pub own-is : own ≡ own-words (form (getD w 0 0))
+  pub own-is : own ≡ 1
 
 -- the pattern in front is two parts whose rows are added
 pub record GivenAdded (t : List ℕ) (tag full own : ℕ) (w : List ℕ) (b : Bool) (n m : ℕ) : Type 0 where
   pub pat : GivenPat t tag full w b n m
   pub word : making-of (form (getD w 0 0)) b ≡ Add
-  pub own-is : own ≡ own-words (form (getD w 0 0))
+  pub own-is : own ≡ 1
+
+-- a range in front of the words, at a number kind with its tag and the set of its heads
+pub record GivenRange (tag full : ℕ) (w : List ℕ) (n : ℕ) : Type 0 where
+  pub sig : Signature
+  pub k : ℕ
+  pub low : ℕ
+  pub high : ℕ
+  pub rest : List ℕ
+  pub code-is : w ≡ pattern-code (range low high) ++ rest
+  pub number : is-number-kind sig k ≡ true
+  pub right : right-range low high ≡ true
+  pub opened : Open (kinds-of sig) sig k tag full
+  pub room : 5 ≤ n
 
 -- what was read and written
 pub record Made (K : Kinds) (sig : Signature) (k : ℕ) (b : Bool) (p : Pattern) (used read : ℕ) (o : List ℕ) : Type 0 where
@@ -92,10 +108,11 @@ pub record GivenPart (t : List ℕ) (k : ℕ) (w : List ℕ) (b : Bool) (n m : �
   pub words : w ≡ pattern-code pattern ++ rest
   pub well : WellFormed (known .sig) k pattern
   pub light : light-of b pattern ≡ true
+  pub ranges : ranged pattern ≡ true
   pub room : room-unit * length (pattern-code pattern) ≤ n
   pub work-room : room-unit * length (pattern-code pattern) ≤ m
 
--- a whole pattern, of kind 0, that passed 7 and 9
+-- a whole pattern, of kind 0, that passed 7, 18 and 9
 -- words of each slice: for a pattern of 64 words
 abbrev pub row-room : ℕ
 row-room = pattern-limit * room-unit
@@ -105,6 +122,7 @@ pub record GivenWhole (t ws : List ℕ) (n m : ℕ) : Type 0 where
   pub p : Pattern
   pub words : PatternWords (known .sig) ws p
   pub light : light-plus p ≡ true
+  pub ranges : ranged p ≡ true
   pub room : row-room ≤ n
   pub work-room : row-room ≤ m
 

@@ -1,6 +1,8 @@
 // The rows of a pattern.
 use cell::cell::CELL;
+use cell::cell::Cell;
 use cell::cell::KIND_TAG;
+use cell::cell::put;
 use pattern::token::Word;
 use pattern::token::classify;
 use pattern::token::own_words;
@@ -8,9 +10,13 @@ use products::product::product;
 use rowlist::grow::copy;
 use rowlist::next::next_rows;
 use rowlist::next::others;
-use sets::set::full;
-use sets::set::only;
-use sets::set::without;
+use sets::heads::Heads;
+use sets::heads::between;
+use sets::heads::full;
+use sets::heads::is_empty;
+use sets::heads::minus;
+use sets::heads::only;
+use sets::heads::without;
 use signature::decoded::argument_of;
 use signature::decoded::arity_of;
 use signature::decoded::count_of;
@@ -18,22 +24,24 @@ use signature::decoded::first_of;
 ghost use mathlib.Core.Path.{_≡_};
 ghost use mathlib.Core.Bool.{true, false, cond};
 ghost use mathlib.Core.List.{[], _∷_};
-ghost use Prim.Native.Nat.{ℕ, _+_, _-_, _≤_, _<_};
+ghost use Prim.Native.Nat.{ℕ, _+_, _-_, _≤_, _<_, _^_};
 ghost use lib.Dec.{ltb};
 ghost use lib.ListN.{length};
 ghost use Rattle.signature.specs.Decoded.{decoded-length, count-of, first-of};
 ghost use Rattle.signature.specs.Limits.{kind-limit, heads-limit};
 ghost use Rattle.sets.specs.Set.{bit};
-ghost use Rattle.pattern.specs.Pattern.{patterns-code};
+ghost use Rattle.sets.specs.Heads.{number-of};
+ghost use Rattle.pattern.specs.Pattern.{patterns-code, range};
 ghost use Rattle.pattern.specs.Word.{form-of, var-small};
-ghost use Rattle.cell.specs.Cell.{cell-width, kind-tag};
+ghost use Rattle.cell.specs.Cell.{cell-width, cell-code, first-word, kind-tag};
 ghost use Rattle.cell.specs.Coded.{kinds-of};
 ghost use Rattle.cell.specs.RowList.{entries, from};
 ghost use Rattle.rowlist.specs.Product.{GivenProduct, Product, products};
+ghost use Rattle.rowlist.specs.Sides.{rows-of};
 ghost use Rattle.builder.specs.Arguments.{GivenArgs, MadeArgs};
-ghost use Rattle.builder.specs.Build.{making-of, GivenPat, GivenHead, GivenMultiplied, GivenAdded, Made, GivenPart, GivenWhole, RowsFirst};
+ghost use Rattle.builder.specs.Build.{making-of, GivenPat, GivenHead, GivenMultiplied, GivenAdded, GivenRange, Made, GivenPart, GivenWhole, RowsFirst};
 
-// How the rows of a pattern are made on one side: a constructor's; the products of its two parts' rows; both parts' rows; one row of one cell, with these variables; none; its part's on the other side.
+// How the rows of a pattern are made on one side: a constructor's; the products of its two parts' rows; both parts' rows; one row of one cell, with these variables; none; its part's on the other side; those of a range.
 pub enum Making {
     Head(u16),
     Multiply,
@@ -41,17 +49,17 @@ pub enum Making {
     One(u64),
     Nothing,
     Swap,
+    Range,
 }
 
 // A list of one row of one cell.
-fn one(tag: u64, vars: u64, full: u64, out: &mut [u64]) -> usize
-    requires { ⌜ 5 ≤ length (now out) ⌝ }
-    ensures { λ r. ⌜ Product (cell-width ∷ (tag ∷ (vars ∷ (full ∷ [])))) r (now (out .exit)) ⌝ }
+fn one(tag: u64, vars: u64, allowed: Heads, out: &mut [u64]) -> usize
+    requires { ⌜ (5 ≤ length (now out)) × (first-word tag vars < 2 ^ 64) ⌝ }
+    ensures { λ r. ⌜ Product (cell-width ∷ cell-code tag vars (number-of allowed)) r (now (out .exit)) ⌝ }
 {
     out[0] = CELL as u64;
-    out[1] = tag;
-    out[2] = vars;
-    out[3] = full;
+    let cell = Cell { tag, vars, allowed };
+    put(out, 1, cell);
     out[4] = 0;
     4
 }
@@ -65,6 +73,22 @@ fn nothing(out: &mut [u64]) -> usize
     0
 }
 
+// The list of the row of a range of levels, whose ends are behind the first word of p: those in it, or on the minus side all others, if there are any.
+fn range_rows(tag: u64, full: Heads, p: &[u16], plus: bool, out: &mut [u64]) -> usize
+    requires { ⌜ GivenRange tag (number-of full) (now p) (length (now out)) ⌝ }
+    ensures { λ r. ⌜ ((g : GivenRange tag (number-of full) (now (p .entry)) (length (now (out .entry)))) → Product (entries (kinds-of (g .sig)) (g .k) (rows-of (g .sig) (g .k) plus (range (g .low) (g .high)))) r (now (out .exit))) ⌝ }
+{
+    let set = between(p[1] as u32, p[2] as u32);
+    if plus {
+        return one(tag, 0, set, out);
+    }
+    let rest = minus(full, set);
+    if is_empty(rest) {
+        return nothing(out);
+    }
+    one(tag, 0, rest, out)
+}
+
 fn plus_making(w: Word) -> Making
     requires { ⌜ var-small (form-of w) ⌝ }
     ensures { λ r. ⌜ r ≡ making-of (form-of w) true ⌝ }
@@ -76,7 +100,8 @@ fn plus_making(w: Word) -> Making
         Word::Wild => Making::One(0),
         Word::Absurd => Making::Nothing,
         Word::Not => Making::Swap,
-        Word::Var(x) => Making::One(only(x as u32)),
+        Word::Var(x) => Making::One(sets::set::only(x as u32)),
+        Word::Range => Making::Range,
         Word::Other => Making::Nothing,
     }
 }
@@ -92,6 +117,7 @@ fn minus_making(w: Word) -> Making
         Word::Absurd => Making::One(0),
         Word::Not => Making::Swap,
         Word::Var(_x) => Making::Nothing,
+        Word::Range => Making::Range,
         Word::Other => Making::Nothing,
     }
 }
@@ -116,9 +142,9 @@ fn times(t: &[u16], lists: &[u64], at: usize, out: &mut [u64]) -> usize
 }
 
 // The set of all heads of a kind.
-fn full_of(t: &[u16], k: usize) -> u64
+fn full_of(t: &[u16], k: usize) -> Heads
     requires { ⌜ (length (now t) ≡ decoded-length) × (k < kind-limit) × (count-of (now t) k ≤ heads-limit) ⌝ }
-    ensures { λ r. ⌜ ((j : ℕ) → bit r j ≡ cond (ltb j (count-of (now (t .entry)) k)) 1 0) ⌝ }
+    ensures { λ r. ⌜ ((j : ℕ) → bit (number-of r) j ≡ cond (ltb j (count-of (now (t .entry)) k)) 1 0) ⌝ }
 {
     full(count_of(t, k) as u32)
 }
@@ -145,14 +171,14 @@ pub struct Built {
 pub fn rows(
     t: &[u16],
     tag: u64,
-    full: u64,
+    full: Heads,
     p: &[u16],
     plus: bool,
     out: &mut [u64],
     work: &mut [u64],
 ) -> Built
-    requires { ⌜ GivenPat (now t) tag full (now p) plus (length (now out)) (length (now work)) ⌝ }
-    ensures { λ r. ⌜ ((g : GivenPat (now (t .entry)) tag full (now (p .entry)) plus (length (now (out .entry))) (length (now (work .entry)))) → Made (kinds-of (g .known .sig)) (g .known .sig) (g .k) plus (g .p) (r .used) (r .read) (now (out .exit))) ⌝ }
+    requires { ⌜ GivenPat (now t) tag (number-of full) (now p) plus (length (now out)) (length (now work)) ⌝ }
+    ensures { λ r. ⌜ ((g : GivenPat (now (t .entry)) tag (number-of full) (now (p .entry)) plus (length (now (out .entry))) (length (now (work .entry)))) → Made (kinds-of (g .known .sig)) (g .known .sig) (g .k) plus (g .p) (r .used) (r .read) (now (out .exit))) ⌝ }
 {
     let w = classify(p[0]);
     let own = own_words(w);
@@ -174,6 +200,10 @@ pub fn rows(
             let read = a.read + own;
             Built { used: a.used, read }
         }
+        Making::Range => {
+            let used = range_rows(tag, full, p, plus, out);
+            Built { used, read: own }
+        }
     }
 }
 
@@ -181,15 +211,15 @@ pub fn rows(
 fn multiplied(
     t: &[u16],
     tag: u64,
-    full: u64,
+    full: Heads,
     own: usize,
     p: &[u16],
     plus: bool,
     out: &mut [u64],
     work: &mut [u64],
 ) -> Built
-    requires { ⌜ GivenMultiplied (now t) tag full own (now p) plus (length (now out)) (length (now work)) ⌝ }
-    ensures { λ r. ⌜ ((g : GivenMultiplied (now (t .entry)) tag full own (now (p .entry)) plus (length (now (out .entry))) (length (now (work .entry)))) → Made (kinds-of (g .pat .known .sig)) (g .pat .known .sig) (g .pat .k) plus (g .pat .p) (r .used) (r .read) (now (out .exit))) ⌝ }
+    requires { ⌜ GivenMultiplied (now t) tag (number-of full) own (now p) plus (length (now out)) (length (now work)) ⌝ }
+    ensures { λ r. ⌜ ((g : GivenMultiplied (now (t .entry)) tag (number-of full) own (now (p .entry)) plus (length (now (out .entry))) (length (now (work .entry)))) → Made (kinds-of (g .pat .known .sig)) (g .pat .known .sig) (g .pat .k) plus (g .pat .p) (r .used) (r .read) (now (out .exit))) ⌝ }
 {
     let a = rows(t, tag, full, &p[own..], plus, work, out);
     let from = a.read + own;
@@ -204,15 +234,15 @@ fn multiplied(
 fn added(
     t: &[u16],
     tag: u64,
-    full: u64,
+    full: Heads,
     own: usize,
     p: &[u16],
     plus: bool,
     out: &mut [u64],
     work: &mut [u64],
 ) -> Built
-    requires { ⌜ GivenAdded (now t) tag full own (now p) plus (length (now out)) (length (now work)) ⌝ }
-    ensures { λ r. ⌜ ((g : GivenAdded (now (t .entry)) tag full own (now (p .entry)) plus (length (now (out .entry))) (length (now (work .entry)))) → Made (kinds-of (g .pat .known .sig)) (g .pat .known .sig) (g .pat .k) plus (g .pat .p) (r .used) (r .read) (now (out .exit))) ⌝ }
+    requires { ⌜ GivenAdded (now t) tag (number-of full) own (now p) plus (length (now out)) (length (now work)) ⌝ }
+    ensures { λ r. ⌜ ((g : GivenAdded (now (t .entry)) tag (number-of full) own (now (p .entry)) plus (length (now (out .entry))) (length (now (work .entry)))) → Made (kinds-of (g .pat .known .sig)) (g .pat .known .sig) (g .pat .k) plus (g .pat .p) (r .used) (r .read) (now (out .exit))) ⌝ }
 {
     let a = rows(t, tag, full, &p[own..], plus, out, work);
     let from = a.read + own;
@@ -227,7 +257,7 @@ fn added(
 fn head_rows(
     t: &[u16],
     tag: u64,
-    full: u64,
+    full: Heads,
     head: u16,
     own: usize,
     p: &[u16],
@@ -235,8 +265,8 @@ fn head_rows(
     out: &mut [u64],
     work: &mut [u64],
 ) -> Built
-    requires { ⌜ GivenHead (now t) tag full head own (now p) plus (length (now out)) (length (now work)) ⌝ }
-    ensures { λ r. ⌜ ((g : GivenHead (now (t .entry)) tag full head own (now (p .entry)) plus (length (now (out .entry))) (length (now (work .entry)))) → Made (kinds-of (g .pat .known .sig)) (g .pat .known .sig) (g .pat .k) plus (g .pat .p) (r .used) (r .read) (now (out .exit))) ⌝ }
+    requires { ⌜ GivenHead (now t) tag (number-of full) head own (now p) plus (length (now out)) (length (now work)) ⌝ }
+    ensures { λ r. ⌜ ((g : GivenHead (now (t .entry)) tag (number-of full) head own (now (p .entry)) plus (length (now (out .entry))) (length (now (work .entry)))) → Made (kinds-of (g .pat .known .sig)) (g .pat .known .sig) (g .pat .k) plus (g .pat .p) (r .used) (r .read) (now (out .exit))) ⌝ }
 {
     let c = head as usize;
     let i = place_of(t, tag, c);

@@ -10,8 +10,8 @@ use lib.ListN.{length, replicate}
 use Rattle.cell.specs.declared.cell.Cell.{Cell}
 use Rattle.signature.specs.Decoded.{decoded-length, arity-of}
 use Rattle.signature.specs.Limits.{heads-limit}
-use Rattle.cell.specs.Cell.{RowsCells, no-cells, more-cells, RowCells, named-cells, free-cell, all-words, Kinds, words}
-use Rattle.cell.specs.Cursor.{wild-cell}
+use Rattle.cell.specs.Cell.{RowsCells, no-cells, more-cells, RowCells, named-cells, free-cell, all-words, Kinds, words, cell-code}
+use Rattle.cell.specs.Cursor.{wild-cell, cell-of}
 
 abbrev pub count : RowsCells → ℕ
 count no-cells = 0
@@ -30,10 +30,10 @@ gate m o = cond (eqb m 0) none o
 -- the words of two rows as one; none where it is dropped
 abbrev mutual
   pub both : RowCells → RowCells → Option (List ℕ)
-  both (named-cells c v m rs) (named-cells d w n ss) = gate (bitAnd m n) (then (some (c ∷ (bitOr v w ∷ (bitAnd m n ∷ [])))) (boths rs ss))
-  both (named-cells c v m rs) (free-cell t w n) = gate (bitAnd m n) (some (c ∷ (bitOr v w ∷ (bitAnd m n ∷ all-words rs))))
-  both (free-cell t v m) (named-cells d w n ss) = gate (bitAnd m n) (some (d ∷ (bitOr v w ∷ (bitAnd m n ∷ all-words ss))))
-  both (free-cell t v m) (free-cell u w n) = gate (bitAnd m n) (some (t ∷ (bitOr v w ∷ (bitAnd m n ∷ []))))
+  both (named-cells c v m rs) (named-cells d w n ss) = gate (bitAnd m n) (then (some (cell-code c (bitOr v w) (bitAnd m n))) (boths rs ss))
+  both (named-cells c v m rs) (free-cell t w n) = gate (bitAnd m n) (some (cell-code c (bitOr v w) (bitAnd m n) ++ all-words rs))
+  both (free-cell t v m) (named-cells d w n ss) = gate (bitAnd m n) (some (cell-code d (bitOr v w) (bitAnd m n) ++ all-words ss))
+  both (free-cell t v m) (free-cell u w n) = gate (bitAnd m n) (some (cell-code t (bitOr v w) (bitAnd m n)))
 
   pub boths : RowsCells → RowsCells → Option (List ℕ)
   boths no-cells no-cells = some []
@@ -76,8 +76,8 @@ pub data Col : Type 0 where
 
 abbrev pub column-cell : Col → Cell
 column-cell wild = wild-cell
-column-cell (real (named-cells c v m rs)) = record { tag = c; vars = v; allowed = m }
-column-cell (real (free-cell t v m)) = record { tag = t; vars = v; allowed = m }
+column-cell (real (named-cells c v m rs)) = cell-of c v m
+column-cell (real (free-cell t v m)) = cell-of t v m
 
 abbrev pub reals : RowsCells → List Col
 reals no-cells = []

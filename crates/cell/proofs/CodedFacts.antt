@@ -10,7 +10,7 @@ use lib.Bits.{bitAnd, and-comm, bitOr}
 use lib.Dec.{eqb}
 use Rattle.signature.specs.Lists.{is-empty, memb, keep, _>>=_, require}
 use Rattle.signature.proofs.Tests.{true≢false, eqb-eq}
-use Rattle.cell.specs.Cell.{Kinds, all-words}
+use Rattle.cell.specs.Cell.{Kinds, all-words, cell-code}
 use Rattle.cell.specs.Coded.{Typed, cells, Typeds, all-cells, HeadOfKind, row-code-of}
 use Rattle.sets.specs.Set.{Within, set-of}
 use Rattle.row.specs.Row.{Row, named, free, Rows, rnil, rcons, combines, combine}
@@ -73,7 +73,7 @@ module _ (K : Kinds) (ar : List ℕ) (k : ℕ) where
   one-of c h = (h .low, h .high, tt)
 
   named-rest : (zs : List ℕ) (c : ℕ) (m : Option Rows)
-      → then (some (c ∷ (set-of 0 zs ∷ (set-of (K .first k) (c ∷ []) ∷ [])))) (codes-of K (K .args c) m) ≡ row-code-of K k (m >>= λ ts. some (named zs c ts))
+      → then (some (cell-code c (set-of 0 zs) (set-of (K .first k) (c ∷ [])))) (codes-of K (K .args c) m) ≡ row-code-of K k (m >>= λ ts. some (named zs c ts))
   named-rest zs c none = refl
   named-rest zs c (some ts) = refl
 
@@ -82,26 +82,26 @@ module _ (K : Kinds) (ar : List ℕ) (k : ℕ) where
       → (b : Bool) → eqb c d ≡ b → both (cells K (named xs c rs) k) (cells K (named ys d ss) k) ≡ row-code-of K k (combine (named xs c rs) (named ys d ss))
   same-nn xs ys c d rs ss h g t u ih true e =
       let q : c ≡ d = eqb-eq c d e in
-      both-gate (K .first k) (c ∷ []) (d ∷ []) (c ∷ []) (λ m. then (some (c ∷ (bitOr (set-of 0 xs) (set-of 0 ys) ∷ (m ∷ [])))) (boths (all-cells K rs (K .args c)) (all-cells K ss (K .args d))))
+      both-gate (K .first k) (c ∷ []) (d ∷ []) (c ∷ []) (λ m. then (some (cell-code c (bitOr (set-of 0 xs) (set-of 0 ys)) m)) (boths (all-cells K rs (K .args c)) (all-cells K ss (K .args d))))
       (one-of c h) (one-of d g) (rw e)
-      ∙ ap (λ (n : ℕ). then (some (c ∷ (bitOr (set-of 0 xs) (set-of 0 ys) ∷ (set-of (K .first k) (c ∷ []) ∷ [])))) (boths (all-cells K rs (K .args c)) (all-cells K ss (K .args n)))) (sym q)
-      ∙ ap₂ (λ (v : ℕ) (o : Option (List ℕ)). then (some (c ∷ (v ∷ (set-of (K .first k) (c ∷ []) ∷ [])))) o) (sym (set-append 0 xs ys)) (ih (K .args c) t (subst (λ (n : ℕ). Typeds K ar ss (K .args n)) (sym q) u))
+      ∙ ap (λ (n : ℕ). then (some (cell-code c (bitOr (set-of 0 xs) (set-of 0 ys)) (set-of (K .first k) (c ∷ [])))) (boths (all-cells K rs (K .args c)) (all-cells K ss (K .args n)))) (sym q)
+      ∙ ap₂ (λ (v : ℕ) (o : Option (List ℕ)). then (some (cell-code c v (set-of (K .first k) (c ∷ [])))) o) (sym (set-append 0 xs ys)) (ih (K .args c) t (subst (λ (n : ℕ). Typeds K ar ss (K .args n)) (sym q) u))
       ∙ named-rest (xs ++ ys) c (combines rs ss)
       ∙ (rw e)
   same-nn xs ys c d rs ss h g t u ih false e =
-      both-gate (K .first k) (c ∷ []) (d ∷ []) [] (λ m. then (some (c ∷ (bitOr (set-of 0 xs) (set-of 0 ys) ∷ (m ∷ [])))) (boths (all-cells K rs (K .args c)) (all-cells K ss (K .args d))))
+      both-gate (K .first k) (c ∷ []) (d ∷ []) [] (λ m. then (some (cell-code c (bitOr (set-of 0 xs) (set-of 0 ys)) m)) (boths (all-cells K rs (K .args c)) (all-cells K ss (K .args d))))
       (one-of c h) (one-of d g) (rw e)
       ∙ (rw e)
 
   same-nf : (xs ys : List ℕ) (c : ℕ) (ds : List ℕ) (rs : Rows) → HeadOfKind K ar k c → Within (K .first k) ds
       → (b : Bool) → memb c ds ≡ b → both (cells K (named xs c rs) k) (cells K (free ys ds) k) ≡ row-code-of K k (combine (named xs c rs) (free ys ds))
   same-nf xs ys c ds rs h w b e =
-      both-gate (K .first k) (c ∷ []) ds (cond b (c ∷ []) []) (λ m. some (c ∷ (bitOr (set-of 0 xs) (set-of 0 ys) ∷ (m ∷ all-words (all-cells K rs (K .args c))))))
+      both-gate (K .first k) (c ∷ []) ds (cond b (c ∷ []) []) (λ m. some (cell-code c (bitOr (set-of 0 xs) (set-of 0 ys)) m ++ all-words (all-cells K rs (K .args c))))
       (one-of c h) w (keep-one c ds b e)
       ∙ go b e
     where
       go : (b : Bool) → memb c ds ≡ b
-          → cond (is-empty (cond b (c ∷ []) [])) none (some (c ∷ (bitOr (set-of 0 xs) (set-of 0 ys) ∷ (set-of (K .first k) (cond b (c ∷ []) []) ∷ all-words (all-cells K rs (K .args c))))))
+          → cond (is-empty (cond b (c ∷ []) [])) none (some (cell-code c (bitOr (set-of 0 xs) (set-of 0 ys)) (set-of (K .first k) (cond b (c ∷ []) [])) ++ all-words (all-cells K rs (K .args c))))
           ≡ row-code-of K k (combine (named xs c rs) (free ys ds))
       go true e = rw (e, set-append 0 xs ys)
       go false e = rw e
@@ -109,22 +109,22 @@ module _ (K : Kinds) (ar : List ℕ) (k : ℕ) where
   same-fn : (xs ys : List ℕ) (d : ℕ) (cs : List ℕ) (ss : Rows) → HeadOfKind K ar k d → Within (K .first k) cs
       → (b : Bool) → memb d cs ≡ b → both (cells K (free xs cs) k) (cells K (named ys d ss) k) ≡ row-code-of K k (combine (free xs cs) (named ys d ss))
   same-fn xs ys d cs ss h w b e =
-      flip-gate (K .first k) d cs (cond b (d ∷ []) []) (λ m. some (d ∷ (bitOr (set-of 0 xs) (set-of 0 ys) ∷ (m ∷ all-words (all-cells K ss (K .args d))))))
+      flip-gate (K .first k) d cs (cond b (d ∷ []) []) (λ m. some (cell-code d (bitOr (set-of 0 xs) (set-of 0 ys)) m ++ all-words (all-cells K ss (K .args d))))
       w (one-of d h) (keep-one d cs b e)
       ∙ go b e
     where
       go : (b : Bool) → memb d cs ≡ b
-          → cond (is-empty (cond b (d ∷ []) [])) none (some (d ∷ (bitOr (set-of 0 xs) (set-of 0 ys) ∷ (set-of (K .first k) (cond b (d ∷ []) []) ∷ all-words (all-cells K ss (K .args d))))))
+          → cond (is-empty (cond b (d ∷ []) [])) none (some (cell-code d (bitOr (set-of 0 xs) (set-of 0 ys)) (set-of (K .first k) (cond b (d ∷ []) [])) ++ all-words (all-cells K ss (K .args d))))
           ≡ row-code-of K k (combine (free xs cs) (named ys d ss))
       go true e = rw (e, set-append 0 xs ys)
       go false e = rw e
 
   same-ff : (xs ys cs ds : List ℕ) → Within (K .first k) cs → Within (K .first k) ds → both (cells K (free xs cs) k) (cells K (free ys ds) k) ≡ row-code-of K k (combine (free xs cs) (free ys ds))
   same-ff xs ys cs ds w z =
-      both-gate (K .first k) cs ds (keep (λ c. memb c ds) cs) (λ m. some ((256 + k) ∷ (bitOr (set-of 0 xs) (set-of 0 ys) ∷ (m ∷ [])))) w z refl
+      both-gate (K .first k) cs ds (keep (λ c. memb c ds) cs) (λ m. some (cell-code (256 + k) (bitOr (set-of 0 xs) (set-of 0 ys)) m)) w z refl
       ∙ go (keep (λ c. memb c ds) cs)
     where
-      go : (es : List ℕ) → cond (is-empty es) none (some ((256 + k) ∷ (bitOr (set-of 0 xs) (set-of 0 ys) ∷ (set-of (K .first k) es ∷ [])))) ≡ row-code-of K k (require (not (is-empty es)) >>= λ u. some (free (xs ++ ys) es))
+      go : (es : List ℕ) → cond (is-empty es) none (some (cell-code (256 + k) (bitOr (set-of 0 xs) (set-of 0 ys)) (set-of (K .first k) es))) ≡ row-code-of K k (require (not (is-empty es)) >>= λ u. some (free (xs ++ ys) es))
       go [] = refl
       go (e ∷ es) = rw (set-append 0 xs ys)
 

@@ -3,15 +3,15 @@ use borrow.Author.Tests.{lt-ltb, le-ltb}
 use mathlib.Core.Path.{_≡_, ap, sym, _∙_, refl}
 use mathlib.Core.List.{List, _++_, _∷_, append-assoc}
 use mathlib.Core.Bool.{cond}
-use Prim.Native.Nat.{ℕ, _≤_, _<_, _+_, zero, suc, _*_, _-_}
+use Prim.Native.Nat.{ℕ, _≤_, _<_, _+_, zero, suc, _*_, _-_, _/_, _%_}
 use native.Mathlib.Nat.{add-zero, zero-add, suc-add}
 use native.Mathlib.Omega.{arith}
 use lib.Dec.{ltb}
 use lib.ListN.{drop, length, getD, length-drop, replicate}
 use lib.Seq.{getD-drop, drop-drop}
 use Rattle.cell.specs.declared.cell.Cursor.{Cursor}
-use Rattle.cell.specs.Cell.{named-cells, free-cell, RowsCells, all-words, no-cells, more-cells, words}
-use Rattle.cell.specs.Cursor.{wild-cell, cell-at, look-at, Room, next-of}
+use Rattle.cell.specs.Cell.{named-cells, free-cell, RowsCells, all-words, no-cells, more-cells, words, cell-code, first-word, tag-limit}
+use Rattle.cell.specs.Cursor.{wild-cell, cell-at, cell-of, look-at, Room, next-of}
 use Rattle.cell.proofs.CellFacts.{Col, Lead, flat, wild, real, reals, column-cell, enter}
 
 -- the columns that are left of the row whose words begin a
@@ -25,7 +25,7 @@ pub record Stands (a : List ℕ) (at wildcards : ℕ) (xs : List Col) : Type 0 w
 abbrev pub Tagged : Col → Type 0
 Tagged wild = Unit {0}
 Tagged (real (named-cells c v m rs)) = c < 256
-Tagged (real (free-cell t v m)) = 256 ≤ t
+Tagged (real (free-cell t v m)) = (256 ≤ t) × (t < 512)
 
 -- how many words its cell has
 abbrev pub wide : Col → ℕ
@@ -49,6 +49,23 @@ three-at a at x y z w e = record {
   room = omega (arith, length-drop at a, ap length e);
 }
 
+-- the words of a cell at a place
+first-tag : (t v : ℕ) → t < tag-limit → first-word t v % tag-limit ≡ t
+first-tag t v h = omega (arith, h)
+
+first-vars : (t v : ℕ) → t < tag-limit → first-word t v / tag-limit ≡ v
+first-vars t v h = omega (arith, h)
+
+pub record CellAt (a : List ℕ) (at t v m : ℕ) (w : List ℕ) : Type 0 where
+  pub cell : cell-at a at ≡ cell-of t v m
+  pub after : drop (at + 3) a ≡ w
+  pub room : at + 3 ≤ length a
+
+pub cell-there : (a : List ℕ) (at t v m : ℕ) (w : List ℕ) → t < tag-limit → drop at a ≡ cell-code t v m ++ w → CellAt a at t v m w
+cell-there a at t v m w l e =
+    let h = three-at a at _ _ _ w e in
+    record { cell = rw (h .one, h .two, h .three, first-tag t v l, first-vars t v l); after = h .after; room = h .room }
+
 pub flat-reals : (rs : RowsCells) (xs : List Col) → flat (reals rs ++ xs) ≡ all-words rs ++ flat xs
 flat-reals no-cells xs = refl
 flat-reals (more-cells r rs) xs = ap (λ (l : List ℕ). words r ++ l) (flat-reals rs xs) ∙ sym (append-assoc (words r) (all-words rs) (flat xs))
@@ -66,24 +83,24 @@ lead-reals no-cells xs h = h
 lead-reals (more-cells r rs) xs h = lead-reals rs xs h
 
 -- what a cursor sees is the first column's cell
-look-is : (a : List ℕ) (at wildcards : ℕ) (x : Col) (xs : List Col) (rest : List ℕ) → Lead wildcards (x ∷ xs) → drop at a ≡ flat (x ∷ xs) ++ rest
+look-is : (a : List ℕ) (at wildcards : ℕ) (x : Col) (xs : List Col) (rest : List ℕ) → Lead wildcards (x ∷ xs) → drop at a ≡ flat (x ∷ xs) ++ rest → Tagged x
     → cond (ltb 0 wildcards) wild-cell (cell-at a at) ≡ column-cell x
-look-is a at zero wild xs rest l e = absurd l
-look-is a at (suc v) wild xs rest l e = rw (lt-ltb 0 (suc v) (omega arith))
-look-is a at zero (real (named-cells c v m rs)) xs rest l e = let t = three-at a at c v m _ e in rw (t .one, t .two, t .three)
-look-is a at zero (real (free-cell c v m)) xs rest l e = let t = three-at a at c v m _ e in rw (t .one, t .two, t .three)
-look-is a at (suc v) (real r) xs rest l e = absurd l
+look-is a at zero wild xs rest l e g = absurd l
+look-is a at (suc v) wild xs rest l e g = rw (lt-ltb 0 (suc v) (omega arith))
+look-is a at zero (real (named-cells c v m rs)) xs rest l e g = cell-there a at c v m _ (omega (arith, g)) e .cell
+look-is a at zero (real (free-cell c v m)) xs rest l e g = cell-there a at c v m _ (omega (arith, g .1)) e .cell
+look-is a at (suc v) (real r) xs rest l e g = absurd l
 
-pub look-col : (a : List ℕ) (c : Cursor) (x : Col) (xs : List Col) → Stands a (c .at) (c .wildcards) (x ∷ xs) → look-at a c ≡ column-cell x
-look-col a c x xs s = look-is a (c .at) (c .wildcards) x xs (s .rest) (s .lead) (s .code)
+pub look-col : (a : List ℕ) (c : Cursor) (x : Col) (xs : List Col) → Stands a (c .at) (c .wildcards) (x ∷ xs) → Tagged x → look-at a c ≡ column-cell x
+look-col a c x xs s g = look-is a (c .at) (c .wildcards) x xs (s .rest) (s .lead) (s .code) g
 
 -- it has a cell to see
 room-is : (a : List ℕ) (at wildcards : ℕ) (x : Col) (xs : List Col) (rest : List ℕ) → Lead wildcards (x ∷ xs) → drop at a ≡ flat (x ∷ xs) ++ rest → at ≤ length a
     → (at + wide x ≤ length a) × (at + 3 ≤ length a + 3 * wildcards)
 room-is a at zero wild xs rest l e w = absurd l
 room-is a at (suc v) wild xs rest l e w = omega arith
-room-is a at zero (real (named-cells c v m rs)) xs rest l e w = let t = three-at a at c v m _ e in omega (arith, t .room)
-room-is a at zero (real (free-cell c v m)) xs rest l e w = let t = three-at a at c v m _ e in omega (arith, t .room)
+room-is a at zero (real (named-cells c v m rs)) xs rest l e w = let t = three-at a at _ _ _ _ e in omega (arith, t .room)
+room-is a at zero (real (free-cell c v m)) xs rest l e w = let t = three-at a at _ _ _ _ e in omega (arith, t .room)
 room-is a at (suc v) (real r) xs rest l e w = absurd l
 
 pub room-col : (a : List ℕ) (c : Cursor) (x : Col) (xs : List Col) → Stands a (c .at) (c .wildcards) (x ∷ xs) → (c .at + wide x ≤ length a) × Room a c
@@ -103,7 +120,7 @@ step-is a at (suc v) n wild xs rest l e w g = rw (lt-ltb 0 (suc v) (omega arith)
   },
 )
 step-is a at zero n (real (named-cells c v m rs)) xs rest l e w g =
-    let t = three-at a at c v m _ e in
+    let t = three-at a at _ _ _ _ e in
     rw (lt-ltb c 256 g) (
       refl,
       record {
@@ -114,8 +131,8 @@ step-is a at zero n (real (named-cells c v m rs)) xs rest l e w g =
       },
     )
 step-is a at zero n (real (free-cell c v m)) xs rest l e w g =
-    let t = three-at a at c v m _ e in
-    rw (le-ltb c 256 g) (
+    let t = three-at a at _ _ _ _ e in
+    rw (le-ltb c 256 (g .0)) (
       refl,
       record {
         rest = rest;

@@ -9,12 +9,14 @@ use lib.Bits.{bitAnd, and-comm, bitOr, or-zero-r, or-zero-l}
 use lib.ListN.{length, replicate, length-append, length-replicate}
 use lib.Pow.{pow-pos}
 use Rattle.signature.specs.Decoded.{decoded-length}
-use Rattle.cell.specs.Cell.{words, Kinds, RowsCells, no-cells, more-cells, all-words, named-cells, free-cell, RowCells}
-use Rattle.cell.specs.Cursor.{opens-of, join-of}
+use Rattle.cell.specs.Cell.{words, Kinds, RowsCells, no-cells, more-cells, all-words, named-cells, free-cell, RowCells, cell-code}
+use Rattle.cell.specs.Cursor.{opens-of, join-of, cell-of}
 use Rattle.cell.proofs.CellFacts.{Col, wild, real, then, both, Of, Head, Ofs, reals, boths, enter, column-cell, Free, flat}
 use Rattle.cell.proofs.Columns.{wide, Tagged}
-use Rattle.cell.proofs.CursorFacts.{cell-words}
-use Rattle.cell.proofs.Gates.{then-assoc, gate-some, three-words, pos-zero}
+use Rattle.cell.proofs.CursorFacts.{cell-words, joined-heads, joined-words}
+use Rattle.cell.proofs.Gates.{then-assoc, gate-some, same-cell, pos-zero}
+use Rattle.sets.specs.Heads.{number-of}
+use Rattle.sets.specs.Set.{all-set}
 use Rattle.sets.proofs.ListSets.{among-all, powers-meet}
 
 -- the words of the columns as one; where a side has no cell, the other's
@@ -86,8 +88,18 @@ module _ (K : Kinds) (ar : List ℕ) where
     pub same : meet (x ∷ xs) (y ∷ ys) ≡ then (some (cell-words (join-of (column-cell x) (column-cell y)))) (meet (enter x n ++ xs) (enter y n ++ ys))
 
 -- one head, and the words of what stands below it on one side only
-one-side : (c v m : ℕ) (w : List ℕ) (M N : Option (List ℕ)) → N ≡ then (some w) M → then (some (c ∷ (v ∷ (m ∷ w)))) M ≡ then (some (c ∷ (v ∷ (m ∷ [])))) N
-one-side c v m w M N e = rw e (then-assoc (some (c ∷ (v ∷ (m ∷ [])))) (some w) M)
+one-side : (c v m : ℕ) (w : List ℕ) (M N : Option (List ℕ)) → N ≡ then (some w) M → then (some (cell-code c v m ++ w)) M ≡ then (some (cell-code c v m)) N
+one-side c v m w M N e = rw e (then-assoc (some (cell-code c v m)) (some w) M)
+
+-- the words of two cells as one
+as-joined : (t v m u w p : ℕ) (L M : Option (List ℕ)) → L ≡ then (some (cell-code (min t u) (bitOr v w) (bitAnd m p))) M → L ≡ then (some (cell-words (join-of (cell-of t v m) (cell-of u w p)))) M
+as-joined t v m u w p L M e = e ∙ ap (λ (z : List ℕ). then (some z) M) (sym (joined-words t v m u w p))
+
+some-heads : (t v m u w p : ℕ) → ¬ (number-of (join-of (cell-of t v m) (cell-of u w p) .allowed) ≡ 0) → ¬ (bitAnd m p ≡ 0)
+some-heads t v m u w p a e = a (joined-heads t v m u w p ∙ e)
+
+no-heads : (t v m u w p : ℕ) → number-of (join-of (cell-of t v m) (cell-of u w p) .allowed) ≡ 0 → bitAnd m p ≡ 0
+no-heads t v m u w p a = sym (joined-heads t v m u w p) ∙ a
 
 module _ (K : Kinds) (ar : List ℕ) where
   -- two one-bit sets of a kind that meet are one constructor's
@@ -104,8 +116,8 @@ module _ (K : Kinds) (ar : List ℕ) where
       let i = kids-both K ar rs ss (K .args c) xs ys o (rw (← same) at q) r in
       record {
         pair = i .0;
-        same = rw (t, gate-some (bitAnd m p) (then (some (c ∷ (bitOr v w ∷ (bitAnd m p ∷ [])))) (boths rs ss)) a, i .1)
-            (then-assoc (some (c ∷ (bitOr v w ∷ (bitAnd m p ∷ [])))) (boths rs ss) (meet xs ys));
+        same = as-joined c v m d w p _ (meet (reals rs ++ xs) (reals ss ++ ys)) (rw (t, gate-some (bitAnd m p) (then (some (cell-code c (bitOr v w) (bitAnd m p))) (boths rs ss)) a, i .1)
+            (then-assoc (some (cell-code c (bitOr v w) (bitAnd m p))) (boths rs ss) (meet xs ys)));
       }
 
   -- named on the left, not on the right
@@ -117,7 +129,7 @@ module _ (K : Kinds) (ar : List ℕ) where
       let i = kids-left K ar rs (K .args c) xs ys o r in
       record {
         pair = rw l (i .0);
-        same = rw (l, q, gate-some (bitAnd m p) (some (c ∷ (bitOr v w ∷ (bitAnd m p ∷ all-words rs)))) a) (one-side c (bitOr v w) (bitAnd m p) (all-words rs) (meet xs ys) _ (i .1));
+        same = rw l (as-joined c v m t w p _ (meet (reals rs ++ xs) (replicate (length (K .args c)) wild ++ ys)) (rw (q, gate-some (bitAnd m p) (some (cell-code c (bitOr v w) (bitAnd m p) ++ all-words rs)) a) (one-side c (bitOr v w) (bitAnd m p) (all-words rs) (meet xs ys) _ (i .1))));
       }
 
   turn-fn : (k t v m d w p n : ℕ) (ss : RowsCells) (xs ys : List Col) → Head K ar k d p → 256 ≤ t → Ofs K ar ss (K .args d) → Pair K ar xs ys
@@ -128,7 +140,7 @@ module _ (K : Kinds) (ar : List ℕ) where
       let i = kids-right K ar ss (K .args d) xs ys o r in
       record {
         pair = rw l (i .0);
-        same = rw (l, q, gate-some (bitAnd m p) (some (d ∷ (bitOr v w ∷ (bitAnd m p ∷ all-words ss)))) a) (one-side d (bitOr v w) (bitAnd m p) (all-words ss) (meet xs ys) _ (i .1));
+        same = rw l (as-joined t v m d w p _ (meet (replicate (length (K .args d)) wild ++ xs) (reals ss ++ ys)) (rw (q, gate-some (bitAnd m p) (some (cell-code d (bitOr v w) (bitAnd m p) ++ all-words ss)) a) (one-side d (bitOr v w) (bitAnd m p) (all-words ss) (meet xs ys) _ (i .1))));
       }
 
   turn-ff : (t v m u w p n : ℕ) (xs ys : List Col) → 256 ≤ t → t ≡ u → Pair K ar xs ys
@@ -138,9 +150,9 @@ module _ (K : Kinds) (ar : List ℕ) where
       let l : n ≡ 0 = e ∙ ap (opens-of ar) q ∙ opens-free K ar t f in
       record {
         pair = rw l r;
-        same = rw l
-            (ap (λ (o : Option (List ℕ)). then o (meet xs ys)) (gate-some (bitAnd m p) (some (t ∷ (bitOr v w ∷ (bitAnd m p ∷ [])))) a)
-            ∙ ap (λ (z : ℕ). then (some (z ∷ (bitOr v w ∷ (bitAnd m p ∷ [])))) (meet xs ys)) (sym q));
+        same = rw l (as-joined t v m u w p _ (meet xs ys)
+            (ap (λ (o : Option (List ℕ)). then o (meet xs ys)) (gate-some (bitAnd m p) (some (cell-code t (bitOr v w) (bitAnd m p))) a)
+            ∙ ap (λ (z : ℕ). then (some (cell-code z (bitOr v w) (bitAnd m p))) (meet xs ys)) (sym q)));
       }
 
   -- no cell on the right
@@ -152,7 +164,7 @@ module _ (K : Kinds) (ar : List ℕ) where
       let i = kids-left K ar rs (K .args c) xs ys o r in
       record {
         pair = rw l (i .0);
-        same = rw (l, q, or-zero-r v, among-all m (h .fits)) (one-side c v m (all-words rs) (meet xs ys) _ (i .1));
+        same = rw l (as-joined c v m 512 0 all-set _ (meet (reals rs ++ xs) (replicate (length (K .args c)) wild ++ ys)) (rw (q, or-zero-r v, among-all m (h .fits)) (one-side c v m (all-words rs) (meet xs ys) _ (i .1))));
       }
 
   turn-fw : (k t v m n : ℕ) (xs ys : List Col) → Free k t m → Pair K ar xs ys → n ≡ opens-of ar (min t 512) → Turn K ar (real (free-cell t v m)) wild xs ys n
@@ -161,7 +173,7 @@ module _ (K : Kinds) (ar : List ℕ) where
       let l : n ≡ 0 = e ∙ ap (opens-of ar) q ∙ opens-free K ar t (omega (arith, f .tag)) in
       record {
         pair = rw l r;
-        same = rw l (ap (λ (z : List ℕ). then (some z) (meet xs ys)) (sym (three-words q (or-zero-r v) (among-all m (f .fits)))));
+        same = rw l (as-joined t v m 512 0 all-set _ (meet xs ys) (ap (λ (z : List ℕ). then (some z) (meet xs ys)) (sym (same-cell q (or-zero-r v) (among-all m (f .fits))))));
       }
 
   -- no cell on the left
@@ -173,7 +185,7 @@ module _ (K : Kinds) (ar : List ℕ) where
       let i = kids-right K ar ss (K .args d) xs ys o r in
       record {
         pair = rw l (i .0);
-        same = rw (l, q, or-zero-l w, and-comm 18446744073709551615 p, among-all p (h .fits)) (one-side d w p (all-words ss) (meet xs ys) _ (i .1));
+        same = rw l (as-joined 512 0 all-set d w p _ (meet (replicate (length (K .args d)) wild ++ xs) (reals ss ++ ys)) (rw (q, or-zero-l w, and-comm all-set p, among-all p (h .fits)) (one-side d w p (all-words ss) (meet xs ys) _ (i .1))));
       }
 
   turn-wf : (k u w p n : ℕ) (xs ys : List Col) → Free k u p → Pair K ar xs ys → n ≡ opens-of ar (min 512 u) → Turn K ar wild (real (free-cell u w p)) xs ys n
@@ -182,39 +194,39 @@ module _ (K : Kinds) (ar : List ℕ) where
       let l : n ≡ 0 = e ∙ ap (opens-of ar) q ∙ opens-free K ar u (omega (arith, f .tag)) in
       record {
         pair = rw l r;
-        same = rw l (ap (λ (z : List ℕ). then (some z) (meet xs ys)) (sym (three-words q (or-zero-l w) (and-comm 18446744073709551615 p ∙ among-all p (f .fits)))));
+        same = rw l (as-joined 512 0 all-set u w p _ (meet xs ys) (ap (λ (z : List ℕ). then (some z) (meet xs ys)) (sym (same-cell q (or-zero-l w) (and-comm all-set p ∙ among-all p (f .fits))))));
       }
 
   pub turn : (x y : Col) (xs ys : List Col) (n : ℕ) → Pair K ar (x ∷ xs) (y ∷ ys) → n ≡ opens-of ar (join-of (column-cell x) (column-cell y) .tag)
-      → ¬ (join-of (column-cell x) (column-cell y) .allowed ≡ 0) → Turn K ar x y xs ys n
+      → ¬ (number-of (join-of (column-cell x) (column-cell y) .allowed) ≡ 0) → Turn K ar x y xs ys n
   turn wild wild xs ys n p e a = absurd p
   turn wild (real (named-cells d w q ss)) xs ys n p e a = turn-wn (p .0) d w q n ss xs ys (p .1 .0) (p .1 .1) (p .2) e
   turn wild (real (free-cell u w q)) xs ys n p e a = turn-wf (p .0) u w q n xs ys (p .1) (p .2) e
   turn (real (named-cells c v m rs)) wild xs ys n p e a = turn-nw (p .0) c v m n rs xs ys (p .1 .0) (p .1 .1) (p .2) e
   turn (real (free-cell t v m)) wild xs ys n p e a = turn-fw (p .0) t v m n xs ys (p .1) (p .2) e
   turn (real (named-cells c v m rs)) (real (named-cells d w q ss)) xs ys n p e a =
-      turn-nn (p .0) c v m d w q n rs ss xs ys (p .1 .0) (p .2 .0) (p .1 .1) (p .2 .1) (p .3) a
+      turn-nn (p .0) c v m d w q n rs ss xs ys (p .1 .0) (p .2 .0) (p .1 .1) (p .2 .1) (p .3) (some-heads c v m d w q a)
   turn (real (named-cells c v m rs)) (real (free-cell u w q)) xs ys n p e a =
-      turn-nf (p .0) c v m u w q n rs xs ys (p .1 .0) (omega (arith, p .2 .tag)) (p .1 .1) (p .3) e a
+      turn-nf (p .0) c v m u w q n rs xs ys (p .1 .0) (omega (arith, p .2 .tag)) (p .1 .1) (p .3) e (some-heads c v m u w q a)
   turn (real (free-cell t v m)) (real (named-cells d w q ss)) xs ys n p e a =
-      turn-fn (p .0) t v m d w q n ss xs ys (p .2 .0) (omega (arith, p .1 .tag)) (p .2 .1) (p .3) e a
+      turn-fn (p .0) t v m d w q n ss xs ys (p .2 .0) (omega (arith, p .1 .tag)) (p .2 .1) (p .3) e (some-heads t v m d w q a)
   turn (real (free-cell t v m)) (real (free-cell u w q)) xs ys n p e a =
-      turn-ff t v m u w q n xs ys (omega (arith, p .1 .tag)) (omega (arith, p .1 .tag, p .2 .tag)) (p .3) e a
+      turn-ff t v m u w q n xs ys (omega (arith, p .1 .tag)) (omega (arith, p .1 .tag, p .2 .tag)) (p .3) e (some-heads t v m u w q a)
 
   -- an empty set drops the row
   pos-pow : (k c m : ℕ) → Head K ar k c m → 0 < m
   pos-pow k c m h = rw (h .set) (pow-pos (c - K .first k))
 
-  pub dropped : (x y : Col) (xs ys : List Col) → Pair K ar (x ∷ xs) (y ∷ ys) → join-of (column-cell x) (column-cell y) .allowed ≡ 0 → meet (x ∷ xs) (y ∷ ys) ≡ none
+  pub dropped : (x y : Col) (xs ys : List Col) → Pair K ar (x ∷ xs) (y ∷ ys) → number-of (join-of (column-cell x) (column-cell y) .allowed) ≡ 0 → meet (x ∷ xs) (y ∷ ys) ≡ none
   dropped wild wild xs ys p a = absurd p
-  dropped wild (real (named-cells d w q ss)) xs ys p a = absurd (pos-zero q (pos-pow (p .0) d q (p .1 .0)) (sym (among-all q (p .1 .0 .fits)) ∙ and-comm q 18446744073709551615 ∙ a))
-  dropped wild (real (free-cell u w q)) xs ys p a = absurd (pos-zero q (p .1 .some) (sym (among-all q (p .1 .fits)) ∙ and-comm q 18446744073709551615 ∙ a))
-  dropped (real (named-cells c v m rs)) wild xs ys p a = absurd (pos-zero m (pos-pow (p .0) c m (p .1 .0)) (sym (among-all m (p .1 .0 .fits)) ∙ a))
-  dropped (real (free-cell t v m)) wild xs ys p a = absurd (pos-zero m (p .1 .some) (sym (among-all m (p .1 .fits)) ∙ a))
-  dropped (real (named-cells c v m rs)) (real (named-cells d w q ss)) xs ys p a = rw (eq-eqb (bitAnd m q) 0 a)
-  dropped (real (named-cells c v m rs)) (real (free-cell u w q)) xs ys p a = rw (eq-eqb (bitAnd m q) 0 a)
-  dropped (real (free-cell t v m)) (real (named-cells d w q ss)) xs ys p a = rw (eq-eqb (bitAnd m q) 0 a)
-  dropped (real (free-cell t v m)) (real (free-cell u w q)) xs ys p a = rw (eq-eqb (bitAnd m q) 0 a)
+  dropped wild (real (named-cells d w q ss)) xs ys p a = absurd (pos-zero q (pos-pow (p .0) d q (p .1 .0)) (sym (among-all q (p .1 .0 .fits)) ∙ and-comm q all-set ∙ no-heads 512 0 all-set d w q a))
+  dropped wild (real (free-cell u w q)) xs ys p a = absurd (pos-zero q (p .1 .some) (sym (among-all q (p .1 .fits)) ∙ and-comm q all-set ∙ no-heads 512 0 all-set u w q a))
+  dropped (real (named-cells c v m rs)) wild xs ys p a = absurd (pos-zero m (pos-pow (p .0) c m (p .1 .0)) (sym (among-all m (p .1 .0 .fits)) ∙ no-heads c v m 512 0 all-set a))
+  dropped (real (free-cell t v m)) wild xs ys p a = absurd (pos-zero m (p .1 .some) (sym (among-all m (p .1 .fits)) ∙ no-heads t v m 512 0 all-set a))
+  dropped (real (named-cells c v m rs)) (real (named-cells d w q ss)) xs ys p a = rw (eq-eqb (bitAnd m q) 0 (no-heads c v m d w q a))
+  dropped (real (named-cells c v m rs)) (real (free-cell u w q)) xs ys p a = rw (eq-eqb (bitAnd m q) 0 (no-heads c v m u w q a))
+  dropped (real (free-cell t v m)) (real (named-cells d w q ss)) xs ys p a = rw (eq-eqb (bitAnd m q) 0 (no-heads t v m d w q a))
+  dropped (real (free-cell t v m)) (real (free-cell u w q)) xs ys p a = rw (eq-eqb (bitAnd m q) 0 (no-heads t v m u w q a))
 
   -- the side that has a cell; whether a tag names
   pub some-side : (x y : Col) (xs ys : List Col) → Pair K ar (x ∷ xs) (y ∷ ys) → 3 ≤ wide x + wide y
@@ -225,7 +237,7 @@ module _ (K : Kinds) (ar : List ℕ) where
 
   tagged-row : (r : RowCells) (k : ℕ) → Of K ar r k → Tagged (real r)
   tagged-row (named-cells c v m rs) k o = o .0 .tag
-  tagged-row (free-cell t v m) k o = omega (arith, o .tag)
+  tagged-row (free-cell t v m) k o = (omega (arith, o .tag), omega (arith, o .tag, o .kind))
 
   pub tagged-left : (x y : Col) (xs ys : List Col) → Pair K ar (x ∷ xs) (y ∷ ys) → Tagged x
   tagged-left wild y xs ys p = tt
@@ -279,9 +291,9 @@ count-wilds n xs = simp (length-append, length-replicate)
 
 module _ (K : Kinds) (ar : List ℕ) where
   pub turn-count : (x y : Col) (xs ys : List Col) (n : ℕ) → Pair K ar (x ∷ xs) (y ∷ ys) → n ≡ opens-of ar (join-of (column-cell x) (column-cell y) .tag)
-      → ¬ (join-of (column-cell x) (column-cell y) .allowed ≡ 0) → length (enter x n ++ xs) ≡ n + length xs
+      → ¬ (number-of (join-of (column-cell x) (column-cell y) .allowed) ≡ 0) → length (enter x n ++ xs) ≡ n + length xs
   turn-count wild y xs ys n p e a = count-wilds n xs
   turn-count (real (free-cell t v m)) y xs ys n p e a = count-wilds n xs
   turn-count (real (named-cells c v m rs)) wild xs ys n p e a = count-named K ar (p .0) c m (min c 512) n rs xs (p .1 .0) (p .1 .1) (omega (arith, p .1 .0 .tag)) e
-  turn-count (real (named-cells c v m rs)) (real (named-cells d w q ss)) xs ys n p e a = count-named K ar (p .0) c m (min c d) n rs xs (p .1 .0) (p .1 .1) (same-head K ar (p .0) c m d q (p .1 .0) (p .2 .0) a .1) e
+  turn-count (real (named-cells c v m rs)) (real (named-cells d w q ss)) xs ys n p e a = count-named K ar (p .0) c m (min c d) n rs xs (p .1 .0) (p .1 .1) (same-head K ar (p .0) c m d q (p .1 .0) (p .2 .0) (some-heads c v m d w q a) .1) e
   turn-count (real (named-cells c v m rs)) (real (free-cell u w q)) xs ys n p e a = count-named K ar (p .0) c m (min c u) n rs xs (p .1 .0) (p .1 .1) (omega (arith, p .1 .0 .tag, p .2 .tag)) e

@@ -10,7 +10,8 @@ use Rattle.cell.specs.declared.cell.Cell.{Cell}
 use Rattle.cell.specs.declared.cell.Cursor.{Cursor}
 use Rattle.cell.specs.declared.cell.Out.the-variants.{Kept, Dropped}
 use Rattle.signature.specs.Decoded.{decoded-length}
-use Rattle.cell.specs.Cell.{words, named-cells, free-cell}
+use Rattle.cell.specs.Cell.{words, named-cells, free-cell, first-word}
+use Rattle.sets.specs.Heads.{number-of, low-word, high-word}
 use Rattle.cell.specs.Cursor.{put-cell, next-of, Room, join-of, look-at, opens-of}
 use Rattle.cell.specs.Lockstep.{Result}
 use Rattle.cell.proofs.CellFacts.{Col, both, then, flat, real, enter, wild, Lead, column-cell}
@@ -79,9 +80,9 @@ puts p [] n c e h = absurd (omega arith)
 puts p (x ∷ []) n c e h = absurd (omega arith)
 puts p (x ∷ (y ∷ [])) n c e h = absurd (omega arith)
 puts p (x ∷ (y ∷ (z ∷ w))) n c e h =
-    let t = c .tag in
-    let v = c .vars in
-    let m = c .allowed in
+    let t = first-word (c .tag) (c .vars) in
+    let v = low-word (number-of (c .allowed)) in
+    let m = high-word (number-of (c .allowed)) in
     ap (λ (l : List ℕ). set (set l (n + 1) v) (n + 2) m) (set-at p x (y ∷ (z ∷ w)) t n e ∙ sym (append-assoc p (t ∷ []) (y ∷ (z ∷ w))))
     ∙ ap (λ (l : List ℕ). set l (n + 2) m)
     (set-at (p ++ (t ∷ [])) y (z ∷ w) v (n + 1) (simp length-append (omega arith)) ∙ append-assoc p (t ∷ []) (v ∷ (z ∷ w)) ∙ sym (append-assoc p (t ∷ (v ∷ [])) (z ∷ w)))
@@ -144,23 +145,23 @@ module _ {ar a b o₀ : List ℕ} (g : Given ar a b o₀) (x y : Cursor) (n left
         wildcards-a = omega (arith, lead-length (x .wildcards) (u ∷ xs) (m .sa .lead), m .left-is);
         wildcards-b = omega (arith, lead-length (y .wildcards) (v ∷ ys) (m .sb .lead), m .left-is, len .0);
         room = omega (arith, m .room, flat-enter u 0 xs, flat-enter v 0 ys, some-side (g .K) ar u v xs ys p);
-        known = rw (look-col a x u xs (m .sa), look-col b y v ys (m .sb)) (known (g .K) ar u v xs ys p);
+        known = rw (look-col a x u xs (m .sa) (tagged-left (g .K) ar u v xs ys (m .pair)), look-col b y v ys (m .sb) (tagged-right (g .K) ar u v xs ys (m .pair))) (known (g .K) ar u v xs ys p);
       }
 
   pub front : 0 < left → Now g x y n left o → Front g x y n left
   front h m = front-at (m .0) (m .1) h (m .2)
 
   -- an empty set
-  drop-at-turn : (xs ys : List Col) → 0 < left → Mid g x y n left o xs ys → join-of (look-at a x) (look-at b y) .allowed ≡ 0 → both (g .r) (g .s) ≡ none
+  drop-at-turn : (xs ys : List Col) → 0 < left → Mid g x y n left o xs ys → number-of (join-of (look-at a x) (look-at b y) .allowed) ≡ 0 → both (g .r) (g .s) ≡ none
   drop-at-turn [] ys h m e = absurd (omega (arith, m .left-is))
   drop-at-turn (u ∷ xs) [] h m e = absurd (m .pair)
   drop-at-turn (u ∷ xs) (v ∷ ys) h m e =
-      m .target ∙ ap (then (some (m .done))) (dropped (g .K) ar u v xs ys (m .pair) (rw (look-col a x u xs (m .sa), look-col b y v ys (m .sb)) at e))
+      m .target ∙ ap (then (some (m .done))) (dropped (g .K) ar u v xs ys (m .pair) (rw (look-col a x u xs (m .sa) (tagged-left (g .K) ar u v xs ys (m .pair)), look-col b y v ys (m .sb) (tagged-right (g .K) ar u v xs ys (m .pair))) at e))
 
-  pub drop-out : 0 < left → Now g x y n left o → join-of (look-at a x) (look-at b y) .allowed ≡ 0 → Result (both (g .r) (g .s)) Dropped o₀ o
+  pub drop-out : 0 < left → Now g x y n left o → number-of (join-of (look-at a x) (look-at b y) .allowed) ≡ 0 → Result (both (g .r) (g .s)) Dropped o₀ o
   drop-out h m e = rw (drop-at-turn (m .0) (m .1) h (m .2) e)
 
-  turn-here : (u v : Col) (xs ys : List Col) (w : ℕ) → 0 < left → Mid g x y n left o (u ∷ xs) (v ∷ ys) → ¬ (join-of (column-cell u) (column-cell v) .allowed ≡ 0) → w ≡ opens-of ar (join-of (column-cell u) (column-cell v) .tag)
+  turn-here : (u v : Col) (xs ys : List Col) (w : ℕ) → 0 < left → Mid g x y n left o (u ∷ xs) (v ∷ ys) → ¬ (number-of (join-of (column-cell u) (column-cell v) .allowed) ≡ 0) → w ≡ opens-of ar (join-of (column-cell u) (column-cell v) .tag)
       → Turned g x y n left o (column-cell u) (column-cell v) (join-of (column-cell u) (column-cell v)) w
   turn-here u v xs ys w h m e f =
       let p = m .pair in
@@ -194,12 +195,12 @@ module _ {ar a b o₀ : List ℕ} (g : Given ar a b o₀) (x y : Cursor) (n left
         onward = omega arith;
       }
 
-  turn-at : (xs ys : List Col) (w : ℕ) → 0 < left → Mid g x y n left o xs ys → ¬ (join-of (look-at a x) (look-at b y) .allowed ≡ 0) → w ≡ opens-of ar (join-of (look-at a x) (look-at b y) .tag)
+  turn-at : (xs ys : List Col) (w : ℕ) → 0 < left → Mid g x y n left o xs ys → ¬ (number-of (join-of (look-at a x) (look-at b y) .allowed) ≡ 0) → w ≡ opens-of ar (join-of (look-at a x) (look-at b y) .tag)
       → Turned g x y n left o (look-at a x) (look-at b y) (join-of (look-at a x) (look-at b y)) w
   turn-at [] ys w h m e f = absurd (omega (arith, m .left-is))
   turn-at (u ∷ xs) [] w h m e f = absurd (m .pair)
-  turn-at (u ∷ xs) (v ∷ ys) w h m e f = rw (look-col a x u xs (m .sa), look-col b y v ys (m .sb))
-      (turn-here u v xs ys w h m (rw (look-col a x u xs (m .sa), look-col b y v ys (m .sb)) at e) (rw (look-col a x u xs (m .sa), look-col b y v ys (m .sb)) at f))
+  turn-at (u ∷ xs) (v ∷ ys) w h m e f = rw (look-col a x u xs (m .sa) (tagged-left (g .K) ar u v xs ys (m .pair)), look-col b y v ys (m .sb) (tagged-right (g .K) ar u v xs ys (m .pair)))
+      (turn-here u v xs ys w h m (rw (look-col a x u xs (m .sa) (tagged-left (g .K) ar u v xs ys (m .pair)), look-col b y v ys (m .sb) (tagged-right (g .K) ar u v xs ys (m .pair))) at e) (rw (look-col a x u xs (m .sa) (tagged-left (g .K) ar u v xs ys (m .pair)), look-col b y v ys (m .sb) (tagged-right (g .K) ar u v xs ys (m .pair))) at f))
 
 module _ {ar a b o₀ : List ℕ} (g : Given ar a b o₀) (x y : Cursor) (n left : ℕ) (o : List ℕ) where
   -- the same of what the calls gave
@@ -210,15 +211,15 @@ module _ {ar a b o₀ : List ℕ} (g : Given ar a b o₀) (x y : Cursor) (n left
     pub known-of : Front g x y n left → c .tag < 256 → length ar ≡ decoded-length
     known-of f = rw joined (f .known)
 
-    pub out-of : Now g x y n left o → c .allowed ≡ 0 → Result (both (g .r) (g .s)) Dropped o₀ o
-    out-of m e = drop-out g x y n left o h m (ap (λ (z : Cell). z .allowed) (sym joined) ∙ e)
+    pub out-of : Now g x y n left o → number-of (c .allowed) ≡ 0 → Result (both (g .r) (g .s)) Dropped o₀ o
+    out-of m e = drop-out g x y n left o h m (ap (λ (z : Cell). number-of (z .allowed)) (sym joined) ∙ e)
 
-    pub turned : (w : ℕ) → Now g x y n left o → ¬ (c .allowed ≡ 0) → w ≡ opens-of ar (c .tag) → Turned g x y n left o p q c w
+    pub turned : (w : ℕ) → Now g x y n left o → ¬ (number-of (c .allowed) ≡ 0) → w ≡ opens-of ar (c .tag) → Turned g x y n left o p q c w
     turned w m e f =
         subst (λ (z : Cell). Turned g x y n left o p q z w) (sym joined)
         (subst (λ (z : Cell). Turned g x y n left o z q (join-of (look-at a x) (look-at b y)) w) (sym ep)
         (subst (λ (z : Cell). Turned g x y n left o (look-at a x) z (join-of (look-at a x) (look-at b y)) w) (sym eq)
-        (turn-at g x y n left o (m .0) (m .1) w h (m .2) (λ z. e (ap (λ (z : Cell). z .allowed) joined ∙ z)) (f ∙ ap (λ (z : Cell). opens-of ar (z .tag)) joined))))
+        (turn-at g x y n left o (m .0) (m .1) w h (m .2) (λ z. e (ap (λ (z : Cell). number-of (z .allowed)) joined ∙ z)) (f ∙ ap (λ (z : Cell). opens-of ar (z .tag)) joined))))
 
 pub again : {ar a b o₀ : List ℕ} (g : Given ar a b o₀) (x y : Cursor) (n left : ℕ) (o : List ℕ) (p q c : Cell) (w : ℕ) (x' y' : Cursor) (o' : List ℕ)
     → Turned g x y n left o p q c w → x' ≡ next-of x (p .tag) w → y' ≡ next-of y (q .tag) w → o' ≡ put-cell o n c → Now g x' y' (n + 3) (left - 1 + w) o'

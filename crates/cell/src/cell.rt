@@ -1,13 +1,14 @@
 // Rows as preorder cells of three words, a cursor over them, and two rows as one.
-use sets::set::ALL;
-use sets::set::meet;
-use sets::set::size;
+use sets::heads::Heads;
+use sets::heads::all;
+use sets::heads::is_empty;
+use sets::heads::meet;
 use signature::decoded::arity_of;
 ghost use mathlib.Core.Path.{_≡_};
 ghost use Prim.Native.Nat.{_+_, _≤_, _<_, _^_};
 ghost use lib.ListN.{length, set};
-ghost use Rattle.cell.specs.Cell.{cell-width, kind-tag};
-ghost use Rattle.cell.specs.Cursor.{Room, look-at, past-column, next-of, join-of, opens-of, put-cell};
+ghost use Rattle.cell.specs.Cell.{cell-width, kind-tag, first-word};
+ghost use Rattle.cell.specs.Cursor.{Room, cell-at, look-at, past-column, next-of, join-of, opens-of, put-cell};
 ghost use Rattle.row.specs.Row.{combine as combined};
 ghost use Rattle.cell.specs.Coded.{row-code-of};
 ghost use Rattle.cell.specs.Lockstep.{GivenRows, Result};
@@ -20,6 +21,9 @@ pub const KIND_TAG: u64 = 256;
 // The tag of a column that no cell stands for: above each other, so that the other is kept.
 const FREE_TAG: u64 = 512;
 
+// Every tag is below it: a cell's first word has its tag, and its variables from here on.
+const TAG_LIMIT: u64 = 65536;
+
 // The words of a cell.
 pub const CELL: usize = 3;
 
@@ -27,7 +31,7 @@ pub const CELL: usize = 3;
 pub struct Cell {
     pub tag: u64,
     pub vars: u64,
-    pub allowed: u64,
+    pub allowed: Heads,
 }
 
 // The columns still to take: so many wildcards, then the cells from a word on.
@@ -41,6 +45,22 @@ pub enum Out {
     Dropped,
 }
 
+// The cell whose words begin at a word.
+pub fn cell_at(row: &[u64], at: usize) -> Cell
+    requires { ⌜ at + cell-width ≤ length (now row) ⌝ }
+    ensures { λ r. ⌜ r ≡ cell-at (now (row .entry)) at ⌝ }
+{
+    let word = row[at];
+    let low = row[at + 1];
+    let high = row[at + 2];
+    let allowed = Heads { low, high };
+    Cell {
+        tag: word % TAG_LIMIT,
+        vars: word / TAG_LIMIT,
+        allowed,
+    }
+}
+
 // The first column's cell.
 pub fn look(row: &[u64], c: Cursor) -> Cell
     requires { ⌜ Room (now row) c ⌝ }
@@ -48,18 +68,14 @@ pub fn look(row: &[u64], c: Cursor) -> Cell
 {
     let wildcards = c.wildcards;
     if wildcards > 0 {
+        let allowed = all();
         return Cell {
             tag: FREE_TAG,
             vars: 0,
-            allowed: ALL,
+            allowed,
         };
     }
-    let at = c.at;
-    Cell {
-        tag: row[at],
-        vars: row[at + 1],
-        allowed: row[at + 2],
-    }
+    cell_at(row, c.at)
 }
 
 // Past the first column, with so many wildcards in its place.
@@ -122,13 +138,15 @@ pub fn opens(t: &[u16], tag: u64) -> usize
     0
 }
 
-fn put(out: &mut [u64], at: usize, c: Cell)
-    requires { ⌜ at + cell-width ≤ length (now out) ⌝ }
+// The words of a cell, written from a word on.
+pub fn put(out: &mut [u64], at: usize, c: Cell)
+    requires { ⌜ (at + cell-width ≤ length (now out)) × (first-word (c .tag) (c .vars) < 2 ^ 64) ⌝ }
     ensures { λ _. ⌜ now (out .exit) ≡ put-cell (now (out .entry)) at c ⌝ }
 {
-    out[at] = c.tag;
-    out[at + 1] = c.vars;
-    out[at + 2] = c.allowed;
+    let allowed = c.allowed;
+    out[at] = c.tag + TAG_LIMIT * c.vars;
+    out[at + 1] = allowed.low;
+    out[at + 2] = allowed.high;
 }
 
 // The two rows at the front of a and b as one, first in out, and how many words it has.
@@ -150,7 +168,7 @@ pub fn combine(t: &[u16], a: &[u64], b: &[u64], out: &mut [u64]) -> Out
         let p = look(a, x);
         let q = look(b, y);
         let c = join(p, q);
-        if size(c.allowed) == 0 {
+        if is_empty(c.allowed) {
             return Out::Dropped;
         }
         put(out, n, c);

@@ -1,53 +1,56 @@
 -- What a cell, a row and the rows of a set say of the first column.
-use mathlib.Core.Path.{_≡_, refl, sym, ap, subst, _∙_}
+use mathlib.Core.Path.{_≡_, refl, sym, ap, ap₂, subst, _∙_}
 use mathlib.Core.Logic.{_⊎_, inl, inr}
-use mathlib.Core.List.{List}
-use mathlib.Core.Bool.{Bool, true, false, not, _&&_}
-use Prim.Native.Nat.{ℕ, _+_, _-_, _*_, _≤_, _<_}
+use mathlib.Core.List.{List, []}
+use mathlib.Core.Bool.{Bool, true, false, not, _&&_, _||_, cond}
+use Prim.Native.Nat.{ℕ, zero, suc, _+_, _-_, _≤_, _<_, min, max}
 use native.Mathlib.Omega.{arith}
 use borrow.Author.Tests.{lt-ltb, le-ltb}
 use lib.Dec.{eqb, ltb}
 use lib.ListN.{length, getD}
-use Rattle.signature.specs.Decoded.{Known, count-of, kind-of}
-use Rattle.signature.specs.Limits.{kind-limit}
-use Rattle.signature.specs.Lists.{memb}
-use Rattle.sets.specs.Set.{bit, members}
-use Rattle.signature.specs.Signature.{Signature, heads, arguments-at}
-use Rattle.signature.proofs.Heads.{kind-of-head, constructor-of}
-use Rattle.signature.proofs.KnownFacts.{words-of, is-constructor, few-constructors}
+use Rattle.signature.specs.Decoded.{count-of, first-of, kind-of}
+use Rattle.signature.specs.Limits.{kind-limit, level-base, level-count, last-level}
+use Rattle.signature.specs.Lists.{memb, any, count-up}
+use Rattle.signature.specs.Signature.{Signature, heads, levels, numbers, is-level, is-number-kind}
+use Rattle.signature.proofs.Booleans.{and-true, or-true, or-false, or-assoc}
+use Rattle.signature.proofs.Heads.{kind-of-head, level-is}
+use Rattle.signature.proofs.KnownFacts.{words-of, head-is, number-first, count-length, few-heads as heads-most}
+use Rattle.signature.proofs.Tests.{eqb-eq, eqb-ne, eqb-no, true≢false}
+use Rattle.sets.specs.Heads.{number-of}
+use Rattle.sets.specs.Set.{bit, members, heads-width}
 use Rattle.sets.proofs.SetLaws.{bit-lt}
-use Rattle.signature.proofs.Tests.{eqb-eq, eqb-ne, true≢false}
+use Rattle.cell.specs.Cursor.{cell-at}
+use Rattle.cell.specs.declared.cell.Cell.{Cell}
 use Rattle.rowlist.proofs.Kinded.{kinds-same}
+use Rattle.tree.specs.Tree.{just-one}
 use Rattle.path.specs.Alive.{member}
-use Rattle.path.specs.Standing.{refined-cell}
-use Rattle.path.specs.State.{kept-by, cell-of, start-of}
-use Rattle.column.specs.Column.{Seen, RowKind, RowSaw, Looking, Column, tag-at, allowed-at}
+use Rattle.path.specs.Standing.{refined-cell, allowed-of}
+use Rattle.path.specs.State.{kept-by, cell-of}
+use Rattle.column.specs.Column.{Seen, RowKind, RowSaw, Looking, Heading, Column, tag-at, allowed-at, edge-by}
 
 module _ {t : List ℕ} {tag : ℕ} (g : Seen t tag) where
   -- a kind's number is below 32
   pub kind-small : g .k < kind-limit
   kind-small = omega (arith, g .there, kinds-same (g .known), words-of (g .known) .few-kinds)
 
-  named-small : memb tag (heads (g .known .sig) (g .k)) ≡ true → tag < 256
-  named-small e = let (js, q) = kind-of-head (g .known .sig) (g .k) tag e in omega (arith, is-constructor (g .known) (g .k) tag js q, few-constructors (g .known))
-
   -- a tag that names no constructor is 256 and the kind
   pub seen-free : 256 ≤ tag → tag ≡ 256 + g .k
   seen-free l = go (g .is)
     where
-      go : (tag ≡ 256 + g .k) ⊎ (memb tag (heads (g .known .sig) (g .k)) ≡ true) → tag ≡ 256 + g .k
+      go : (tag ≡ 256 + g .k) ⊎ ((tag < 256) × (memb tag (heads (g .known .sig) (g .k)) ≡ true)) → tag ≡ 256 + g .k
       go (inl e) = e
-      go (inr e) = absurd (omega (arith, named-small e))
+      go (inr (m, e)) = absurd (omega arith)
 
   pub seen-named : tag < 256 → kind-of t tag ≡ g .k
   seen-named l = go (g .is)
     where
-      go : (tag ≡ 256 + g .k) ⊎ (memb tag (heads (g .known .sig) (g .k)) ≡ true) → kind-of t tag ≡ g .k
+      named : {js : List ℕ} → ((tag < length (g .known .sig)) × (is-number-kind (g .known .sig) (g .k) ≡ false) × (kind-of t tag ≡ g .k)) ⊎ ((is-level tag ≡ true) × (is-number-kind (g .known .sig) (g .k) ≡ true) × (js ≡ [])) → kind-of t tag ≡ g .k
+      named (inl (a, b, q)) = q
+      named (inr (v, b, q)) = absurd (omega (arith, level-is tag v .0))
+
+      go : (tag ≡ 256 + g .k) ⊎ ((tag < 256) × (memb tag (heads (g .known .sig) (g .k)) ≡ true)) → kind-of t tag ≡ g .k
       go (inl e) = absurd (omega arith)
-      go (inr e) =
-          let (js, q) = kind-of-head (g .known .sig) (g .k) tag e in
-          let (d, a, k, r) = constructor-of (g .known .sig) (g .k) tag js q in
-          g .known .decoded .kind tag d a ∙ eqb-eq (d .kind) (g .k) k
+      go (inr (m, e)) = let (js, q) = kind-of-head (g .known .sig) (g .k) tag e in named (head-is (g .known) (g .k) tag js q)
 
   pub refined-named : (allowed : ℕ) → tag < 256 → true ≡ refined-cell (g .known .sig) (g .k) tag allowed
   refined-named allowed l = rw (lt-ltb tag 256 l)
@@ -67,14 +70,15 @@ module _ {t : List ℕ} {tag : ℕ} (g : Seen t tag) where
 pub seen-at : {t a rows : List ℕ} {n : ℕ} {re cur : List ℕ} (g : Looking t a rows n re cur) (r : ℕ) → r < n → member re r ≡ true → Seen t (tag-at a rows cur r)
 seen-at g r l e = record { known = g .known; k = g .k; there = g .there; is = g .tags r l e }
 
--- the same by the words that the code reads
-pub seen-from : {t a rows : List ℕ} {n : ℕ} {re cur : List ℕ} (g : Looking t a rows n re cur) (r x : ℕ) → r < n → member re r ≡ true → x ≡ start-of rows r → Seen t (getD a (x + 3 * getD cur r 0) 0)
-seen-from g r x l e h = rw h (seen-at g r l e)
+-- the same by the cell that the code reads
+pub seen-from : {t a rows : List ℕ} {n : ℕ} {re cur : List ℕ} (g : Looking t a rows n re cur) (r : ℕ) (c : Cell) → r < n → member re r ≡ true → c ≡ cell-at a (cell-of rows r (getD cur r 0)) → Seen t (c .tag)
+seen-from {t} g r c l e h = subst (λ (x : Cell). Seen t (x .tag)) (sym h) (seen-at g r l e)
 
-pub saw-from : {t a rows : List ℕ} {n : ℕ} {re cur : List ℕ} (g : Looking t a rows n re cur) (r x k : ℕ) → r < n → member re r ≡ true → x ≡ start-of rows r
-    → ((s : Seen t (getD a (x + 3 * getD cur r 0) 0)) → RowKind (s .known .sig) (s .k) (getD a (x + 3 * getD cur r 0) 0) (getD a (x + 3 * getD cur r 0 + 2) 0) k)
+pub saw-from : {t a rows : List ℕ} {n : ℕ} {re cur : List ℕ} (g : Looking t a rows n re cur) (r k : ℕ) (c : Cell) → r < n → member re r ≡ true → c ≡ cell-at a (cell-of rows r (getD cur r 0))
+    → ((s : Seen t (c .tag)) → RowKind (s .known .sig) (s .k) (c .tag) (number-of (c .allowed)) k)
     → RowSaw (member re r) (g .known .sig) (g .k) (tag-at a rows cur r) (allowed-at a rows cur r) k
-saw-from {t} {a} {rows} {n} {re} {cur} g r x k l e h f = rw e (subst (λ (y : ℕ). RowKind (g .known .sig) (g .k) (getD a (y + 3 * getD cur r 0) 0) (getD a (y + 3 * getD cur r 0 + 2) 0) k) h (f (record { known = g .known; k = g .k; there = g .there; is = rw h (g .tags r l e) })))
+unfolding seen-at
+saw-from {t} {a} {rows} {n} {re} {cur} g r k c l e h f = rw e (subst (λ (x : Cell). ((s : Seen t (x .tag)) → RowKind (s .known .sig) (s .k) (x .tag) (number-of (x .allowed)) k)) h f (seen-at g r l e))
 
 pub saw-out : (b : Bool) (sig : Signature) (k tag allowed : ℕ) → b ≡ false → RowSaw b sig k tag allowed kind-limit
 saw-out b sig k tag allowed e = rw e
@@ -106,32 +110,118 @@ column-some sig a rows re cur n k r x l w m = go (member re r) refl w
 
 -- the rows that stay alive
 
-module _ (s re : ℕ → Bool) (a rows : List ℕ) (q j r x : ℕ) (h : x ≡ start-of rows r) where
+module _ (s re : ℕ → Bool) (a rows : List ℕ) (q j r : ℕ) where
   abbrev word : ℕ
-  word = getD a (x + 3 * q + 2) 0
+  word = allowed-of a (cell-of rows r q)
 
-  same : kept-by a rows s re q j r ≡ (s r && not (re r && eqb (bit word j) 0))
-  same = rw h
+  module _ (c : Cell) (h : c ≡ cell-at a (cell-of rows r q)) where
+    bit-is : eqb (bit (number-of (c .allowed)) j) 1 ≡ eqb (bit word j) 1
+    bit-is = ap (λ (x : Cell). eqb (bit (number-of (x .allowed)) j) 1) h
 
-  pub stays-allowed : (b : Bool) → re r ≡ true → eqb (bit word j) 1 ≡ true → b ≡ s r → b ≡ kept-by a rows s re q j r
-  stays-allowed b e z i = i ∙ go (s r) (eqb (bit word j) 0) refl ∙ sym same
+    pub stays-allowed : (b : Bool) → re r ≡ true → eqb (bit (number-of (c .allowed)) j) 1 ≡ true → b ≡ s r → b ≡ kept-by a rows s re q j r
+    stays-allowed b e y i = let z = sym bit-is ∙ y in i ∙ go (s r) (eqb (bit word j) 0) refl z
+      where
+        go : (y v : Bool) → eqb (bit word j) 0 ≡ v → eqb (bit word j) 1 ≡ true → y ≡ (y && not (re r && v))
+        go y true w z = absurd (omega (arith, eqb-eq (bit word j) 0 w, eqb-eq (bit word j) 1 z))
+        go true false w z = rw e
+        go false false w z = refl
+
+    pub stays-excluded : re r ≡ true → eqb (bit (number-of (c .allowed)) j) 1 ≡ false → false ≡ kept-by a rows s re q j r
+    stays-excluded e y = go (s r) (eqb (bit word j) 0) refl (sym bit-is ∙ y)
+      where
+        go : (y v : Bool) → eqb (bit word j) 0 ≡ v → eqb (bit word j) 1 ≡ false → false ≡ (y && not (re r && v))
+        go true true w z = rw e
+        go false true w z = refl
+        go y false w z = absurd (omega (arith, eqb-ne (bit word j) 0 w, eqb-ne (bit word j) 1 z, bit-lt word j))
+
+  pub stays-virtual : (b : Bool) → re r ≡ false → b ≡ s r → b ≡ kept-by a rows s re q j r
+  stays-virtual b e i = i ∙ go (s r)
     where
-      go : (y v : Bool) → eqb (bit word j) 0 ≡ v → y ≡ (y && not (re r && v))
-      go y true w = absurd (omega (arith, eqb-eq (bit word j) 0 w, eqb-eq (bit word j) 1 z))
-      go true false w = rw e
-      go false false w = refl
+      go : (x : Bool) → x ≡ (x && not (re r && eqb (bit word j) 0))
+      go true = rw e
+      go false = refl
 
-  pub stays-excluded : re r ≡ true → eqb (bit word j) 1 ≡ false → false ≡ kept-by a rows s re q j r
-  stays-excluded e z = go (s r) (eqb (bit word j) 0) refl ∙ sym same
+-- a bit is 1 where it is one of the set or of a row's edges
+
+abbrev bit-if : Bool → ℕ
+bit-if b = cond b 1 0
+
+module _ (re : ℕ → Bool) (a rows : List ℕ) (q r m : ℕ) where
+  abbrev held : ℕ
+  held = allowed-of a (cell-of rows r q)
+
+  pub edges-in : (c : Cell) → c ≡ cell-at a (cell-of rows r q) → re r ≡ true → (e s : ℕ) → ((j : ℕ) → bit e j ≡ cond (eqb (bit (number-of (c .allowed)) j) (bit (number-of (c .allowed)) (j + 1))) 0 1) → ((j : ℕ) → bit s j ≡ max (bit m j) (bit e j))
+      → (j : ℕ) → bit s j ≡ cond (edge-by a rows re q j r) 1 (bit m j)
+  edges-in c h i e s f g j = g j ∙ ap (max (bit m j)) (f j ∙ ap (λ (x : Cell). cond (eqb (bit (number-of (x .allowed)) j) (bit (number-of (x .allowed)) (j + 1))) 0 1) h) ∙ rw i (go (bit m j) (bit held j) (bit held (j + 1)) (bit-lt m j) (bit-lt held j) (bit-lt held (j + 1)))
     where
-      go : (y v : Bool) → eqb (bit word j) 0 ≡ v → false ≡ (y && not (re r && v))
-      go true true w = rw e
-      go false true w = refl
-      go y false w = absurd (omega (arith, eqb-ne (bit word j) 0 w, eqb-ne (bit word j) 1 z, bit-lt word j))
+      go : (z x y : ℕ) → z < 2 → x < 2 → y < 2 → max z (cond (eqb x y) 0 1) ≡ cond (just-one (eqb x 1) (eqb y 1)) 1 z
+      go (suc (suc z)) x y p u v = absurd (omega arith)
+      go zero (suc (suc x)) y p u v = absurd (omega arith)
+      go zero zero (suc (suc y)) p u v = absurd (omega arith)
+      go zero zero zero p u v = refl
+      go zero zero (suc zero) p u v = refl
+      go zero (suc zero) (suc (suc y)) p u v = absurd (omega arith)
+      go zero (suc zero) zero p u v = refl
+      go zero (suc zero) (suc zero) p u v = refl
+      go (suc zero) (suc (suc x)) y p u v = absurd (omega arith)
+      go (suc zero) zero (suc (suc y)) p u v = absurd (omega arith)
+      go (suc zero) zero zero p u v = refl
+      go (suc zero) zero (suc zero) p u v = refl
+      go (suc zero) (suc zero) (suc (suc y)) p u v = absurd (omega arith)
+      go (suc zero) (suc zero) zero p u v = refl
+      go (suc zero) (suc zero) (suc zero) p u v = refl
 
-pub stays-virtual : (s re : ℕ → Bool) (a rows : List ℕ) (q j r : ℕ) (b : Bool) → re r ≡ false → b ≡ s r → b ≡ kept-by a rows s re q j r
-stays-virtual s re a rows q j r b e i = i ∙ go (s r)
-  where
-    go : (x : Bool) → x ≡ (x && not (re r && eqb (bit (getD a (cell-of rows r q + 2) 0) j) 0))
-    go true = rw e
-    go false = refl
+  pub no-edges : re r ≡ false → (j : ℕ) → bit m j ≡ cond (edge-by a rows re q j r) 1 (bit m j)
+  no-edges i j = rw i
+
+-- one row more
+any-more : (f : ℕ → Bool) (i m : ℕ) → any f (count-up i (suc m)) ≡ (any f (count-up i m) || f (i + m))
+any-more f i zero = or-false (f i) ∙ ap f (omega arith)
+any-more f i (suc m) =
+    let e : suc i + m ≡ i + suc m = omega arith in
+    ap (λ b. f i || b) (any-more f (suc i) m) ∙ sym (or-assoc (f i) (any f (count-up (suc i) m)) (f (suc i + m))) ∙ ap (λ x. (f i || any f (count-up (suc i) m)) || f x) e
+
+-- the set of ends, row by row; f v r says whether row r has an edge behind v
+module _ (f : ℕ → ℕ → Bool) where
+  abbrev pub EndsOf : ℕ → ℕ → Type 0
+  EndsOf n s = (j : ℕ) → bit s j ≡ cond (eqb j last-level || any (f j) (count-up 0 n)) 1 0
+
+  pub ends-first : (s : ℕ) → ((j : ℕ) → bit s j ≡ cond (eqb j last-level) 1 0) → EndsOf 0 s
+  ends-first s h j = h j ∙ ap bit-if (sym (or-false (eqb j last-level)))
+
+  pub ends-next : (r s t : ℕ) → EndsOf r s → ((j : ℕ) → bit t j ≡ cond (f j r) 1 (bit s j)) → EndsOf (r + 1) t
+  ends-next r s t h g j =
+      let n : r + 1 ≡ suc r = omega arith in
+      let z : 0 + r ≡ r = omega arith in
+      g j ∙ ap (cond (f j r) 1) (h j) ∙ go (f j r) ∙ ap bit-if (or-assoc (eqb j last-level) (any (f j) (count-up 0 r)) (f j r) ∙ ap (λ b. eqb j last-level || b) (sym (ap (λ (m : ℕ). any (f j) (count-up 0 m)) n ∙ any-more (f j) 0 r ∙ ap (λ (x : ℕ). any (f j) (count-up 0 r) || f j x) z)))
+    where
+      go : (b : Bool) → cond b 1 (bit-if (eqb j last-level || any (f j) (count-up 0 r))) ≡ bit-if ((eqb j last-level || any (f j) (count-up 0 r)) || b)
+      go true = ap bit-if (sym (or-true (eqb j last-level || any (f j) (count-up 0 r))))
+      go false = ap bit-if (sym (or-false (eqb j last-level || any (f j) (count-up 0 r))))
+
+  pub ends-last : (n r s l m : ℕ) → n ≤ r → r ≤ n → EndsOf r s → ((j : ℕ) → bit l j ≡ cond (ltb j level-count) 1 0) → ((j : ℕ) → bit m j ≡ min (bit s j) (bit l j)) → (j : ℕ) → bit m j ≡ cond (ltb j level-count && (eqb j last-level || any (f j) (count-up 0 n))) 1 0
+  ends-last n r s l m p q h g e j =
+      let z : r ≡ n = omega arith in
+      e j ∙ ap₂ min (h j ∙ ap (λ (x : ℕ). bit-if (eqb j last-level || any (f j) (count-up 0 x))) z) (g j) ∙ both (eqb j last-level || any (f j) (count-up 0 n)) (ltb j level-count)
+    where
+      both : (x y : Bool) → min (bit-if x) (bit-if y) ≡ bit-if (y && x)
+      both true true = refl
+      both true false = refl
+      both false true = refl
+      both false false = refl
+
+-- the heads of a kind
+module _ {t : List ℕ} {k : ℕ} (g : Heading t k) where
+  pub few-heads : (k < kind-limit) × (count-of t k ≤ heads-width)
+  few-heads = (omega (arith, g .there, kinds-same (g .known), words-of (g .known) .few-kinds), omega (arith, g .known .decoded .head-count k (g .there), heads-most (g .known) k (omega (arith, g .there, kinds-same (g .known)))))
+
+  pub all-levels : first-of t k ≡ level-base → count-of t k ≡ level-count
+  all-levels e =
+      let n : is-number-kind (g .known .sig) k ≡ true = number-first (g .known) k (g .there) ∙ rw e in
+      g .known .decoded .head-count k (g .there) ∙ ap (λ b. length (cond b levels (numbers (g .known .sig) k))) n ∙ count-length level-base level-count
+
+  pub level-heads : (s j : ℕ) (f : ℕ → Bool) → first-of t k ≡ level-base → bit s j ≡ cond (ltb j level-count && f j) 1 0 → bit s j ≡ cond (ltb j (count-of t k) && cond (eqb (first-of t k) level-base) (f j) true) 1 0
+  level-heads s j f e h = rw (all-levels e, e) h
+
+  pub other-heads : (s j m : ℕ) (f : ℕ → Bool) → (first-of t k ≡ level-base → ⊥) → m ≡ count-of t k → bit s j ≡ cond (ltb j m) 1 0 → bit s j ≡ cond (ltb j (count-of t k) && cond (eqb (first-of t k) level-base) (f j) true) 1 0
+  other-heads s j m f e q h = h ∙ rw (q, eqb-no (first-of t k) level-base e) (ap bit-if (sym (and-true (ltb j (count-of t k)))))

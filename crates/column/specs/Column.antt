@@ -2,34 +2,36 @@
 use mathlib.Core.Path.{_≡_}
 use mathlib.Core.Logic.{_⊎_}
 use mathlib.Core.List.{List}
-use mathlib.Core.Bool.{Bool, true, false}
+use mathlib.Core.Bool.{Bool, true, false, _&&_, _||_, cond}
 use Prim.Native.Nat.{ℕ, _+_, _-_, _*_, _≤_, _<_}
+use lib.Dec.{eqb}
 use lib.ListN.{length, getD}
-use Rattle.signature.specs.Decoded.{Known}
-use Rattle.signature.specs.Limits.{kind-limit}
-use Rattle.signature.specs.Lists.{memb}
-use Rattle.sets.specs.Set.{set-limit}
+use Rattle.signature.specs.Decoded.{Known, first-of}
+use Rattle.signature.specs.Limits.{kind-limit, level-base, last-level}
+use Rattle.signature.specs.Lists.{memb, any, count-up}
+use Rattle.sets.specs.Set.{bit, heads-width}
 use Rattle.signature.specs.Signature.{Signature, heads}
 use Rattle.pattern.specs.Limits.{pattern-limit}
 use Rattle.cell.specs.Cell.{cell-width, kind-tag}
 use Rattle.tree.specs.Limits.{row-limit}
+use Rattle.tree.specs.Tree.{just-one}
 use Rattle.path.specs.Alive.{member, FirstAlive}
-use Rattle.path.specs.Standing.{refined-cell}
+use Rattle.path.specs.Standing.{refined-cell, tag-of, allowed-of}
 use Rattle.path.specs.State.{cell-of, own-of, row-stride}
 
 -- the tags and the heads that the cell of row r at its cursor allows
 abbrev pub tag-at : List ℕ → List ℕ → List ℕ → ℕ → ℕ
-tag-at a rows cur r = getD a (cell-of rows r (getD cur r 0)) 0
+tag-at a rows cur r = tag-of a (cell-of rows r (getD cur r 0))
 
 abbrev pub allowed-at : List ℕ → List ℕ → List ℕ → ℕ → ℕ
-allowed-at a rows cur r = getD a (cell-of rows r (getD cur r 0) + 2) 0
+allowed-at a rows cur r = allowed-of a (cell-of rows r (getD cur r 0))
 
 -- a cell's tag is of kind k
 pub record Seen (t : List ℕ) (tag : ℕ) : Type 0 where
   pub known : Known t
   pub k : ℕ
   pub there : k < known .decoded .n
-  pub is : (tag ≡ kind-tag + k) ⊎ (memb tag (heads (known .sig) k) ≡ true)
+  pub is : (tag ≡ kind-tag + k) ⊎ ((tag < kind-tag) × (memb tag (heads (known .sig) k) ≡ true))
 
 -- what the look at a cell says: its kind k where it is refined, else kind-limit
 pub record RowKind (sig : Signature) (k tag allowed res : ℕ) : Type 0 where
@@ -56,7 +58,7 @@ pub record Looking (t a rows : List ℕ) (n : ℕ) (re cur : List ℕ) : Type 0 
   pub cursors : n ≤ length cur
   pub long : row-stride * n ≤ length rows
   pub cell : (r : ℕ) → r < n → member re r ≡ true → cell-of rows r (getD cur r 0) + cell-width ≤ length a
-  pub tags : (r : ℕ) → r < n → member re r ≡ true → (tag-at a rows cur r ≡ kind-tag + k) ⊎ (memb (tag-at a rows cur r) (heads (known .sig) k) ≡ true)
+  pub tags : (r : ℕ) → r < n → member re r ≡ true → (tag-at a rows cur r ≡ kind-tag + k) ⊎ ((tag-at a rows cur r < kind-tag) × (memb (tag-at a rows cur r) (heads (known .sig) k) ≡ true))
 
 -- whoever knows that learns what row r says, and what the column says
 abbrev pub KindOfRow : List ℕ → List ℕ → List ℕ → ℕ → List ℕ → List ℕ → ℕ → ℕ → Type 0
@@ -70,9 +72,34 @@ pub record Keeping (a rows : List ℕ) (n : ℕ) (re cur : List ℕ) (j : ℕ) :
   pub few : n ≤ row-limit
   pub cursors : n ≤ length cur
   pub long : row-stride * n ≤ length rows
-  pub bit-small : j < set-limit
+  pub bit-small : j < heads-width
   pub cell : (r : ℕ) → r < n → member re r ≡ true → (0 < getD cur r 0) × (cell-of rows r (getD cur r 0 - 1) + cell-width ≤ length a)
 
 -- the same of one row
 abbrev pub KeepingRow : List ℕ → List ℕ → List ℕ → List ℕ → ℕ → ℕ → Type 0
-KeepingRow a rows re cur j r = (r < row-limit) × (r < length cur) × (row-stride * r + row-stride ≤ length rows) × (j < set-limit) × (member re r ≡ true → (0 < getD cur r 0) × (cell-of rows r (getD cur r 0 - 1) + cell-width ≤ length a))
+KeepingRow a rows re cur j r = (r < row-limit) × (r < length cur) × (row-stride * r + row-stride ≤ length rows) × (j < heads-width) × (member re r ≡ true → (0 < getD cur r 0) × (cell-of rows r (getD cur r 0 - 1) + cell-width ≤ length a))
+
+-- a kind that is there
+pub record Heading (t : List ℕ) (k : ℕ) : Type 0 where
+  pub known : Known t
+  pub there : k < known .decoded .n
+
+-- what is given to find the ends
+abbrev pub Edging : List ℕ → List ℕ → ℕ → List ℕ → List ℕ → Type 0
+Edging a rows n re cur = Keeping a rows n re cur 0
+
+-- row r allows just one of the heads number v and v + 1, by its cell q
+abbrev pub edge-by : List ℕ → List ℕ → (ℕ → Bool) → ℕ → ℕ → ℕ → Bool
+edge-by a rows real q v r = real r && just-one (eqb (bit (allowed-of a (cell-of rows r q)) v) 1) (eqb (bit (allowed-of a (cell-of rows r q)) (v + 1)) 1)
+
+-- by the cursors, which are raised by then
+abbrev pub edge-of : List ℕ → List ℕ → (ℕ → Bool) → List ℕ → ℕ → ℕ → Bool
+edge-of a rows real cur v r = edge-by a rows real (getD cur r 0 - 1) v r
+
+-- level v is an end
+abbrev pub end-of : List ℕ → List ℕ → ℕ → (ℕ → Bool) → List ℕ → ℕ → Bool
+end-of a rows n real cur v = eqb v last-level || any (edge-of a rows real cur v) (count-up 0 n)
+
+-- head number j of kind k has a child
+abbrev pub has-child : List ℕ → List ℕ → List ℕ → ℕ → (ℕ → Bool) → List ℕ → ℕ → ℕ → Bool
+has-child t a rows n real cur k j = cond (eqb (first-of t k) level-base) (end-of a rows n real cur j) true

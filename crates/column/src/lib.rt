@@ -1,29 +1,44 @@
-// The first column: of which kind it is where a row refines it, and which rows allow a head there.
-use cell::cell::CELL;
+// The first column: of which kind it is where a row refines it, which of its heads have a child there, and which rows allow a head.
 use cell::cell::KIND_TAG;
 use path::alive::SET_WORDS;
 use path::alive::has;
 use path::alive::put;
-use path::rows::start_of;
-use sets::set::has as has_bit;
-use sets::set::size;
+use path::rows::cell_of;
+use sets::heads::Heads;
+use sets::heads::edges;
+use sets::heads::full;
+use sets::heads::has as has_head;
+use sets::heads::join;
+use sets::heads::meet;
+use sets::heads::only;
+use sets::heads::size;
+use signature::decoded::LAST_LEVEL;
+use signature::decoded::LEVEL_BASE;
+use signature::decoded::LEVELS;
 use signature::decoded::count_of;
+use signature::decoded::first_of;
 use signature::decoded::kind_of;
 ghost use mathlib.Core.Path.{_≡_};
+ghost use mathlib.Core.Bool.{_&&_, cond};
 ghost use Prim.Native.Nat.{ℕ, _<_};
+ghost use lib.Dec.{ltb};
 ghost use lib.ListN.{length};
+ghost use Rattle.signature.specs.Decoded.{count-of};
+ghost use Rattle.signature.specs.Limits.{level-count};
+ghost use Rattle.sets.specs.Heads.{number-of};
+ghost use Rattle.sets.specs.Set.{bit};
 ghost use Rattle.path.specs.Alive.{member, set-words};
 ghost use Rattle.path.specs.State.{kept-of};
 ghost use Rattle.path.specs.Standing.{refined-cell};
-ghost use Rattle.column.specs.Column.{Seen, Looking, Keeping, KeepingRow, KindOfColumn, KindOfRow, RowKind};
+ghost use Rattle.column.specs.Column.{Seen, Looking, Keeping, KeepingRow, Heading, Edging, KindOfColumn, KindOfRow, RowKind, edge-of, end-of, has-child};
 
 // What stands for no kind.
 pub const NO_KIND: usize = 32;
 
 // Whether a cell names or excludes a constructor of its kind.
-fn refined(t: &[u16], tag: u64, allowed: u64) -> bool
+fn refined(t: &[u16], tag: u64, allowed: Heads) -> bool
     requires { ⌜ Seen (now t) tag ⌝ }
-    ensures { λ b. ⌜ ((g : Seen (now (t .entry)) tag) → b ≡ refined-cell (g .known .sig) (g .k) tag allowed) ⌝ }
+    ensures { λ b. ⌜ ((g : Seen (now (t .entry)) tag) → b ≡ refined-cell (g .known .sig) (g .k) tag (number-of allowed)) ⌝ }
 {
     if tag < KIND_TAG {
         return true;
@@ -44,9 +59,9 @@ fn cell_kind(t: &[u16], tag: u64) -> usize
 }
 
 // The kind of a cell that is refined, else NO_KIND.
-fn refined_kind(t: &[u16], tag: u64, allowed: u64) -> usize
+fn refined_kind(t: &[u16], tag: u64, allowed: Heads) -> usize
     requires { ⌜ Seen (now t) tag ⌝ }
-    ensures { λ x. ⌜ ((g : Seen (now (t .entry)) tag) → RowKind (g .known .sig) (g .k) tag allowed x) ⌝ }
+    ensures { λ x. ⌜ ((g : Seen (now (t .entry)) tag) → RowKind (g .known .sig) (g .k) tag (number-of allowed) x) ⌝ }
 {
     if refined(t, tag, allowed) {
         return cell_kind(t, tag);
@@ -68,8 +83,8 @@ fn row_kind(
     ensures { λ x. ⌜ KindOfRow (now (t .entry)) (now (a .entry)) (now (rows .entry)) n (now (re .entry)) (now (cur .entry)) r x ⌝ }
 {
     if has(re, r) {
-        let at = start_of(rows, r) as usize + CELL * cur[r] as usize;
-        return refined_kind(t, a[at], a[at + 2]);
+        let c = cell_of(a, rows, r, cur[r] as usize);
+        return refined_kind(t, c.tag, c.allowed);
     }
     NO_KIND
 }
@@ -111,8 +126,8 @@ fn stays(
     ensures { λ b. ⌜ b ≡ kept-of (now (a .entry)) (now (rows .entry)) (member (now (s .entry))) (member (now (re .entry))) (now (cur .entry)) j r ⌝ }
 {
     if has(re, r) {
-        let at = start_of(rows, r) as usize + CELL * (cur[r] as usize - 1);
-        if has_bit(a[at + 2], j as u32) {
+        let c = cell_of(a, rows, r, cur[r] as usize - 1);
+        if has_head(c.allowed, j as u32) {
             return has(s, r);
         }
         return false;
@@ -140,4 +155,59 @@ pub fn keep(
         put(next, r, b);
         r += 1;
     }
+}
+
+// The set with each v where row r allows just one of the heads number v and v + 1; its cursor is past its cell.
+fn with_edges(
+    a: &[u64],
+    rows: &[u16],
+    re: &[u64; SET_WORDS],
+    cur: &[u8],
+    r: usize,
+    hs: Heads,
+) -> Heads
+    requires { ⌜ KeepingRow (now a) (now rows) (now re) (now cur) 0 r ⌝ }
+    ensures { λ s. ⌜ ((j : ℕ) → bit (number-of s) j ≡ cond (edge-of (now (a .entry)) (now (rows .entry)) (member (now (re .entry))) (now (cur .entry)) j r) 1 (bit (number-of hs) j)) ⌝ }
+{
+    if has(re, r) {
+        let c = cell_of(a, rows, r, cur[r] as usize - 1);
+        let es = edges(c.allowed);
+        return join(hs, es);
+    }
+    hs
+}
+
+// The levels that are ends: the last one, and each v where some row of the set allows just one of v and v + 1.
+fn ends(a: &[u64], rows: &[u16], n: usize, re: &[u64; SET_WORDS], cur: &[u8]) -> Heads
+    requires { ⌜ Edging (now a) (now rows) n (now re) (now cur) ⌝ }
+    ensures { λ s. ⌜ ((j : ℕ) → bit (number-of s) j ≡ cond (ltb j level-count && end-of (now (a .entry)) (now (rows .entry)) n (member (now (re .entry))) (now (cur .entry)) j) 1 0) ⌝ }
+{
+    let mut hs = only(LAST_LEVEL as u32);
+    let mut r = 0;
+    while r < n {
+        let next = with_edges(a, rows, re, cur, r, hs);
+        hs = next;
+        r += 1;
+    }
+    let levels = full(LEVELS as u32);
+    meet(hs, levels)
+}
+
+// The heads of kind k that have a child where the column is tested: all of them, or the levels that are ends.
+pub fn heads(
+    t: &[u16],
+    a: &[u64],
+    rows: &[u16],
+    n: usize,
+    re: &[u64; SET_WORDS],
+    cur: &[u8],
+    k: usize,
+) -> Heads
+    requires { ⌜ Heading (now t) k × Edging (now a) (now rows) n (now re) (now cur) ⌝ }
+    ensures { λ s. ⌜ ((j : ℕ) → bit (number-of s) j ≡ cond (ltb j (count-of (now (t .entry)) k) && has-child (now (t .entry)) (now (a .entry)) (now (rows .entry)) n (member (now (re .entry))) (now (cur .entry)) k j) 1 0) ⌝ }
+{
+    if first_of(t, k) == LEVEL_BASE {
+        return ends(a, rows, n, re, cur);
+    }
+    full(count_of(t, k) as u32)
 }

@@ -1,30 +1,32 @@
 -- What decoding answers, step by step.
 use mathlib.Core.Path.{_≡_, refl, sym, ap, ap₂, _∙_, subst}
-use mathlib.Core.List.{List, [], _∷_}
+use mathlib.Core.List.{List, [], _∷_, map}
 use mathlib.Core.Option.{Option, none, some}
-use mathlib.Core.Bool.{Bool, true, false, _&&_}
+use mathlib.Core.Bool.{Bool, true, false, cond, not, _&&_, _||_}
 use Prim.Native.Nat.{ℕ, zero, suc, _+_, _*_, _≤_, _<_}
 use native.Mathlib.Nat.{zero-add}
 use native.Mathlib.Decide.{decLe}
 use native.Mathlib.Omega.{arith}
 use lib.ListN.{length, getD, drop, getElem?}
 use lib.Dec.{leb, ltb, eqb}
-use Rattle.signature.specs.Limits.{constructor-limit, kind-limit, heads-limit, small-size}
-use Rattle.signature.specs.Lists.{_>>=_, require, all, count-up, is-some}
+use Rattle.signature.specs.Limits.{constructor-limit, kind-limit, argument-limit, row-limit, level-base, level-count, small-size}
+use Rattle.signature.specs.Lists.{_>>=_, require, all, count-up, first, is-some}
 use Rattle.signature.specs.Lawful.{SignatureWords}
-use Rattle.signature.specs.Read.{read-constructors, read-signature, count-kinds, lawful, lawful-kinds, least}
-use Rattle.signature.specs.Signature.{Signature, Constructor, heads}
-use Rattle.signature.specs.Decoded.{Decoded, stride, kinds-at, arity-of, argument-of, count-of}
-use Rattle.decoding.specs.Decoding.{row, rows, SameBelow, Arities, RowsRead, InOrder, kinds-or-0, Fit, KindsNoted, sizes-after, lowest}
+use Rattle.signature.specs.Read.{read-constructors, read-signature, count-kinds, stands-alone, lawful, lawful-kinds, least, Signed}
+use Rattle.signature.specs.Signature.{Signature, Constructor, numbers, levels, is-number-kind, heads}
+use Rattle.signature.specs.Decoded.{Decoded, stride, kinds-at, kind-of, arity-of, argument-of, first-of, count-of, least-head-of, head-kind, least-head}
+use Rattle.decoding.specs.Decoding.{row, rows, SameBelow, Arities, RowsRead, InOrder, kinds-or-0, alone-by, Fit, KindsNoted, Marked, sizes-after, lowest}
 use Rattle.signature.proofs.Booleans.{and-false}
 use Rattle.signature.proofs.Members.{some-when}
 use Rattle.signature.proofs.ListFacts.{at-count, at-count-is, at-out, test-at}
 use Rattle.signature.proofs.Counting.{counted-length}
 use Rattle.signature.proofs.Tests.{none≢some, some-inj, bind-some, leb-yes, leb-no, le-of}
 use Rattle.signature.proofs.SignatureBack.{signature-is}
+use Rattle.signature.proofs.KnownFacts.{count-length}
+use Rattle.signature.proofs.LeastValue.{lowest-level}
 use Rattle.decoding.proofs.Rows.{row-same, rows-same}
 use Rattle.decoding.proofs.Ordering.{rising}
-use Rattle.decoding.proofs.Narrow.{Exist, size-same, small-same, head-same}
+use Rattle.decoding.proofs.Narrow.{Exist, least-number, size-same, small-same, head-same}
 
 -- both promises of decoding
 abbrev pub Answer : List ℕ → Bool → List ℕ → Type 0
@@ -63,7 +65,10 @@ not-read w u v n b l e h z = refused w v (read-is w none l (ap (λ x. read-const
 
 -- the tests of `lawful`
 abbrev Few : Signature → ℕ → Bool
-Few sig m = all (λ k. leb (length (heads sig k)) heads-limit) (count-up 0 m)
+Few sig m = all (λ k. leb (length (numbers sig k)) row-limit) (count-up 0 m)
+
+abbrev Alone : Signature → Bool
+Alone sig = all (stands-alone sig) sig
 
 abbrev There : Signature → ℕ → Bool
 There sig m = all (λ c. all (λ k. ltb k m) (c .args)) sig
@@ -71,7 +76,7 @@ There sig m = all (λ c. all (λ k. ltb k m) (c .args)) sig
 abbrev Small : Signature → ℕ → Bool
 Small sig m = all (λ j. leb j small-size) (least small-size sig m)
 
-lawful-is : (sig : Signature) (m : ℕ) → count-kinds sig ≡ some m → 1 ≤ length sig → length sig ≤ constructor-limit → m ≤ kind-limit → lawful sig ≡ (Few sig m && There sig m && Small sig m)
+lawful-is : (sig : Signature) (m : ℕ) → count-kinds sig ≡ some m → 1 ≤ length sig → length sig ≤ constructor-limit → m ≤ kind-limit → lawful sig ≡ (Few sig m && Alone sig && There sig m && Small sig m)
 lawful-is sig m e a b c = ap (lawful-kinds sig) e ∙ rw (leb-yes 1 (length sig) a, leb-yes (length sig) constructor-limit b, leb-yes m kind-limit c)
 
 kinds-positive : (sig : Signature) (m : ℕ) → count-kinds sig ≡ some m → 0 < m
@@ -86,9 +91,14 @@ kinds-known (some j) m e l = go (leb j kind-limit) refl
     go true q = ap some (sym (e ∙ (rw q)))
     go false q = absurd (let z : m ≡ 0 = e ∙ (rw q) in omega arith)
 
-and-none : (a b c : Bool) → b ≡ false → (a && b && c) ≡ false
-and-none true b c e = rw e
-and-none false b c e = refl
+second-not : (a b c d : Bool) → b ≡ false → (a && b && c && d) ≡ false
+second-not true b c d e = rw e
+second-not false b c d e = refl
+
+third-not : (a b c d : Bool) → c ≡ false → (a && b && c && d) ≡ false
+third-not true true c d e = rw e
+third-not true false c d e = refl
+third-not false b c d e = refl
 
 not-ordered : (sig : Signature) → 0 ≡ kinds-or-0 (count-kinds sig) → lawful sig ≡ false
 not-ordered sig h = go (count-kinds sig) refl
@@ -107,6 +117,10 @@ not-ordered sig h = go (count-kinds sig) refl
 all-same : (f g : ℕ → Bool) (i n : ℕ) → ((j : ℕ) → i ≤ j → j < i + n → f j ≡ g j) → all f (count-up i n) ≡ all g (count-up i n)
 all-same f g i zero e = refl
 all-same f g i (suc n) e = ap₂ _&&_ (e i (omega arith) (omega arith)) (all-same f g (suc i) n (λ j l m. e j (omega arith) (omega arith)))
+
+all-rows : (f g : Constructor → Bool) (h : ℕ → Constructor) (i n : ℕ) → ((j : ℕ) → i ≤ j → j < i + n → f (h j) ≡ g (h j)) → all f (map h (count-up i n)) ≡ all g (map h (count-up i n))
+all-rows f g h i zero e = refl
+all-rows f g h i (suc n) e = ap₂ _&&_ (e i (omega arith) (omega arith)) (all-rows f g h (suc i) n (λ j l m. e j (omega arith) (omega arith)))
 
 at-within : {A : Type 0} (xs : List A) (i : ℕ) (a : A) → getElem? xs i ≡ some a → i < length xs
 at-within xs i a e = go (decLe (length xs) i)
@@ -159,20 +173,29 @@ module _ {w : List ℕ} {n : ℕ} {u v : List ℕ} {m : ℕ} (k : Ranked w n u v
   known : count-kinds (rows u 0 n) ≡ some m
   known = kinds-known (count-kinds (rows u 0 n)) m (k .order .counted) kind-there
 
-  tested : lawful (rows u 0 n) ≡ (Few (rows u 0 n) m && There (rows u 0 n) m && Small (rows u 0 n) m)
+  tested : lawful (rows u 0 n) ≡ (Few (rows u 0 n) m && Alone (rows u 0 n) && There (rows u 0 n) m && Small (rows u 0 n) m)
   tested = let z : ¬ (n ≡ 0) = k .begun .one in lawful-is (rows u 0 n) m known (omega (arith, long)) (omega (arith, long, most)) (k .order .few)
 
-  few-is : (f : Bool) → f ≡ all (λ i. leb (count-of v i) heads-limit) (count-up 0 m) → Few (rows u 0 n) m ≡ f
-  few-is f e = sym (e ∙ all-same (λ i. leb (count-of v i) heads-limit) (λ i. leb (length (heads (rows u 0 n) i)) heads-limit) 0 m (λ j l z. ap (λ y. leb y heads-limit) (k .order .noted kind-there j (omega arith) .1)))
+  few-is : (f : Bool) → f ≡ all (λ i. leb (count-of v i) row-limit) (count-up 0 m) → Few (rows u 0 n) m ≡ f
+  few-is f e = sym (e ∙ all-same (λ i. leb (count-of v i) row-limit) (λ i. leb (length (numbers (rows u 0 n) i)) row-limit) 0 m (λ j l z. ap (λ y. leb y row-limit) (k .order .noted kind-there j (omega arith) .1)))
 
-  pub many-heads : (x : List ℕ) (f : Bool) → f ≡ all (λ i. leb (count-of v i) heads-limit) (count-up 0 m) → f ≡ false → Answer w false x
-  many-heads x f e z = unlawful (k .begun) x (tested ∙ rw (few-is f e ∙ z))
+  pub many-rows : (x : List ℕ) (f : Bool) → f ≡ all (λ i. leb (count-of v i) row-limit) (count-up 0 m) → f ≡ false → Answer w false x
+  many-rows x f e z = unlawful (k .begun) x (tested ∙ rw (few-is f e ∙ z))
+
+  alone-is : (a : Bool) → a ≡ all (alone-by v) (rows v 0 n) → Alone (rows u 0 n) ≡ a
+  alone-is a e = sym (e ∙ ap (λ z. all (alone-by v) z) same ∙ all-rows (alone-by v) (stands-alone (rows u 0 n)) (λ d. row u d) 0 n (λ j l z. ap (λ y. not (row u j .number) || eqb y 1) (k .order .noted kind-there (kind-of u j) (k .order .each kind-there j (omega arith)) .1)))
+
+  pub not-alone : (x : List ℕ) (a : Bool) → a ≡ all (alone-by v) (rows v 0 n) → a ≡ false → Answer w false x
+  not-alone x a e z = unlawful (k .begun) x (tested ∙ second-not (Few (rows u 0 n) m) (Alone (rows u 0 n)) (There (rows u 0 n) m) (Small (rows u 0 n) m) (alone-is a e ∙ z))
+
+  pub kinds-low : (c : ℕ) → c < n → kind-of v c < kind-limit
+  kinds-low c l = omega (arith, most, k .order .rows-same (stride * c) (omega (arith, most)), k .order .each kind-there c l, k .order .few)
 
   there-is : (g : Bool) → g ≡ There (rows v 0 n) m → There (rows u 0 n) m ≡ g
   there-is g e = sym (e ∙ ap (λ z. There z m) same)
 
   pub no-kind : (x : List ℕ) (g : Bool) → g ≡ There (rows v 0 n) m → g ≡ false → Answer w false x
-  no-kind x g e z = unlawful (k .begun) x (tested ∙ and-none (Few (rows u 0 n) m) (There (rows u 0 n) m) (Small (rows u 0 n) m) (there-is g e ∙ z))
+  no-kind x g e z = unlawful (k .begun) x (tested ∙ third-not (Few (rows u 0 n) m) (Alone (rows u 0 n)) (There (rows u 0 n) m) (Small (rows u 0 n) m) (there-is g e ∙ z))
 
   pub fit : (g : Bool) → g ≡ There (rows v 0 n) m → g ≡ true → Fit v n
   fit g e z = record { long = k .order .long; few = most; each = λ c l. record { kind = omega (arith, most, k .order .rows-same (stride * c) (omega (arith, most)), k .order .each kind-there c l, k .order .few); arity = arities (k .begun) v m (k .order) c l; arguments = λ j i. omega (arith, k .order .few, argument c l j i) } }
@@ -182,40 +205,95 @@ module _ {w : List ℕ} {n : ℕ} {u v : List ℕ} {m : ℕ} (k : Ranked w n u v
           let p : all (λ i. ltb i m) (row v c .args) ≡ true = test-at (λ d. all (λ i. ltb i m) (d .args)) (rows v 0 n) c (row v c) (sym e ∙ z) (at-count (λ d. row v d) 0 n c l ∙ ap (λ i. some (row v i)) (zero-add c)) in
           le-of (suc (argument-of v c j)) m (test-at (λ i. ltb i m) (row v c .args) j (argument-of v c j) p (at-count (λ i. getD v i 0) (stride * c + 2) (arity-of v c) j i))
 
+  pub fit-after : (x : List ℕ) (r : Bool) → Fit v n → KindsNoted v n m x r → Fit x n
+  fit-after x r f h = record { long = h .long; few = most; each = λ c l. let g = f .each c l in let a : arity-of x c ≡ arity-of v c = h .rows-same (stride * c + 1) (omega (arith, most)) in record { kind = omega (arith, h .rows-same (stride * c) (omega (arith, most)), g .kind); arity = omega (arith, g .arity); arguments = λ j i. omega (arith, h .rows-same (stride * c + 2 + j) (omega (arith, most, g .arity)), g .arguments j (omega arith)) } }
+
   -- the table is whole
-  module _ (x : List ℕ) (f g r : Bool) (ef : f ≡ all (λ i. leb (count-of v i) heads-limit) (count-up 0 m)) (zf : f ≡ true) (eg : g ≡ There (rows v 0 n) m) (zg : g ≡ true) (h : KindsNoted v n m x r) where
+  module _ (x y : List ℕ) (f a g r : Bool) (ef : f ≡ all (λ i. leb (count-of v i) row-limit) (count-up 0 m)) (zf : f ≡ true) (ea : a ≡ all (alone-by v) (rows v 0 n)) (za : a ≡ true) (eg : g ≡ There (rows v 0 n) m) (zg : g ≡ true) (h : KindsNoted v n m x r) (o : Marked x n y) where
     exist : Exist m (rows u 0 n)
     exist = there-is g eg ∙ zg
 
     answer : r ≡ lawful (rows u 0 n)
-    answer = h .small ∙ ap (λ z. all (λ i. leb (getD (sizes-after small-size z) i 0) small-size) (count-up 0 m)) same ∙ sym (tested ∙ rw (few-is f ef ∙ zf, exist) (small-same (rows u 0 n) m exist (k .order .few)))
+    answer = h .small ∙ ap (λ z. all (λ i. leb (getD (sizes-after small-size z) i 0) small-size) (count-up 0 m)) same ∙ sym (tested ∙ rw (few-is f ef ∙ zf, alone-is a ea ∙ za, exist) (small-same (rows u 0 n) m exist (k .order .few)))
 
     kept : SameBelow kinds-at u x
     kept i l = h .rows-same i l ∙ k .order .rows-same i l
 
-    row-of : (c : ℕ) (d : Constructor) → getElem? (rows u 0 n) c ≡ some d → row x c ≡ d
+    same-rows : rows x 0 n ≡ rows u 0 n
+    same-rows = rows-same u x kinds-at n kept (omega (arith, most)) (k .begun .few-arguments)
+
+    row-of : (c : ℕ) (d : Constructor) → getElem? (rows u 0 n) c ≡ some d → (c < n) × (row x c ≡ d)
     row-of c d e =
         let l : c < n = omega (arith, at-within (rows u 0 n) c d e, long) in
-        row-same u x kinds-at c kept (omega (arith, most)) (k .begun .few-arguments c l) ∙ ap (λ z. row u z) (sym (zero-add c)) ∙ at-count-is (λ z. row u z) 0 n c d e
+        (l, row-same u x kinds-at c kept (omega (arith, most)) (k .begun .few-arguments c l) ∙ ap (λ z. row u z) (sym (zero-add c)) ∙ at-count-is (λ z. row u z) 0 n c d e)
 
-    table : Decoded (rows u 0 n) x
-    table = record {
+    -- what marking leaves of a row
+    unmarked : (c i : ℕ) → c < n → 1 ≤ i → i < stride → getD y (stride * c + i) 0 ≡ getD x (stride * c + i) 0
+    unmarked c i l p q = o .others (stride * c + i) (omega (arith, most)) (λ d z e. omega arith)
+
+    kind-is : (c : ℕ) (d : Constructor) → getElem? (rows u 0 n) c ≡ some d → kind-of y c ≡ head-kind d
+    kind-is c d e = let (l, q) = row-of c d e in o .kind c l ∙ ap head-kind q
+
+    arity-is : (c : ℕ) (d : Constructor) → getElem? (rows u 0 n) c ≡ some d → arity-of y c ≡ length (d .args)
+    arity-is c d e = let (l, q) = row-of c d e in unmarked c 1 l (omega arith) (omega arith) ∙ sym (counted-length (λ z. getD x z 0) (stride * c + 2) (arity-of x c)) ∙ ap (λ z. length (z .args)) q
+
+    argument-is : (c j i : ℕ) (d : Constructor) → getElem? (rows u 0 n) c ≡ some d → getElem? (d .args) j ≡ some i → argument-of y c j ≡ i
+    argument-is c j i d e z =
+        let (l, q) = row-of c d e in
+        let p : getElem? (row x c .args) j ≡ some i = ap (λ b. getElem? (b .args) j) q ∙ z in
+        let b : j < arity-of x c = omega (arith, at-within (row x c .args) j i p, counted-length (λ s. getD x s 0) (stride * c + 2) (arity-of x c)) in
+        let few : arity-of x c ≤ argument-limit = omega (arith, kept (stride * c + 1) (omega (arith, most)), k .begun .few-arguments c l) in
+        o .others (stride * c + 2 + j) (omega (arith, most)) (λ s t w. omega arith) ∙ at-count-is (λ s. getD x s 0) (stride * c + 2) (arity-of x c) j i p
+
+    abbrev sig : Signature
+    sig = rows u 0 n
+
+    module _ (i : ℕ) (l : i < m) where
+      number-same : is-number-kind (rows x 0 n) i ≡ is-number-kind sig i
+      number-same = ap (λ z. is-number-kind z i) same-rows
+
+      first-is : first-of y i ≡ first (heads sig i)
+      first-is = o .first i ∙ ap₂ (λ b z. cond b level-base z) number-same (h .heads-same i l .0 ∙ k .order .noted kind-there i l .0) ∙ go (is-number-kind sig i)
+        where
+          go : (b : Bool) → cond b level-base (first (numbers sig i)) ≡ first (cond b levels (numbers sig i))
+          go true = refl
+          go false = refl
+
+      count-is : count-of y i ≡ length (heads sig i)
+      count-is = o .count i ∙ ap₂ (λ b z. cond b level-count z) number-same (h .heads-same i l .1 ∙ k .order .noted kind-there i l .1) ∙ go (is-number-kind sig i)
+        where
+          go : (b : Bool) → cond b level-count (length (numbers sig i)) ≡ length (cond b levels (numbers sig i))
+          go true = sym (count-length level-base level-count)
+          go false = refl
+
+      lowest-is : Signed sig → least-head-of y i ≡ least-head sig m i
+      lowest-is s = o .lowest-heads i ∙ ap₂ (λ b z. cond b level-base z) number-same (h .lowest-heads i l ∙ ap (λ z. lowest z (sizes-after small-size z) i) same ∙ head-same sig m exist (k .order .few) i l) ∙ go (is-number-kind sig i) refl
+        where
+          go : (b : Bool) → is-number-kind sig i ≡ b → cond b level-base (least-number sig m i) ≡ least-head sig m i
+          go true q = sym (lowest-level sig s m known i l q)
+          go false q = rw q
+
+    table : Signed sig → Decoded sig y
+    table s = record {
       n = m;
       kinds-are = known;
-      long = h .long;
-      kind-count = h .kind-count;
-      constructor-count = h .constructor-count ∙ sym long;
-      kind = λ c d e. ap (λ z. z .kind) (row-of c d e);
-      arity = λ c d e. sym (counted-length (λ z. getD x z 0) (stride * c + 2) (arity-of x c)) ∙ ap (λ z. length (z .args)) (row-of c d e);
-      argument = λ c j i d e a. at-count-is (λ z. getD x z 0) (stride * c + 2) (arity-of x c) j i (ap (λ z. getElem? (z .args) j) (row-of c d e) ∙ a);
-      first-head = λ i l. h .heads-same i l .0 ∙ k .order .noted kind-there i l .0;
-      head-count = λ i l. h .heads-same i l .1 ∙ k .order .noted kind-there i l .1;
-      lowest-least = λ i l. h .lowest-heads i l ∙ ap (λ z. lowest z (sizes-after small-size z) i) same ∙ head-same (rows u 0 n) m exist (k .order .few) i l;
-      smallest = λ i l. h .least-sizes i l ∙ ap (λ z. getD (sizes-after small-size z) i 0) same ∙ size-same (rows u 0 n) m exist (k .order .few) i l;
+      long = o .long ∙ h .long;
+      kind-count = o .kinds-same ∙ h .kind-count;
+      constructor-count = o .constructors-same ∙ h .constructor-count ∙ sym long;
+      kind = kind-is;
+      arity = arity-is;
+      argument = argument-is;
+      first-head = first-is;
+      head-count = count-is;
+      lowest-least = λ i l. lowest-is i l s;
+      smallest = λ i l. o .sizes-same i (omega (arith, k .order .few)) ∙ h .least-sizes i l ∙ ap (λ z. getD (sizes-after small-size z) i 0) same ∙ size-same sig m exist (k .order .few) i l;
     }
 
-    pub decoded : Answer w r x
-    decoded = (answer ∙ sym (ap is-some (signed (k .begun)) ∙ some-when (lawful (rows u 0 n)) (rows u 0 n)), λ sig e. subst (λ z. Decoded z x) (same-sig sig e) table)
+    pub decoded : Answer w r y
+    decoded = (answer ∙ sym (ap is-some (signed (k .begun)) ∙ some-when (lawful sig) sig), λ s e. go s e (same-sig s e))
       where
-        same-sig : (sig : Signature) → read-signature w ≡ some sig → rows u 0 n ≡ sig
-        same-sig sig e = let (y, e₁, e₂) = bind-some (require (lawful (rows u 0 n))) (λ z. some (rows u 0 n)) sig (sym (signed (k .begun)) ∙ e) in some-inj (rows u 0 n) sig e₂
+        same-sig : (s : Signature) → read-signature w ≡ some s → sig ≡ s
+        same-sig s e = let (z, e₁, e₂) = bind-some (require (lawful sig)) (λ z. some sig) s (sym (signed (k .begun)) ∙ e) in some-inj sig s e₂
+
+        go : (s : Signature) → read-signature w ≡ some s → sig ≡ s → Decoded s y
+        go s e q = subst (λ z. Decoded z y) q (table (w, e ∙ ap some (sym q)))

@@ -11,8 +11,8 @@ use lib.Dec.{eqb, ltb, leb}
 use Rattle.signature.specs.Limits.{kind-limit, over-small, small-size}
 use Rattle.signature.specs.Lists.{all, first, keep, count-up}
 use Rattle.signature.specs.Read.{best, least, total, with-arg}
-use Rattle.signature.specs.Signature.{Signature, Constructor, heads, arguments}
-use Rattle.signature.specs.Decoded.{least-size, least-head}
+use Rattle.signature.specs.Signature.{Signature, Constructor, numbers, arguments}
+use Rattle.signature.specs.Decoded.{least-size}
 use Rattle.decoding.specs.Decoding.{sizes-after, lowest}
 use Rattle.signature.proofs.Booleans.{and-left, and-right}
 use Rattle.signature.proofs.ListFacts.{at-count, test-at}
@@ -63,6 +63,10 @@ keep-same : (f g : ℕ → Bool) → ((x : ℕ) → f x ≡ g x) → (xs : List 
 keep-same f g e [] = refl
 keep-same f g e (x ∷ xs) = ap₂ (λ b ys. cond b (x ∷ ys) ys) (e x) (keep-same f g e xs)
 
+-- the lowest row of a kind that reaches its least size
+abbrev pub least-number : Signature → ℕ → ℕ → ℕ
+least-number sig n k = first (keep (λ c. eqb (suc (total (least small-size sig n) (arguments sig c))) (least-size sig n k)) (numbers sig k))
+
 module _ (sig : Signature) (n m : ℕ) (exist : Exist n sig) (most : n ≤ m) where
   size-there : (k : ℕ) → k < n → getD (least small-size sig n) k 0 ≡ min over-small (best sig (least (small-size - 1) sig n) (0 + k))
   size-there k l = getD-at (least small-size sig n) k _ (at-count (λ j. min over-small (best sig (least (small-size - 1) sig n) j)) 0 n k l)
@@ -78,8 +82,8 @@ module _ (sig : Signature) (n m : ℕ) (exist : Exist n sig) (most : n ≤ m) wh
       each : (j : ℕ) → j < n → leb (min over-small (best sig (least (small-size - 1) sig n) (0 + j))) small-size ≡ leb (getD (least small-size sig m) (0 + j) 0) small-size
       each j l = ap (λ z. leb z small-size) (sym (size-there j l) ∙ sym (size-narrow j l) ∙ ap (λ z. getD (least small-size sig m) z 0) (sym (zero-add j)))
 
-  head-narrow : (k : ℕ) → k < n → lowest sig (least small-size sig m) k ≡ least-head sig n k
-  head-narrow k l = ap first (keep-same (λ c. eqb (suc (total (least small-size sig m) (arguments sig c))) (getD (least small-size sig m) k 0)) (λ c. eqb (suc (total (least small-size sig n) (arguments sig c))) (least-size sig n k)) (λ c. ap₂ (λ x y. eqb (suc x) y) (arguments-same n (least small-size sig m) (least small-size sig n) (λ i p. narrow sig n m exist most small-size i p) sig c exist) (size-narrow k l)) (heads sig k))
+  head-narrow : (k : ℕ) → k < n → lowest sig (least small-size sig m) k ≡ least-number sig n k
+  head-narrow k l = ap first (keep-same (λ c. eqb (suc (total (least small-size sig m) (arguments sig c))) (getD (least small-size sig m) k 0)) (λ c. eqb (suc (total (least small-size sig n) (arguments sig c))) (least-size sig n k)) (λ c. ap₂ (λ x y. eqb (suc x) y) (arguments-same n (least small-size sig m) (least small-size sig n) (λ i p. narrow sig n m exist most small-size i p) sig c exist) (size-narrow k l)) (numbers sig k))
 
 -- the same of the sizes that six rounds leave
 module _ (sig : Signature) (n : ℕ) (exist : Exist n sig) (most : n ≤ kind-limit) where
@@ -91,6 +95,6 @@ module _ (sig : Signature) (n : ℕ) (exist : Exist n sig) (most : n ≤ kind-li
   unfolding sizes-after
   small-same = all-narrow sig n kind-limit exist most
 
-  pub head-same : (k : ℕ) → k < n → lowest sig (sizes-after small-size sig) k ≡ least-head sig n k
+  pub head-same : (k : ℕ) → k < n → lowest sig (sizes-after small-size sig) k ≡ least-number sig n k
   unfolding sizes-after
   head-same k l = head-narrow sig n kind-limit exist most k l

@@ -14,7 +14,7 @@ use lib.Seq.{getD-set-other}
 use Rattle.signature.specs.Limits.{kind-limit, constructor-limit}
 use Rattle.signature.specs.Lists.{_>>=_, require, first}
 use Rattle.signature.specs.Read.{count-kinds, kinds-from}
-use Rattle.signature.specs.Signature.{Signature, Constructor, heads, heads-from}
+use Rattle.signature.specs.Signature.{Signature, Constructor, numbers, numbers-from}
 use Rattle.signature.specs.Decoded.{decoded-length, stride, kind-of, kinds-at, kind-stride, first-of, count-of}
 use Rattle.decoding.specs.Decoding.{row, rows, next-kinds, kinds-or-0, HeadNoted, SameBelow, InOrder}
 use Rattle.signature.proofs.Tests.{eqb-self, eqb-eq, eqb-ne, eqb-no, ltb-yes, ltb-no, leb-no, le-of, lt-of-not, some-inj, bind-some}
@@ -136,37 +136,37 @@ next-old k n l h = go (follows k n l)
 
 -- what is noted of each kind's constructors, those ahead being still to count
 pub record Noted (sig ahead : Signature) (c n : ℕ) (t : List ℕ) : Type 0 where
-  pub seen : (k : ℕ) → k < n → (first-of t k ≡ first (heads sig k)) × (count-of t k + length (heads-from c ahead k) ≡ length (heads sig k))
-  pub unseen : (k : ℕ) → n ≤ k → heads-from c ahead k ≡ heads sig k
+  pub seen : (k : ℕ) → k < n → (first-of t k ≡ first (numbers sig k)) × (count-of t k + length (numbers-from c ahead k) ≡ length (numbers sig k))
+  pub unseen : (k : ℕ) → n ≤ k → numbers-from c ahead k ≡ numbers sig k
   pub few : (k : ℕ) → k < n → count-of t k ≤ c
 
 pub noted-none : (sig : Signature) (t : List ℕ) → Noted sig sig 0 0 t
 noted-none sig t = record { seen = λ k l. absurd (omega arith); unseen = λ k l. refl; few = λ k l. absurd (omega arith) }
 
 module _ (sig : Signature) (d : Constructor) (ahead : Signature) (c n : ℕ) (t u : List ℕ) (h : Noted sig (d ∷ ahead) c n t) (g : HeadNoted t (d .kind) c n u) where
-  of-other : (k : ℕ) → ¬ (k ≡ d .kind) → heads-from c (d ∷ ahead) k ≡ heads-from (c + 1) ahead k
+  of-other : (k : ℕ) → ¬ (k ≡ d .kind) → numbers-from c (d ∷ ahead) k ≡ numbers-from (c + 1) ahead k
   of-other k e = rw (add-one c, eqb-no (d .kind) k (λ p. e (sym p)))
 
-  of-this : (k : ℕ) → k ≡ d .kind → heads-from c (d ∷ ahead) k ≡ c ∷ heads-from (c + 1) ahead k
+  of-this : (k : ℕ) → k ≡ d .kind → numbers-from c (d ∷ ahead) k ≡ c ∷ numbers-from (c + 1) ahead k
   of-this k e = rw (add-one c, eqb-yes (d .kind) k (sym e))
 
-  seen-more : Follows (d .kind) n → (k : ℕ) → k < next-kinds (d .kind) n → (first-of u k ≡ first (heads sig k)) × (count-of u k + length (heads-from (c + 1) ahead k) ≡ length (heads sig k)) × (count-of u k ≤ c + 1)
+  seen-more : Follows (d .kind) n → (k : ℕ) → k < next-kinds (d .kind) n → (first-of u k ≡ first (numbers sig k)) × (count-of u k + length (numbers-from (c + 1) ahead k) ≡ length (numbers sig k)) × (count-of u k ≤ c + 1)
   seen-more f k l = go (eqb k (d .kind)) refl f
     where
-      go : (b : Bool) → eqb k (d .kind) ≡ b → Follows (d .kind) n → (first-of u k ≡ first (heads sig k)) × (count-of u k + length (heads-from (c + 1) ahead k) ≡ length (heads sig k)) × (count-of u k ≤ c + 1)
+      go : (b : Bool) → eqb k (d .kind) ≡ b → Follows (d .kind) n → (first-of u k ≡ first (numbers sig k)) × (count-of u k + length (numbers-from (c + 1) ahead k) ≡ length (numbers sig k)) × (count-of u k ≤ c + 1)
       go true q (inl (p, e)) =
           let z : k ≡ d .kind = eqb-eq k (d .kind) q in
           let (a, b) = g .old (λ y. omega arith) in
           let (a′, b′) = h .seen k (omega arith) in
           let m : count-of t k ≤ c = h .few k (omega arith) in
-          let w : length (heads-from c (d ∷ ahead) k) ≡ suc (length (heads-from (c + 1) ahead k)) = ap length (of-this k z) in
+          let w : length (numbers-from c (d ∷ ahead) k) ≡ suc (length (numbers-from (c + 1) ahead k)) = ap length (of-this k z) in
           let r : count-of u k ≡ suc (count-of t k) = rw z b in
           ((rw z a) ∙ a′, omega arith, omega arith)
       go true q (inr (p, y, e)) =
           let z : k ≡ d .kind = eqb-eq k (d .kind) q in
           let (a, b) = g .new p in
-          let v : c ∷ heads-from (c + 1) ahead k ≡ heads sig k = sym (of-this k z) ∙ h .unseen k (omega arith) in
-          let w : suc (length (heads-from (c + 1) ahead k)) ≡ length (heads sig k) = ap length v in
+          let v : c ∷ numbers-from (c + 1) ahead k ≡ numbers sig k = sym (of-this k z) ∙ h .unseen k (omega arith) in
+          let w : suc (length (numbers-from (c + 1) ahead k)) ≡ length (numbers sig k) = ap length v in
           let r : count-of u k ≡ 1 = rw z b in
           ((rw z a) ∙ ap first v, omega arith, omega arith)
       go false q y =
@@ -175,7 +175,7 @@ module _ (sig : Signature) (d : Constructor) (ahead : Signature) (c n : ℕ) (t 
           let x : k < n = below y z in
           let (a′, b′) = h .seen k x in
           let m : count-of t k ≤ c = h .few k x in
-          let w : length (heads-from c (d ∷ ahead) k) ≡ length (heads-from (c + 1) ahead k) = ap length (of-other k z) in
+          let w : length (numbers-from c (d ∷ ahead) k) ≡ length (numbers-from (c + 1) ahead k) = ap length (of-other k z) in
           (a ∙ a′, omega arith, omega arith)
         where
           below : Follows (d .kind) n → ¬ (k ≡ d .kind) → k < n
@@ -237,9 +237,9 @@ module _ (t₀ : List ℕ) (n : ℕ) (t : List ℕ) (kinds c : ℕ) (h : Orderin
       counted : kinds ≡ kinds-or-0 (count-kinds (rows t₀ 0 n))
       counted = rw (h .due, count-none c c n l) (due-end kinds (h .few-kinds))
 
-      count : (k : ℕ) → k < kinds → count-of t k ≡ length (heads (rows t₀ 0 n) k)
+      count : (k : ℕ) → k < kinds → count-of t k ≡ length (numbers (rows t₀ 0 n) k)
       count k m =
-          let e : count-of t k + 0 ≡ length (heads (rows t₀ 0 n) k) = rw (count-none c c n l) at (h .noted .seen k m .1) in
+          let e : count-of t k + 0 ≡ length (numbers (rows t₀ 0 n) k) = rw (count-none c c n l) at (h .noted .seen k m .1) in
           omega arith
 
   pub ordering-more : (u : List ℕ) (k m w : ℕ) → c < n → c < constructor-limit → k ≡ kind-of t c → m ≡ next-kinds k kinds → ¬ (m ≡ 0) → w ≡ k → HeadNoted t w c kinds u → Ordering t₀ n u m (c + 1)

@@ -10,12 +10,12 @@ use native.Mathlib.Omega.{arith}
 use lib.ListN.{length, getD, set, take, drop, length-drop, length-set}
 use lib.Seq.{drop-cons, drop-drop, drop-length, getD-set-same, getD-set-other}
 use lib.Dec.{leb, eqb}
-use Rattle.signature.specs.Limits.{argument-limit, constructor-limit}
-use Rattle.signature.specs.Lists.{_>>=_, require, split}
-use Rattle.signature.specs.Read.{read-constructors}
+use Rattle.signature.specs.Limits.{argument-limit, constructor-limit, number-count}
+use Rattle.signature.specs.Lists.{_>>=_, split}
+use Rattle.signature.specs.Read.{read-arguments, read-constructors}
 use Rattle.signature.specs.Signature.{Signature, Constructor}
-use Rattle.signature.specs.Decoded.{decoded-length, stride, kind-of, arity-of}
-use Rattle.decoding.specs.Decoding.{words-from, row, rows, SameBelow, read-constructor, Copied, RowRead, Arities, RowsRead}
+use Rattle.signature.specs.Decoded.{decoded-length, stride, flag-at, kind-of, arity-of, flag-of}
+use Rattle.decoding.specs.Decoding.{words-from, row, rows, SameBelow, read-constructor, argument-count, flag-by, Copied, RowRead, Arities, RowsRead}
 use Rattle.signature.proofs.ListFacts.{split-none, split-some}
 use Rattle.signature.proofs.Tests.{leb-yes, leb-no, true≢false, eqb-eq, eqb-ne}
 use Rattle.signature.proofs.Counting.{counted-same, counted-more, set-is, set-apart}
@@ -40,15 +40,14 @@ copied-more w from t to n u l h = record { long = length-set u (to + n) (getD w 
 pub read-one : (n : ℕ) (ws : List ℕ) → read-constructors (suc n) ws ≡ (read-constructor ws >>= λ r. read-constructors n (r .1) >>= λ cs. some (r .0 ∷ cs))
 read-one n [] = refl
 read-one n (k ∷ []) = refl
-read-one n (k ∷ (m ∷ ws)) = go (leb m argument-limit) (split m ws)
+read-one n (k ∷ (m ∷ ws)) = go (read-arguments m ws)
   where
     found : List ℕ × List ℕ → Option (Constructor × List ℕ)
-    found r = some (record { kind = k; args = r .0 }, r .1)
+    found r = some (record { kind = k; args = r .0; number = eqb m number-count }, r .1)
 
-    go : (b : Bool) (o : Option (List ℕ × List ℕ)) → (require b >>= λ u. o >>= λ r. read-constructors n (r .1) >>= λ cs. some (record { kind = k; args = r .0 } ∷ cs)) ≡ ((require b >>= λ u. o >>= λ r. found r) >>= λ r. read-constructors n (r .1) >>= λ cs. some (r .0 ∷ cs))
-    go false o = refl
-    go true none = refl
-    go true (some r) = refl
+    go : (o : Option (List ℕ × List ℕ)) → (o >>= λ r. read-constructors n (r .1) >>= λ cs. some (record { kind = k; args = r .0; number = eqb m number-count } ∷ cs)) ≡ ((o >>= λ r. found r) >>= λ r. read-constructors n (r .1) >>= λ cs. some (r .0 ∷ cs))
+    go none = refl
+    go (some r) = refl
 
 -- what a place has no constructor for
 two-words : (w : List ℕ) (p : ℕ) → p + 2 ≤ length w → drop p w ≡ getD w p 0 ∷ (getD w (p + 1) 0 ∷ drop (p + 2) w)
@@ -64,13 +63,30 @@ few-words (k ∷ (m ∷ ws)) l = absurd (omega arith)
 pub row-short : (w : List ℕ) (p : ℕ) → length w - p < 2 → read-constructor (drop p w) ≡ none
 row-short w p l = few-words (drop p w) (omega (arith, length-drop p w))
 
-pub row-wide : (w : List ℕ) (p : ℕ) → p + 2 ≤ length w → argument-limit < getD w (p + 1) 0 → read-constructor (drop p w) ≡ none
-row-wide w p l m = rw (two-words w p l, leb-no (getD w (p + 1) 0) argument-limit m)
+pub row-wide : (w : List ℕ) (p : ℕ) → p + 2 ≤ length w → number-count < getD w (p + 1) 0 → read-constructor (drop p w) ≡ none
+row-wide w p l m = rw (two-words w p l, leb-no (getD w (p + 1) 0) number-count m)
 
-pub row-cut : (w : List ℕ) (p : ℕ) → p + 2 ≤ length w → getD w (p + 1) 0 ≤ argument-limit → length w - p - 2 < getD w (p + 1) 0 → read-constructor (drop p w) ≡ none
+pub row-cut : (w : List ℕ) (p : ℕ) → p + 2 ≤ length w → getD w (p + 1) 0 ≤ number-count → length w - p - 2 < argument-count (getD w (p + 1) 0) → read-constructor (drop p w) ≡ none
 row-cut w p l m n =
-    let s : split (getD w (p + 1) 0) (drop (p + 2) w) ≡ none = split-none (getD w (p + 1) 0) (drop (p + 2) w) (omega (arith, length-drop (p + 2) w)) in
-    rw (two-words w p l, leb-yes (getD w (p + 1) 0) argument-limit m, s)
+    let s : split (argument-count (getD w (p + 1) 0)) (drop (p + 2) w) ≡ none = split-none (argument-count (getD w (p + 1) 0)) (drop (p + 2) w) (omega (arith, length-drop (p + 2) w)) in
+    rw (two-words w p l, leb-yes (getD w (p + 1) 0) number-count m, s)
+
+-- a row's second word
+pub few-of : (m : ℕ) → m ≤ number-count → argument-count m ≤ argument-limit
+few-of m l = go (eqb m number-count) refl
+  where
+    go : (b : Bool) → eqb m number-count ≡ b → argument-count m ≤ argument-limit
+    go true q = rw q (omega arith)
+    go false q =
+        let z : ¬ (m ≡ number-count) = eqb-ne m number-count q in
+        rw q (omega arith)
+
+flag-is : (m : ℕ) → eqb (flag-by m) 1 ≡ eqb m number-count
+flag-is m = go (eqb m number-count) refl
+  where
+    go : (b : Bool) → eqb m number-count ≡ b → eqb (flag-by m) 1 ≡ eqb m number-count
+    go true q = rw q
+    go false q = rw q
 
 words-taken : (u w : List ℕ) (b a m : ℕ) → a + m ≤ length w → ((j : ℕ) → j < m → getD u (b + j) 0 ≡ getD w (a + j) 0) → take m (drop a w) ≡ words-from u b m
 words-taken u w b a zero l h = refl
@@ -78,39 +94,55 @@ words-taken u w b a (suc m) l h =
     let e : getD u b 0 ≡ getD w a 0 = rw (add-zero b, add-zero a) at (h 0 (omega arith)) in
     rw (drop-cons w a 0 (omega arith), e) (ap (λ z. getD w a 0 ∷ z) (words-taken u w (suc b) (suc a) m (omega arith) (λ j k. rw (suc-add b j, suc-add a j, ← add-suc b j, ← add-suc a j) (h (suc j) (omega arith)))))
 
-module _ (w : List ℕ) (p : ℕ) (t : List ℕ) (c m : ℕ) (u : List ℕ) where
+module _ (w : List ℕ) (p : ℕ) (t : List ℕ) (c m : ℕ) (u : List ℕ) (n f : ℕ) where
   abbrev pub Begun : List ℕ
-  Begun = set (set t (stride * c) (getD w p 0)) (stride * c + 1) (getD w (p + 1) 0)
+  Begun = set (set t (stride * c) (getD w p 0)) (stride * c + 1) n
 
-  pub row-taken : length t ≡ decoded-length → c < constructor-limit → m ≡ getD w (p + 1) 0 → m ≤ argument-limit → p + 2 + m ≤ length w → Copied w (p + 2) Begun (stride * c + 2) m u → RowRead w p t c u (m + 2)
-  row-taken lt lc em la lw h = record { long = long; within = omega arith; refused = λ z. absurd (omega arith); taken = λ z. taken; arity = λ z. omega (arith, arity); before = before }
+  abbrev pub Flagged : List ℕ
+  Flagged = set u (stride * c + flag-at) f
+
+  pub row-taken : length t ≡ decoded-length → c < constructor-limit → m ≡ n → n ≡ argument-count (getD w (p + 1) 0) → getD w (p + 1) 0 ≤ number-count → p + 2 + m ≤ length w → f ≡ flag-by (getD w (p + 1) 0) → Copied w (p + 2) Begun (stride * c + 2) m u → RowRead w p t c Flagged (m + 2)
+  row-taken lt lc mn en lb lw ef h = record { long = length-set u (stride * c + flag-at) f ∙ long; within = omega arith; refused = λ z. absurd (omega arith); taken = λ z. taken; arity = λ z. omega (arith, arity, la); before = λ i l. below i (omega arith) ∙ before i l }
     where
+      em : m ≡ argument-count (getD w (p + 1) 0)
+      em = mn ∙ en
+
+      la : m ≤ argument-limit
+      la = omega (arith, few-of (getD w (p + 1) 0) lb)
+
       long : length u ≡ length t
-      long = h .long ∙ length-set (set t (stride * c) (getD w p 0)) (stride * c + 1) (getD w (p + 1) 0) ∙ length-set t (stride * c) (getD w p 0)
+      long = h .long ∙ length-set (set t (stride * c) (getD w p 0)) (stride * c + 1) n ∙ length-set t (stride * c) (getD w p 0)
 
-      kind : kind-of u c ≡ getD w p 0
-      kind = h .before (stride * c) (omega arith) ∙ set-apart (set t (stride * c) (getD w p 0)) (stride * c + 1) (stride * c) (getD w (p + 1) 0) (omega arith) ∙ set-is t (stride * c) (stride * c) (getD w p 0) (omega arith) refl
+      below : (i : ℕ) → i < stride * c + flag-at → getD Flagged i 0 ≡ getD u i 0
+      below i l = set-apart u (stride * c + flag-at) i f l
 
-      arity : arity-of u c ≡ m
-      arity = h .before (stride * c + 1) (omega arith) ∙ set-is (set t (stride * c) (getD w p 0)) (stride * c + 1) (stride * c + 1) (getD w (p + 1) 0) (omega (arith, length-set t (stride * c) (getD w p 0))) refl ∙ sym em
+      kind : kind-of Flagged c ≡ getD w p 0
+      kind = below (stride * c) (omega arith) ∙ h .before (stride * c) (omega arith) ∙ set-apart (set t (stride * c) (getD w p 0)) (stride * c + 1) (stride * c) n (omega arith) ∙ set-is t (stride * c) (stride * c) (getD w p 0) (omega arith) refl
+
+      arity : arity-of Flagged c ≡ m
+      arity = below (stride * c + 1) (omega arith) ∙ h .before (stride * c + 1) (omega arith) ∙ set-is (set t (stride * c) (getD w p 0)) (stride * c + 1) (stride * c + 1) n (omega (arith, length-set t (stride * c) (getD w p 0))) refl ∙ sym mn
+
+      flag : flag-of Flagged c ≡ flag-by (getD w (p + 1) 0)
+      flag = set-is u (stride * c + flag-at) (stride * c + flag-at) f (omega (arith, long)) refl ∙ ef
 
       before : SameBelow (stride * c) t u
-      before i l = h .before i (omega arith) ∙ set-apart (set t (stride * c) (getD w p 0)) (stride * c + 1) i (getD w (p + 1) 0) (omega arith) ∙ set-apart t (stride * c) i (getD w p 0) l
+      before i l = h .before i (omega arith) ∙ set-apart (set t (stride * c) (getD w p 0)) (stride * c + 1) i n (omega arith) ∙ set-apart t (stride * c) i (getD w p 0) l
 
-      cut : split m (drop (p + 2) w) ≡ some (words-from u (stride * c + 2) m, drop (p + (m + 2)) w)
+      cut : split m (drop (p + 2) w) ≡ some (words-from Flagged (stride * c + 2) m, drop (p + (m + 2)) w)
       cut =
           let e : p + 2 + m ≡ p + (m + 2) = omega arith in
-          split-some m (drop (p + 2) w) (omega (arith, length-drop (p + 2) w)) ∙ ap₂ (λ a b. some (a, b)) (words-taken u w (stride * c + 2) (p + 2) m lw (h .there)) (drop-drop m (p + 2) w ∙ ap (λ z. drop z w) e)
+          split-some m (drop (p + 2) w) (omega (arith, length-drop (p + 2) w)) ∙ ap₂ (λ a b. some (a, b)) (words-taken Flagged w (stride * c + 2) (p + 2) m lw (λ j k. below (stride * c + 2 + j) (omega (arith, la)) ∙ h .there j k)) (drop-drop m (p + 2) w ∙ ap (λ z. drop z w) e)
 
-      taken : read-constructor (drop p w) ≡ some (row u c, drop (p + (m + 2)) w)
-      taken = rw (two-words w p (omega arith), ← em, leb-yes m argument-limit la, cut, kind, arity)
+      taken : read-constructor (drop p w) ≡ some (row Flagged c, drop (p + (m + 2)) w)
+      taken = rw (two-words w p (omega arith), leb-yes (getD w (p + 1) 0) number-count lb, ← em, cut, kind, arity, flag, flag-is (getD w (p + 1) 0))
 
 -- rows that nothing has written since
 pub row-same : (t u : List ℕ) (m c : ℕ) → SameBelow m t u → stride * c + stride ≤ m → arity-of t c ≤ argument-limit → row u c ≡ row t c
 row-same t u m c h l a =
     let k : kind-of u c ≡ kind-of t c = h (stride * c) (omega arith) in
     let n : arity-of u c ≡ arity-of t c = h (stride * c + 1) (omega arith) in
-    ap₂ (λ x xs. record { kind = x; args = xs }) k (ap (words-from u (stride * c + 2)) n ∙ counted-same (λ j. getD u j 0) (λ j. getD t j 0) (stride * c + 2) (arity-of t c) (λ j z. h (stride * c + 2 + j) (omega arith)))
+    let f : flag-of u c ≡ flag-of t c = h (stride * c + flag-at) (omega arith) in
+    ap₂ (λ x xs. record { kind = x; args = xs; number = eqb (flag-of u c) 1 }) k (ap (words-from u (stride * c + 2)) n ∙ counted-same (λ j. getD u j 0) (λ j. getD t j 0) (stride * c + 2) (arity-of t c) (λ j z. h (stride * c + 2 + j) (omega arith))) ∙ ap (λ x. record { kind = kind-of t c; args = words-from t (stride * c + 2) (arity-of t c); number = eqb x 1 }) f
 
 pub rows-same : (t u : List ℕ) (m n : ℕ) → SameBelow m t u → stride * n ≤ m → Arities t n → rows u 0 n ≡ rows t 0 n
 rows-same t u m n h l a = counted-same (λ d. row u d) (λ d. row t d) 0 n (λ j z. rw (zero-add j) (row-same t u m j h (omega arith) (a j z)))

@@ -13,7 +13,7 @@ use lib.Dec.{eqb}
 use Rattle.signature.specs.Limits.{kind-limit, over-small}
 use Rattle.signature.specs.Lists.{first, keep, count-up}
 use Rattle.signature.specs.Read.{best, least, total}
-use Rattle.signature.specs.Signature.{Signature, Constructor, heads-from, arguments}
+use Rattle.signature.specs.Signature.{Signature, Constructor, numbers-from, arguments}
 use Rattle.signature.specs.Decoded.{stride, kind-of, arity-of, argument-of}
 use Rattle.decoding.specs.Decoding.{words-from, row, rows, RowFit, Sizes, next-sizes, sizes-after, lowest}
 use Rattle.signature.proofs.Tests.{eqb-self, eqb-eq, eqb-ne, eqb-no}
@@ -143,22 +143,22 @@ module _ (sig : Signature) (sizes : List ℕ) where
 
   pub record Lowest (ahead : Signature) (c : ℕ) (hs : List ℕ) : Type 0 where
     pub long : length hs ≡ kind-limit
-    pub each : (k : ℕ) → k < kind-limit → getD hs k 0 ≡ first (keep (reaches k) (heads-from c ahead k))
+    pub each : (k : ℕ) → k < kind-limit → getD hs k 0 ≡ first (keep (reaches k) (numbers-from c ahead k))
 
   pub lowest-none : (c : ℕ) → Lowest [] c (replicate kind-limit 0)
   lowest-none c = record { long = length-replicate {A = ℕ} kind-limit 0; each = λ k l. getD-rep kind-limit k 0 0 l }
 
   module _ (ahead : Signature) (c : ℕ) (hs : List ℕ) (d : Constructor) (h : Lowest ahead (suc c) hs) where
-    of-other : (k : ℕ) → ¬ (k ≡ d .kind) → heads-from c (d ∷ ahead) k ≡ heads-from (suc c) ahead k
+    of-other : (k : ℕ) → ¬ (k ≡ d .kind) → numbers-from c (d ∷ ahead) k ≡ numbers-from (suc c) ahead k
     of-other k e = rw (eqb-no (d .kind) k (λ p. e (sym p)))
 
-    of-this : (k : ℕ) → k ≡ d .kind → heads-from c (d ∷ ahead) k ≡ c ∷ heads-from (suc c) ahead k
+    of-this : (k : ℕ) → k ≡ d .kind → numbers-from c (d ∷ ahead) k ≡ c ∷ numbers-from (suc c) ahead k
     of-this k e = rw (e, eqb-self (d .kind))
 
     pub lowest-found : d .kind < kind-limit → reaches (d .kind) c ≡ true → Lowest (d ∷ ahead) c (set hs (d .kind) c)
     lowest-found l r = record { long = length-set hs (d .kind) c ∙ h .long; each = λ k m. go k m (eqb k (d .kind)) refl }
       where
-        go : (k : ℕ) → k < kind-limit → (b : Bool) → eqb k (d .kind) ≡ b → getD (set hs (d .kind) c) k 0 ≡ first (keep (reaches k) (heads-from c (d ∷ ahead) k))
+        go : (k : ℕ) → k < kind-limit → (b : Bool) → eqb k (d .kind) ≡ b → getD (set hs (d .kind) c) k 0 ≡ first (keep (reaches k) (numbers-from c (d ∷ ahead) k))
         go k m true q =
             let z : k ≡ d .kind = eqb-eq k (d .kind) q in
             let y : reaches k c ≡ true = rw z r in
@@ -170,7 +170,7 @@ module _ (sig : Signature) (sizes : List ℕ) where
     pub lowest-passed : reaches (d .kind) c ≡ false → Lowest (d ∷ ahead) c hs
     lowest-passed r = record { long = h .long; each = λ k m. go k m (eqb k (d .kind)) refl }
       where
-        go : (k : ℕ) → k < kind-limit → (b : Bool) → eqb k (d .kind) ≡ b → getD hs k 0 ≡ first (keep (reaches k) (heads-from c (d ∷ ahead) k))
+        go : (k : ℕ) → k < kind-limit → (b : Bool) → eqb k (d .kind) ≡ b → getD hs k 0 ≡ first (keep (reaches k) (numbers-from c (d ∷ ahead) k))
         go k m true q =
             let z : k ≡ d .kind = eqb-eq k (d .kind) q in
             let y : reaches k c ≡ false = rw z r in

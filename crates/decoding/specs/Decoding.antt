@@ -2,15 +2,15 @@
 use mathlib.Core.Path.{_≡_}
 use mathlib.Core.List.{List, [], _∷_, map}
 use mathlib.Core.Option.{Option, none, some}
-use mathlib.Core.Bool.{Bool, true, false, cond}
+use mathlib.Core.Bool.{Bool, true, false, cond, not, _||_}
 use Prim.Native.Nat.{ℕ, suc, _+_, _*_, _≤_, _<_, min}
 use lib.Dec.{eqb, ltb, leb}
-use lib.ListN.{length, getD, drop}
-use Rattle.signature.specs.Limits.{argument-limit, constructor-limit, kind-limit, over-small, small-size}
-use Rattle.signature.specs.Lists.{_>>=_, require, split, count-up, first, keep, all}
-use Rattle.signature.specs.Read.{read-constructors, count-kinds, best, least, total}
-use Rattle.signature.specs.Signature.{Signature, Constructor, heads, arguments}
-use Rattle.signature.specs.Decoded.{decoded-length, stride, kinds-at, kind-of, arity-of, argument-of, first-of, count-of, least-head-of, least-size-of, kinds-of, constructors-of}
+use lib.ListN.{length, getD, set, drop}
+use Rattle.signature.specs.Limits.{argument-limit, constructor-limit, kind-limit, number-count, level-base, level-count, over-small, small-size}
+use Rattle.signature.specs.Lists.{_>>=_, count-up, first, keep, all}
+use Rattle.signature.specs.Read.{read-arguments, read-constructors, count-kinds, best, least, total}
+use Rattle.signature.specs.Signature.{Signature, Constructor, numbers, is-number-kind, arguments}
+use Rattle.signature.specs.Decoded.{decoded-length, stride, kind-stride, kinds-at, no-kind, kind-of, arity-of, flag-of, argument-of, first-of, count-of, least-head-of, least-size-of, kinds-of, constructors-of}
 
 -- m words from place i on
 abbrev pub words-from : List ℕ → ℕ → ℕ → List ℕ
@@ -18,7 +18,7 @@ words-from t i m = map (λ j. getD t j 0) (count-up i m)
 
 -- constructor c, and m constructors from c on, as the table's rows have them
 abbrev pub row : List ℕ → ℕ → Constructor
-row t c = record { kind = kind-of t c; args = words-from t (stride * c + 2) (arity-of t c) }
+row t c = record { kind = kind-of t c; args = words-from t (stride * c + 2) (arity-of t c); number = eqb (flag-of t c) 1 }
 
 abbrev pub rows : List ℕ → ℕ → ℕ → Signature
 rows t c m = map (λ d. row t d) (count-up c m)
@@ -32,9 +32,15 @@ abbrev pub read-constructor : List ℕ → Option (Constructor × List ℕ)
 read-constructor [] = none
 read-constructor (k ∷ []) = none
 read-constructor (k ∷ (m ∷ ws)) = do
-  _ ← require (leb m argument-limit)
-  r ← split m ws
-  some (record { kind = k; args = r .0 }, r .1)
+  r ← read-arguments m ws
+  some (record { kind = k; args = r .0; number = eqb m number-count }, r .1)
+
+-- by a row's second word: how many argument kinds follow, and what the table has of it
+abbrev pub argument-count : ℕ → ℕ
+argument-count m = cond (eqb m number-count) 0 m
+
+abbrev pub flag-by : ℕ → ℕ
+flag-by m = cond (eqb m number-count) 1 0
 
 -- n words of w have been copied into t, which is u now
 pub record Copied (w : List ℕ) (from : ℕ) (t : List ℕ) (to n : ℕ) (u : List ℕ) : Type 0 where
@@ -70,6 +76,10 @@ abbrev pub kinds-or-0 : Option ℕ → ℕ
 kinds-or-0 none = 0
 kinds-or-0 (some n) = cond (leb n kind-limit) n 0
 
+-- a row that declares a number kind is the only one of its kind, by the kinds' counts
+abbrev pub alone-by : List ℕ → Constructor → Bool
+alone-by t d = not (d .number) || eqb (count-of t (d .kind)) 1
+
 -- constructor c has been counted to kind k, which is new if it is the n-th
 pub record HeadNoted (t : List ℕ) (k c n : ℕ) (u : List ℕ) : Type 0 where
   pub long : length u ≡ length t
@@ -78,9 +88,9 @@ pub record HeadNoted (t : List ℕ) (k c n : ℕ) (u : List ℕ) : Type 0 where
   pub new : k ≡ n → (first-of u k ≡ c) × (count-of u k ≡ 1)
   pub old : (k ≡ n → ⊥) → (first-of u k ≡ first-of t k) × (count-of u k ≡ suc (count-of t k))
 
--- each kind below n has its first constructor and their count
+-- each kind below n has its first row's number and their count
 abbrev pub HeadsNoted : Signature → ℕ → List ℕ → Type 0
-HeadsNoted sig n t = (k : ℕ) → k < n → (first-of t k ≡ first (heads sig k)) × (count-of t k ≡ length (heads sig k))
+HeadsNoted sig n t = (k : ℕ) → k < n → (first-of t k ≡ first (numbers sig k)) × (count-of t k ≡ length (numbers sig k))
 
 pub record InOrder (t : List ℕ) (n : ℕ) (u : List ℕ) (r : ℕ) : Type 0 where
   pub long : length u ≡ decoded-length
@@ -114,9 +124,9 @@ next-sizes sig before = map (λ k. min over-small (best sig before k)) (count-up
 unfoldable pub sizes-after : ℕ → Signature → List ℕ
 sizes-after d sig = least d sig kind-limit
 
--- the lowest head of kind k that reaches the kind's size
+-- the lowest row of kind k that reaches the kind's size
 abbrev pub lowest : Signature → List ℕ → ℕ → ℕ
-lowest sig sizes k = first (keep (λ c. eqb (suc (total sizes (arguments sig c))) (getD sizes k 0)) (heads sig k))
+lowest sig sizes k = first (keep (λ c. eqb (suc (total sizes (arguments sig c))) (getD sizes k 0)) (numbers sig k))
 
 -- the kinds' least constructors and sizes have been written, for n kinds
 pub record LeastNoted (t : List ℕ) (n : ℕ) (hs sizes u : List ℕ) : Type 0 where
@@ -136,3 +146,22 @@ pub record KindsNoted (t : List ℕ) (n kinds : ℕ) (u : List ℕ) (r : Bool) :
   pub lowest-heads : (k : ℕ) → k < kinds → least-head-of u k ≡ lowest (rows t 0 n) (sizes-after small-size (rows t 0 n)) k
   pub least-sizes : (k : ℕ) → k < kinds → least-size-of u k ≡ getD (sizes-after small-size (rows t 0 n)) k 0
   pub small : r ≡ all (λ k. leb (getD (sizes-after small-size (rows t 0 n)) k 0) small-size) (count-up 0 kinds)
+
+-- row c declares kind k a number kind: its own number is no head, and the kind's are the levels
+abbrev pub marked : List ℕ → ℕ → ℕ → List ℕ
+marked t c k = set (set (set (set t (stride * c) no-kind) (kinds-at + kind-stride * k) level-base) (kinds-at + kind-stride * k + 1) level-count) (kinds-at + kind-stride * k + 2) level-base
+
+abbrev pub mark-of : List ℕ → ℕ → List ℕ
+mark-of t c = cond (eqb (flag-of t c) 1) (marked t c (kind-of t c)) t
+
+-- the first n rows have been marked, as far as they declare number kinds
+pub record Marked (t : List ℕ) (n : ℕ) (u : List ℕ) : Type 0 where
+  pub long : length u ≡ length t
+  pub others : (i : ℕ) → i < kinds-at → ((c : ℕ) → c < n → i ≡ stride * c → ⊥) → getD u i 0 ≡ getD t i 0
+  pub kind : (c : ℕ) → c < n → kind-of u c ≡ cond (row t c .number) no-kind (kind-of t c)
+  pub first : (k : ℕ) → first-of u k ≡ cond (is-number-kind (rows t 0 n) k) level-base (first-of t k)
+  pub count : (k : ℕ) → count-of u k ≡ cond (is-number-kind (rows t 0 n) k) level-count (count-of t k)
+  pub lowest-heads : (k : ℕ) → least-head-of u k ≡ cond (is-number-kind (rows t 0 n) k) level-base (least-head-of t k)
+  pub sizes-same : (k : ℕ) → k < kind-limit → least-size-of u k ≡ least-size-of t k
+  pub kinds-same : kinds-of u ≡ kinds-of t
+  pub constructors-same : constructors-of u ≡ constructors-of t

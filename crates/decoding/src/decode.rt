@@ -1,11 +1,16 @@
 // Checking and decoding a signature.
 use signature::decoded::COUNTS_AT;
+use signature::decoded::FLAG;
 use signature::decoded::KIND_STRIDE;
 use signature::decoded::KINDS_AT;
+use signature::decoded::LEVEL_BASE;
+use signature::decoded::LEVELS;
+use signature::decoded::NO_KIND;
 use signature::decoded::STRIDE;
 use signature::decoded::argument_of;
 use signature::decoded::arity_of;
 use signature::decoded::count_of;
+use signature::decoded::flag_of;
 use signature::decoded::kind_of;
 ghost use mathlib.Core.Path.{_≡_};
 ghost use mathlib.Core.Bool.{true};
@@ -13,12 +18,12 @@ ghost use mathlib.Core.Option.{some};
 ghost use Prim.Native.Nat.{ℕ, suc, _+_, _*_, _≤_, _<_, min};
 ghost use lib.Dec.{leb, ltb};
 ghost use lib.ListN.{length, drop, getD};
-ghost use Rattle.signature.specs.Limits.{argument-limit, constructor-limit, kind-limit, heads-limit, small-size};
+ghost use Rattle.signature.specs.Limits.{argument-limit, constructor-limit, kind-limit, row-limit, small-size};
 ghost use Rattle.signature.specs.Lists.{all, count-up, is-some};
 ghost use Rattle.signature.specs.Read.{read-signature, total};
 ghost use Rattle.signature.specs.Signature.{Signature};
-ghost use Rattle.signature.specs.Decoded.{Decoded, decoded-length, arity-of, count-of};
-ghost use Rattle.decoding.specs.Decoding.{row, rows, Copied, RowRead, RowsRead, Arities, next-kinds, HeadNoted, InOrder, RowFit, Fit, Sizes, next-sizes, sizes-after, lowest, LeastNoted, KindsNoted};
+ghost use Rattle.signature.specs.Decoded.{Decoded, decoded-length, kind-of, arity-of, count-of};
+ghost use Rattle.decoding.specs.Decoding.{row, rows, argument-count, flag-by, alone-by, mark-of, Marked, Copied, RowRead, RowsRead, Arities, next-kinds, HeadNoted, InOrder, RowFit, Fit, Sizes, next-sizes, sizes-after, lowest, LeastNoted, KindsNoted};
 
 pub const CONSTRUCTOR_LIMIT: usize = 256;
 
@@ -26,7 +31,10 @@ pub const ARGUMENT_LIMIT: usize = 4;
 
 pub const KIND_LIMIT: usize = 32;
 
-pub const HEADS_LIMIT: u16 = 64;
+pub const ROW_LIMIT: u16 = 64;
+
+// The second word of a row that declares a number kind.
+pub const NUMBER_COUNT: u16 = 5;
 
 pub const SMALL_SIZE: u16 = 6;
 
@@ -50,6 +58,26 @@ fn copy_words(w: &[u16], from: usize, t: &mut [u16], to: usize, count: usize)
     }
 }
 
+// By a row's second word: how many argument kinds follow.
+fn argument_count(count: u16) -> u16
+    ensures { λ r. ⌜ r ≡ argument-count count ⌝ }
+{
+    if count == NUMBER_COUNT {
+        return 0;
+    }
+    count
+}
+
+// By a row's second word: whether it declares a number kind.
+fn flag_by(count: u16) -> u16
+    ensures { λ r. ⌜ r ≡ flag-by count ⌝ }
+{
+    if count != NUMBER_COUNT {
+        return 0;
+    }
+    1
+}
+
 // Reads the constructor at a place into row c. The number of its words, 0 if there is none.
 fn read_row(w: &[u16], place: usize, t: &mut [u16], c: usize) -> usize
     requires { ⌜ (place ≤ length (now w)) × (length (now t) ≡ decoded-length) × (c < constructor-limit) ⌝ }
@@ -59,17 +87,20 @@ fn read_row(w: &[u16], place: usize, t: &mut [u16], c: usize) -> usize
     if left < 2 {
         return 0;
     }
-    let arity = wide(w[place + 1]);
-    if arity > ARGUMENT_LIMIT {
+    let count = w[place + 1];
+    if count > NUMBER_COUNT {
         return 0;
     }
+    let few = argument_count(count);
+    let arity = wide(few);
     if left - 2 < arity {
         return 0;
     }
     let row = STRIDE * c;
     t[row] = w[place];
-    t[row + 1] = w[place + 1];
+    t[row + 1] = few;
     copy_words(w, place + 2, t, row + 2, arity);
+    t[row + FLAG] = flag_by(count);
     arity + 2
 }
 
@@ -142,17 +173,43 @@ fn order(t: &mut [u16], n: usize) -> usize
     kinds
 }
 
-// No kind has more than 64 constructors.
-fn few_heads(t: &[u16], kinds: usize) -> bool
+// No kind has more than 64 rows.
+fn few_rows(t: &[u16], kinds: usize) -> bool
     requires { ⌜ (length (now t) ≡ decoded-length) × (kinds ≤ kind-limit) ⌝ }
-    ensures { λ r. ⌜ r ≡ all (λ k. leb (count-of (now (t .entry)) k) heads-limit) (count-up 0 kinds) ⌝ }
+    ensures { λ r. ⌜ r ≡ all (λ k. leb (count-of (now (t .entry)) k) row-limit) (count-up 0 kinds) ⌝ }
 {
     let mut k = 0;
     while k < kinds {
-        if count_of(t, k) > HEADS_LIMIT {
+        if count_of(t, k) > ROW_LIMIT {
             return false;
         }
         k += 1;
+    }
+    true
+}
+
+// Whether row c stands alone in its kind, if it declares a number kind.
+fn stands_alone(t: &[u16], c: usize) -> bool
+    requires { ⌜ (length (now t) ≡ decoded-length) × (c < constructor-limit) × (kind-of (now t) c < kind-limit) ⌝ }
+    ensures { λ r. ⌜ r ≡ alone-by (now (t .entry)) (row (now (t .entry)) c) ⌝ }
+{
+    if flag_of(t, c) != 1 {
+        return true;
+    }
+    count_of(t, wide(kind_of(t, c))) == 1
+}
+
+// A row that declares a number kind is that kind's only row.
+fn numbers_alone(t: &[u16], n: usize) -> bool
+    requires { ⌜ (length (now t) ≡ decoded-length) × (n ≤ constructor-limit) × ((c : ℕ) → c < n → kind-of (now t) c < kind-limit) ⌝ }
+    ensures { λ r. ⌜ r ≡ all (alone-by (now (t .entry))) (rows (now (t .entry)) 0 n) ⌝ }
+{
+    let mut c = 0;
+    while c < n {
+        if !stands_alone(t, c) {
+            return false;
+        }
+        c += 1;
     }
     true
 }
@@ -314,6 +371,34 @@ fn note_kinds(t: &mut [u16], n: usize, kinds: usize) -> bool
     all_small(&sizes, kinds)
 }
 
+// If row c declares a number kind, its own number is no head, and the kind's are the levels.
+fn mark(t: &mut [u16], c: usize)
+    requires { ⌜ (length (now t) ≡ decoded-length) × (c < constructor-limit) × (kind-of (now t) c < kind-limit) ⌝ }
+    ensures { λ _. ⌜ now (t .exit) ≡ mark-of (now (t .entry)) c ⌝ }
+{
+    if flag_of(t, c) != 1 {
+        return;
+    }
+    let k = wide(kind_of(t, c));
+    let row = KINDS_AT + KIND_STRIDE * k;
+    t[STRIDE * c] = NO_KIND;
+    t[row] = LEVEL_BASE;
+    t[row + 1] = LEVELS;
+    t[row + 2] = LEVEL_BASE;
+}
+
+// The same for every row.
+fn mark_numbers(t: &mut [u16], n: usize)
+    requires { ⌜ Fit (now t) n ⌝ }
+    ensures { λ _. ⌜ Marked (now (t .entry)) n (now (t .exit)) ⌝ }
+{
+    let mut c = 0;
+    while c < n {
+        mark(t, c);
+        c += 1;
+    }
+}
+
 // Whether the words are a lawful signature; then t is its table.
 pub fn decode(w: &[u16], t: &mut [u16]) -> bool
     requires { ⌜ length (now t) ≡ decoded-length ⌝ }
@@ -337,11 +422,16 @@ pub fn decode(w: &[u16], t: &mut [u16]) -> bool
     if kinds == 0 {
         return false;
     }
-    if !few_heads(t, kinds) {
+    if !few_rows(t, kinds) {
+        return false;
+    }
+    if !numbers_alone(t, n) {
         return false;
     }
     if !arguments_exist(t, n, kinds) {
         return false;
     }
-    note_kinds(t, n, kinds)
+    let small = note_kinds(t, n, kinds);
+    mark_numbers(t, n);
+    small
 }

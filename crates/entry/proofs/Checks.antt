@@ -17,6 +17,7 @@ use Rattle.pattern.specs.Linear.{linear-plus}
 use Rattle.pattern.specs.Pattern.{Pattern}
 use Rattle.pattern.specs.Read.{read-pattern}
 use Rattle.pattern.specs.Side.{plus}
+use Rattle.pattern.specs.Ranged.{ranged}
 use Rattle.pattern.specs.Weight.{weight, weight-by, light-plus}
 use Rattle.pattern.proofs.StandsLaw.{light-weight}
 use Rattle.row.specs.Admitted.{refusal-by, refusal-of-pattern}
@@ -47,17 +48,17 @@ use Rattle.entry.specs.declared.check.Checked.the-variants.{Free, Refuse
 -- 4 and 5
 module _ (n : ℕ) (rs : List Rule) where
   pub too-low : n < 1 → FreeFor n rs (Refused 4)
-  too-low h = (omega arith, omega arith, λ later. ap (λ b. cond (not (b && leb n last-number)) 4 (cond (held n rs) 5 later)) (leb-no 1 n h))
+  too-low h = (omega arith, λ e. omega arith, λ later. ap (λ b. cond (not (b && leb n last-number)) 4 (cond (held n rs) 5 later)) (leb-no 1 n h))
 
   pub too-high : last-number < n → FreeFor n rs (Refused 4)
-  too-high h = (omega arith, omega arith, λ later. ap (λ b. cond (not (leb 1 n && b)) 4 (cond (held n rs) 5 later)) (leb-no n last-number h) ∙ ap (λ b. cond (not b) 4 (cond (held n rs) 5 later)) (and-false (leb 1 n)))
+  too-high h = (omega arith, λ e. omega arith, λ later. ap (λ b. cond (not (leb 1 n && b)) 4 (cond (held n rs) 5 later)) (leb-no n last-number h) ∙ ap (λ b. cond (not b) 4 (cond (held n rs) 5 later)) (and-false (leb 1 n)))
 
   module _ (low : 1 ≤ n) (high : n ≤ last-number) where
     numbered : (later : ℕ) → number-refusal n rs later ≡ cond (held n rs) 5 later
     numbered later = let a = leb-yes 1 n low in let b = leb-yes n last-number high in rw (a, b)
 
     pub was-held : (r : Found) → FoundAt n rs r → (at : ℕ) → r ≡ Held at → FreeFor n rs (Refused 5)
-    was-held r f at e = let h = subst (FoundAt n rs) e f in (omega arith, omega arith, λ later. numbered later ∙ ap (λ b. cond b 5 later) (h .is-held))
+    was-held r f at e = let h = subst (FoundAt n rs) e f in (omega arith, λ e. omega arith, λ later. numbered later ∙ ap (λ b. cond b 5 later) (h .is-held))
 
     pub free-there : (r : Found) → FoundAt n rs r → (at : ℕ) → r ≡ Vacant at → FreeFor n rs (Free at)
     free-there r f at e = (low, high, subst (FoundAt n rs) e f)
@@ -65,21 +66,22 @@ module _ (n : ℕ) (rs : List Rule) where
     not-held : (at : ℕ) → FreeAt n rs at → (later : ℕ) → number-refusal n rs later ≡ later
     not-held at h later = numbered later ∙ ap (λ b. cond b 5 later) (h .not-held)
 
--- 7 to 10
-refusal-small : (sig : Signature) (o : Option Pattern) → refusal-by sig o ≤ 10
-refusal-small sig none = omega arith
-refusal-small sig (some p) = go (linear-plus p) (light-plus p) (ambiguous-plus sig 0 p)
+-- 7, 18 and 8 to 10: none of them is 12
+refusal-other : (sig : Signature) (o : Option Pattern) → refusal-by sig o ≡ 12 → ⊥
+refusal-other sig none = λ e. omega arith
+refusal-other sig (some p) = go (ranged p) (linear-plus p) (light-plus p) (ambiguous-plus sig 0 p)
   where
-    go : (a b c : Bool) → cond (not a) 8 (cond (not b) 9 (cond c 10 0)) ≤ 10
-    go false b c = omega arith
-    go true false c = omega arith
-    go true true true = omega arith
-    go true true false = omega arith
+    go : (r a b c : Bool) → _≡_ {A = ℕ} (cond (not r) 18 (cond (not a) 8 (cond (not b) 9 (cond c 10 0)))) 12 → ⊥
+    go false a b c e = omega arith
+    go true false b c e = omega arith
+    go true true false c e = omega arith
+    go true true true true e = omega arith
+    go true true true false e = omega arith
 
 -- what the admission tells of the words
 abbrev Tells : Signature → List ℕ → Admission → Type 0
 Tells sig ws (Passed w) = (refusal-of-pattern sig ws ≡ 0) × (w ≡ weight sig ws)
-Tells sig ws (Barred q) = (1 ≤ q) × (q ≤ 10) × (q ≡ refusal-of-pattern sig ws)
+Tells sig ws (Barred q) = (1 ≤ q) × (q ≡ 12 → ⊥) × (q ≡ refusal-of-pattern sig ws)
 
 tells : (sig : Signature) (ws : List ℕ) → Tells sig ws (admission-of sig ws)
 tells sig ws = go (eqb (refusal-of-pattern sig ws) 0) refl
@@ -89,7 +91,7 @@ tells sig ws = go (eqb (refusal-of-pattern sig ws) 0) refl
 
     go : (b : Bool) → eqb (refusal-of-pattern sig ws) 0 ≡ b → Tells sig ws (cond b (Passed (weight sig ws)) (Barred (refusal-of-pattern sig ws)))
     go true e = (eqb-eq (refusal-of-pattern sig ws) 0 e, refl)
-    go false e = (some-number (refusal-of-pattern sig ws) (eqb-ne (refusal-of-pattern sig ws) 0 e), refusal-small sig (read-pattern sig ws), refl)
+    go false e = (some-number (refusal-of-pattern sig ws) (eqb-ne (refusal-of-pattern sig ws) 0 e), refusal-other sig (read-pattern sig ws), refl)
 
 own-number : (x later : ℕ) → 1 ≤ x → cond (not (eqb x 0)) x later ≡ x
 own-number x later h = ap (λ b. cond (not b) x later) (eqb-no x 0 (λ e. omega (arith, e, h)))
@@ -147,7 +149,7 @@ module _ {t table : List ℕ} {used total : ℕ} {rows : List ℕ} {m : ℕ} (g 
       pub bad-pattern : (q : ℕ) → r ≡ Barred q → CheckedAs (g .force .known .sig) (g .force .rs) n ws used total (Refused q) rows
       bad-pattern q e =
           let z : Tells (g .force .known .sig) ws (Barred q) = subst (Tells (g .force .known .sig) ws) e told in
-          (z .0, omega (arith, z .1), start ∙ own-number (refusal-of-pattern (g .force .known .sig) ws) later (omega (arith, z .0, z .2)) ∙ sym (z .2))
+          (z .0, z .1, start ∙ own-number (refusal-of-pattern (g .force .known .sig) ws) later (omega (arith, z .0, z .2)) ∙ sym (z .2))
 
       module _ (w : ℕ) (e : r ≡ Passed w) where
         so : (refusal-of-pattern (g .force .known .sig) ws ≡ 0) × (w ≡ weight (g .force .known .sig) ws)
@@ -162,12 +164,12 @@ module _ {t table : List ℕ} {used total : ℕ} {rows : List ℕ} {m : ℕ} (g 
         good = start ∙ ap (λ q. cond (not (eqb q 0)) q later) (so .0)
 
         pub full : (limits .rules) ≤ getD table 0 0 → CheckedAs (g .force .known .sig) (g .force .rs) n ws used total (Refused 11) rows
-        full h = (omega arith, omega arith, good ∙ ap (λ b. cond (b || ltb (limits .weight) (weight (g .force .known .sig) ws + total-weight (g .force .known .sig) (g .force .rs))) 11 (cond (any (λ r. shares (g .force .known .sig) ws (r .pattern)) (g .force .rs)) 12 0)) (leb-yes (limits .rules) (length (g .force .rs)) (omega (arith, h, count-is holds))))
+        full h = (omega arith, λ e. omega arith, good ∙ ap (λ b. cond (b || ltb (limits .weight) (weight (g .force .known .sig) ws + total-weight (g .force .known .sig) (g .force .rs))) 11 (cond (any (λ r. shares (g .force .known .sig) ws (r .pattern)) (g .force .rs)) 12 0)) (leb-yes (limits .rules) (length (g .force .rs)) (omega (arith, h, count-is holds))))
 
         pub heavy : (limits .weight) < total + w → CheckedAs (g .force .known .sig) (g .force .rs) n ws used total (Refused 11) rows
         heavy h = (
           omega arith,
-          omega arith,
+          λ e. omega arith,
           good
               ∙ ap (λ b. cond (leb (limits .rules) (length (g .force .rs)) || b) 11 (cond (any (λ r. shares (g .force .known .sig) ws (r .pattern)) (g .force .rs)) 12 0)) (ltb-yes (limits .weight) (weight (g .force .known .sig) ws + total-weight (g .force .known .sig) (g .force .rs)) (omega (arith, h, so .1, g .force .ready .total-is)))
               ∙ ap (λ b. cond b 11 (cond (any (λ r. shares (g .force .known .sig) ws (r .pattern)) (g .force .rs)) 12 0)) (or-true (leb (limits .rules) (length (g .force .rs)))),

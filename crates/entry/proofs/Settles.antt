@@ -45,7 +45,7 @@ module _ {t table : List ℕ} {n : ℕ} {ws : List ℕ} {at used : ℕ} {rows : 
   passed = passed-of (g .force .known .sig) ws (g .cleared .passed)
 
   pub place-given : GivenPlace t ws used (length rows) m
-  place-given = record { known = g .force .known; p = passed .pat; words = pattern-words (g .force .known .sig) ws (passed .pat) (passed .read); light = passed .light; room = used-room; work-room = g .work-room }
+  place-given = record { known = g .force .known; p = passed .pat; words = pattern-words (g .force .known .sig) ws (passed .pat) (passed .read); light = passed .light; ranges = passed .ranges; room = used-room; work-room = g .work-room }
 
   pub put-given : GivenPut table at n ws
   put-given = record { rs = g .force .rs; holds = sound-holds (g .force .known .sig) table (g .force .rs) (g .force .is-sound); free = g .cleared .free; few = g .cleared .few; short = valid .short; short-new = short-of (g .force .known .sig) ws (g .cleared .passed) }

@@ -28,7 +28,7 @@ module _ {t table : List ℕ} {used total : ℕ} {rows : List ℕ} {m : ℕ} (g 
         number-is = sym c;
         table-is = sym (ap (λ z. cond (eqb z 0) (stored limits (add-rule (record { number = n; plan = plan; pattern = ws }) (g .force .rs)) table) table) c ∙ not-0 q (stored limits (add-rule (record { number = n; plan = plan; pattern = ws }) (g .force .rs)) table) table a);
         not-12 = λ f. (refl, refl, refl);
-        on-12 = λ x. absurd (omega (arith, x, b));
+        on-12 = λ x. absurd (b x);
       }
 
   pub numbered : (q : ℕ) → r ≡ Barred q → Numbered (Refused q)

@@ -27,9 +27,9 @@ use Rattle.entry.specs.declared.check.Checked.the-variants.{Free, Refuse
 abbrev pub number-refusal : ℕ → List Rule → ℕ → ℕ
 number-refusal n rs later = cond (not (leb 1 n && leb n last-number)) 4 (cond (held n rs) 5 later)
 
--- 4 or 5, whatever comes later; or where the rule goes in
+-- 4 or 5, whatever comes later; or where the rule goes in. 12 alone shows a booking, so a refusal before it is told from it
 abbrev pub FreeFor : ℕ → List Rule → Checked → Type 0
-FreeFor n rs (Refused q) = (1 ≤ q) × (q ≤ 11) × ((later : ℕ) → number-refusal n rs later ≡ q)
+FreeFor n rs (Refused q) = (1 ≤ q) × (q ≡ 12 → ⊥) × ((later : ℕ) → number-refusal n rs later ≡ q)
 FreeFor n rs (Free at) = (1 ≤ n) × (n ≤ last-number) × FreeAt n rs at
 
 -- rules in force, and room
@@ -38,14 +38,14 @@ pub record GivenCheck (t table : List ℕ) (used total : ℕ) (rows : List ℕ) 
   pub room : rows-room ≤ length rows
   pub work-room : row-room ≤ m
 
--- none of 4 to 11 applies, and the rule would go in there
+-- none of 4 to 11 and 18 applies, and the rule would go in there
 pub record Cleared (sig : Signature) (rs : List Rule) (n : ℕ) (ws : List ℕ) (at : ℕ) : Type 0 where
   pub free : FreeAt n rs at
   pub passed : refusal-of-pattern sig ws ≡ 0
   pub few : length rs < limits .rules
   pub refusal-is : entry-refusal limits sig n ws rs ≡ cond (any (λ r. shares sig ws (r .pattern)) rs) 12 0
 
--- the first of 4 to 11 that applies; or none does, and the rules' rows are still there
+-- the first of 4 to 11 and 18 that applies; or none does, and the rules' rows are still there
 abbrev pub CheckedAs : Signature → List Rule → ℕ → List ℕ → ℕ → ℕ → Checked → List ℕ → Type 0
-CheckedAs sig rs n ws used total (Refused q) rows = (1 ≤ q) × (q ≤ 11) × (entry-refusal limits sig n ws rs ≡ q)
+CheckedAs sig rs n ws used total (Refused q) rows = (1 ≤ q) × (q ≡ 12 → ⊥) × (entry-refusal limits sig n ws rs ≡ q)
 CheckedAs sig rs n ws used total (Free at) rows = Cleared sig rs n ws at × Ready sig rs used total rows

@@ -19,6 +19,7 @@ use Rattle.cell.specs.Cursor.{opens-of}
 use Rattle.cell.specs.RowList.{entries}
 use Rattle.cell.proofs.Walk.{word-at}
 use Rattle.builder.proofs.NextLists.{words-filled}
+use Rattle.path.specs.Standing.{tag-of}
 use Rattle.path.specs.State.{row-stride}
 use Rattle.path.specs.Wrote.{word-limit}
 use Rattle.path.specs.Rows.{RuleRow, GivenRow, RowIndexed, Before, RowKept, Fit}
@@ -49,7 +50,7 @@ placed-same sig t a tab tab′ r q e s l b w = let i = w .indexed in record {
     plan-is = b (row-stride * q + 3) (omega arith) ∙ i .plan-is;
     counted = record {
       one = b (row-stride * q + 4 + 0) (omega arith) ∙ i .counted .one;
-      counts = λ j h. b (row-stride * q + 4 + (j + 1)) (omega arith) ∙ i .counted .counts j h ∙ ap (λ (z : ℕ). z - 1 + opens-of t (getD a (w .start + 3 * j) 0)) (sym (b (row-stride * q + 4 + j) (omega arith)));
+      counts = λ j h. b (row-stride * q + 4 + (j + 1)) (omega arith) ∙ i .counted .counts j h ∙ ap (λ (z : ℕ). z - 1 + opens-of t (tag-of a (w .start + 3 * j))) (sym (b (row-stride * q + 4 + j) (omega arith)));
     };
   };
 }

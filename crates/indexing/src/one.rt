@@ -1,13 +1,27 @@
 // A row in the table of rows.
 use cell::cell::CELL;
+use cell::cell::cell_at;
 use cell::cell::opens;
 use path::rows::OWN;
 use path::rows::ROW;
 ghost use Prim.Native.Nat.{_+_, _*_, _≤_, _<_};
+ghost use mathlib.Core.Path.{_≡_};
 ghost use lib.ListN.{length};
+ghost use Rattle.signature.specs.Decoded.{decoded-length};
+ghost use Rattle.cell.specs.Cell.{cell-width};
+ghost use Rattle.cell.specs.Cursor.{cell-at, opens-of};
 ghost use Rattle.path.specs.State.{row-stride};
 ghost use Rattle.path.specs.Rows.{GivenRow, RowCounted, RowIndexed, Before};
 ghost use Rattle.path.specs.Wrote.{word-limit};
+
+// How many columns the cell opens whose words begin at a word.
+fn opens_at(t: &[u16], a: &[u64], at: usize) -> usize
+    requires { ⌜ (at + cell-width ≤ length (now a)) × (length (now t) ≡ decoded-length) ⌝ }
+    ensures { λ r. ⌜ r ≡ opens-of (now (t .entry)) (cell-at (now (a .entry)) at .tag) ⌝ }
+{
+    let c = cell_at(a, at);
+    opens(t, c.tag)
+}
 
 // How many columns are row r's own at each of its cells.
 fn count_columns(t: &[u16], a: &[u64], start: usize, len: usize, r: usize, rows: &mut [u16])
@@ -18,7 +32,7 @@ fn count_columns(t: &[u16], a: &[u64], start: usize, len: usize, r: usize, rows:
     let mut i = 0;
     while left > 0 {
         rows[ROW * r + OWN + i] = left as u16;
-        left = left - 1 + opens(t, a[start + CELL * i]);
+        left = left - 1 + opens_at(t, a, start + CELL * i);
         i += 1;
     }
     rows[ROW * r + OWN + i] = 0;

@@ -15,7 +15,10 @@ use Rattle.pattern.specs.Limits.{variable-count}
 use Rattle.tree.specs.Tree.{hit}
 use Rattle.tree.specs.Words.{pairs}
 use Rattle.leaf.specs.Leaf.{Paired, all-pairs, pairs-from, cell-pair, cell-pairs, Pairing, Used}
-use Rattle.path.specs.State.{bound, cell-of, start-of}
+use Rattle.cell.specs.Cursor.{cell-at}
+use Rattle.cell.specs.declared.cell.Cell.{Cell}
+use Rattle.path.specs.Standing.{vars-of}
+use Rattle.path.specs.State.{bound, cell-of}
 use Rattle.leaf.specs.Leaf.{Leaving}
 use Rattle.path.specs.Wrote.{Wrote}
 use Rattle.leaf.proofs.PairLaws.{bound-rising, Sofar, sofar-more, sofar-full, sofar-end, paired-none}
@@ -121,14 +124,14 @@ module _ (a rows vis : List ℕ) (r q x : ℕ) where
 
 -- variables that no cell binds
 
-pub used-more : (a rows : List ℕ) (r p u u′ s : ℕ) → Used a rows r p u → s ≡ start-of rows r → ((x : ℕ) → bit u′ x ≡ max (bit u x) (bit (getD a (s + 3 * p + 1) 0) x)) → Used a rows r (p + 1) u′
-used-more a rows r p u u′ s h e j x q z l = go (eqb q p) refl
+pub used-more : (a rows : List ℕ) (r p u u′ : ℕ) (c : Cell) → Used a rows r p u → c ≡ cell-at a (cell-of rows r p) → ((x : ℕ) → bit u′ x ≡ max (bit u x) (bit (c .vars) x)) → Used a rows r (p + 1) u′
+used-more a rows r p u u′ c h e j x q z l = go (eqb q p) refl
   where
-    both : (bit u x ≡ 0) × (bit (getD a (cell-of rows r p + 1) 0) x ≡ 0)
-    both = (omega (arith, j x, z), ap (λ (y : ℕ). bit (getD a (y + 3 * p + 1) 0) x) (sym e) ∙ (let w : bit (getD a (s + 3 * p + 1) 0) x ≡ 0 = omega (arith, j x, z) in w))
+    both : (bit u x ≡ 0) × (bit (vars-of a (cell-of rows r p)) x ≡ 0)
+    both = (omega (arith, j x, z), ap (λ (y : Cell). bit (y .vars) x) (sym e) ∙ (let w : bit (c .vars) x ≡ 0 = omega (arith, j x, z) in w))
 
-    go : (b : Bool) → eqb q p ≡ b → bit (getD a (cell-of rows r q + 1) 0) x ≡ 0
-    go true i = ap (λ (y : ℕ). bit (getD a (cell-of rows r y + 1) 0) x) (eqb-eq q p i) ∙ both .1
+    go : (b : Bool) → eqb q p ≡ b → bit (vars-of a (cell-of rows r q)) x ≡ 0
+    go true i = ap (λ (y : ℕ). bit (vars-of a (cell-of rows r y)) x) (eqb-eq q p i) ∙ both .1
     go false i = h x q (both .0) (omega (arith, eqb-ne q p i))
 
 unused : (a rows vis : List ℕ) (r q u x : ℕ) → Used a rows r q u → bit u x ≡ 0 → cell-pairs a rows vis r x q ≡ []

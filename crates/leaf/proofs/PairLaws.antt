@@ -14,7 +14,10 @@ use Rattle.pattern.specs.Limits.{pattern-limit, variable-count}
 use Rattle.tree.specs.Tree.{hit, insert, inserts}
 use Rattle.tree.specs.Words.{pairs, words}
 use Rattle.leaf.specs.Leaf.{cell-pair, cell-pairs, pairs-from, all-pairs, Paired}
-use Rattle.path.specs.State.{bound, cell-of, start-of, visit-of}
+use Rattle.cell.specs.Cursor.{cell-at}
+use Rattle.cell.specs.declared.cell.Cell.{Cell}
+use Rattle.path.specs.Standing.{vars-of}
+use Rattle.path.specs.State.{bound, cell-of, visit-of}
 use Rattle.path.specs.Variables.{variables, variables-from}
 use Rattle.path.specs.Wrote.{Wrote}
 
@@ -28,7 +31,7 @@ module _ (a rows vis : List ℕ) (r : ℕ) where
   -- pairs of variable x in front of others are passed over by a larger one
   past : (x y u q : ℕ) (bs : List (ℕ × ℕ)) → x < y → insert (y, u) (cell-pairs a rows vis r x q ++ bs) ≡ cell-pairs a rows vis r x q ++ insert (y, u) bs
   past x y u zero bs l = refl
-  past x y u (suc q) bs l = go (eqb (bit (getD a (cell-of rows r q + 1) 0) x) 1) (past x y u q bs l)
+  past x y u (suc q) bs l = go (eqb (bit (vars-of a (cell-of rows r q)) x) 1) (past x y u q bs l)
     where
       go : (b : Bool) → insert (y, u) (cell-pairs a rows vis r x q ++ bs) ≡ cell-pairs a rows vis r x q ++ insert (y, u) bs
           → insert (y, u) ((cond b ((x, visit-of vis r q) ∷ []) [] ++ cell-pairs a rows vis r x q) ++ bs) ≡ (cond b ((x, visit-of vis r q) ∷ []) [] ++ cell-pairs a rows vis r x q) ++ insert (y, u) bs
@@ -55,7 +58,7 @@ module _ (a rows vis : List ℕ) (r : ℕ) where
 
   starts-cells : (x y q : ℕ) (bs : List (ℕ × ℕ)) → x ≤ y → Starts x bs → Starts x (cell-pairs a rows vis r y q ++ bs)
   starts-cells x y zero bs l h = h
-  starts-cells x y (suc q) bs l h = go (eqb (bit (getD a (cell-of rows r q + 1) 0) y) 1) (starts-cells x y q bs l h)
+  starts-cells x y (suc q) bs l h = go (eqb (bit (vars-of a (cell-of rows r q)) y) 1) (starts-cells x y q bs l h)
     where
       go : (b : Bool) → Starts x (cell-pairs a rows vis r y q ++ bs) → Starts x ((cond b ((y, visit-of vis r q) ∷ []) [] ++ cell-pairs a rows vis r y q) ++ bs)
       go true i = l
@@ -66,15 +69,15 @@ module _ (a rows vis : List ℕ) (r : ℕ) where
   starts-from x q i (suc n) l = starts-cells x i q (pairs-from a rows vis r q (suc i) n) l (starts-from x q (suc i) n (omega arith))
 
   -- one cell more
-  more-from : (q i n : ℕ) → inserts (visit-of vis r q) (variables-from (getD a (cell-of rows r q + 1) 0) i n) (pairs-from a rows vis r q i n) ≡ pairs-from a rows vis r (suc q) i n
+  more-from : (q i n : ℕ) → inserts (visit-of vis r q) (variables-from (vars-of a (cell-of rows r q)) i n) (pairs-from a rows vis r q i n) ≡ pairs-from a rows vis r (suc q) i n
   more-from q i zero = refl
-  more-from q i (suc n) = go (eqb (bit (getD a (cell-of rows r q + 1) 0) i) 1) (past-all i (visit-of vis r q) q (getD a (cell-of rows r q + 1) 0) (suc i) n (pairs-from a rows vis r q (suc i) n) (omega arith) ∙ ap (λ (l : List (ℕ × ℕ)). cell-pairs a rows vis r i q ++ l) (more-from q (suc i) n))
+  more-from q i (suc n) = go (eqb (bit (vars-of a (cell-of rows r q)) i) 1) (past-all i (visit-of vis r q) q (vars-of a (cell-of rows r q)) (suc i) n (pairs-from a rows vis r q (suc i) n) (omega arith) ∙ ap (λ (l : List (ℕ × ℕ)). cell-pairs a rows vis r i q ++ l) (more-from q (suc i) n))
     where
       m : ℕ
-      m = getD a (cell-of rows r q + 1) 0
+      m = vars-of a (cell-of rows r q)
 
-      go : (b : Bool) → inserts (visit-of vis r q) (variables-from (getD a (cell-of rows r q + 1) 0) (suc i) n) (cell-pairs a rows vis r i q ++ pairs-from a rows vis r q (suc i) n) ≡ cell-pairs a rows vis r i q ++ pairs-from a rows vis r (suc q) (suc i) n
-          → inserts (visit-of vis r q) (cond b (i ∷ variables-from (getD a (cell-of rows r q + 1) 0) (suc i) n) (variables-from (getD a (cell-of rows r q + 1) 0) (suc i) n)) (cell-pairs a rows vis r i q ++ pairs-from a rows vis r q (suc i) n)
+      go : (b : Bool) → inserts (visit-of vis r q) (variables-from (vars-of a (cell-of rows r q)) (suc i) n) (cell-pairs a rows vis r i q ++ pairs-from a rows vis r q (suc i) n) ≡ cell-pairs a rows vis r i q ++ pairs-from a rows vis r (suc q) (suc i) n
+          → inserts (visit-of vis r q) (cond b (i ∷ variables-from (vars-of a (cell-of rows r q)) (suc i) n) (variables-from (vars-of a (cell-of rows r q)) (suc i) n)) (cell-pairs a rows vis r i q ++ pairs-from a rows vis r q (suc i) n)
           ≡ (cond b ((i, visit-of vis r q) ∷ []) [] ++ cell-pairs a rows vis r i q) ++ pairs-from a rows vis r (suc q) (suc i) n
       go true h = ap (insert (i, visit-of vis r q)) h ∙ front i (visit-of vis r q) _ (starts-cells i i q _ (omega arith) (starts-from i (suc q) (suc i) n (omega arith)))
       go false h = h
@@ -85,7 +88,7 @@ module _ (a rows vis : List ℕ) (r : ℕ) where
 
   pub bound-rising : (q : ℕ) → bound a rows vis r q ≡ all-pairs a rows vis r q
   bound-rising zero = sym (none-from 0 variable-count)
-  bound-rising (suc q) = ap₂ (λ (ws : List ℕ) (bs : List (ℕ × ℕ)). inserts (visit-of vis r q) ws bs) (variables-are (getD a (cell-of rows r q + 1) 0)) (bound-rising q) ∙ more-from q 0 variable-count
+  bound-rising (suc q) = ap₂ (λ (ws : List ℕ) (bs : List (ℕ × ℕ)). inserts (visit-of vis r q) ws bs) (variables-are (vars-of a (cell-of rows r q))) (bound-rising q) ∙ more-from q 0 variable-count
 
 -- pairs written
 
@@ -116,12 +119,12 @@ paired-one x v at o l = record { much = omega arith; wrote = λ h. two-set at x 
 paired-full : (x v at : ℕ) (o : List ℕ) → length o < at + 2 → Paired ((x, v) ∷ []) at (length o + 1) o o
 paired-full x v at o l = record { much = omega arith; wrote = λ h. absurd (omega arith) }
 
-module _ (a rows vis : List ℕ) (r x p s : ℕ) (e : s ≡ start-of rows r) (at : ℕ) (o : List ℕ) where
+module _ (a rows vis : List ℕ) (r x p : ℕ) (c : Cell) (e : c ≡ cell-at a (cell-of rows r p)) (at : ℕ) (o : List ℕ) where
   abbrev bit-of : Bool
-  bit-of = eqb (bit (getD a (s + 3 * p + 1) 0) x) 1
+  bit-of = eqb (bit (c .vars) x) 1
 
-  same : bit-of ≡ eqb (bit (getD a (cell-of rows r p + 1) 0) x) 1
-  same = rw e
+  same : bit-of ≡ eqb (bit (vars-of a (cell-of rows r p)) x) 1
+  same = ap (λ (y : Cell). eqb (bit (y .vars) x) 1) e
 
   pub pair-wrote : bit-of ≡ true → at + 2 ≤ length o → Paired (cell-pair a rows vis r x p) at (at + 2) o (set (set o at x) (at + 1) (visit-of vis r p))
   pair-wrote b l = rw (sym same ∙ b) (paired-one x (visit-of vis r p) at o l)

@@ -9,12 +9,13 @@ use Rattle.sets.specs.Set.{bit}
 use Rattle.pattern.specs.Limits.{pattern-limit, variable-count}
 use Rattle.tree.specs.Tree.{Tree, hit}
 use Rattle.tree.specs.Words.{pairs}
+use Rattle.path.specs.Standing.{vars-of}
 use Rattle.path.specs.State.{row-stride, cell-of, visit-of, rule-of, plan-of, bound}
 
 module _ (a rows vis : List ℕ) (r : ℕ) where
   -- what cell p of row r binds of variable x
   abbrev pub cell-pair : ℕ → ℕ → List (ℕ × ℕ)
-  cell-pair x p = cond (eqb (bit (getD a (cell-of rows r p + 1) 0) x) 1) ((x, visit-of vis r p) ∷ []) []
+  cell-pair x p = cond (eqb (bit (vars-of a (cell-of rows r p)) x) 1) ((x, visit-of vis r p) ∷ []) []
 
   -- what the cells before q do, the last one first
   abbrev pub cell-pairs : ℕ → ℕ → List (ℕ × ℕ)
@@ -31,7 +32,7 @@ module _ (a rows vis : List ℕ) (r : ℕ) where
 
 -- a variable outside the set is bound by no cell before q
 abbrev pub Used : List ℕ → List ℕ → ℕ → ℕ → ℕ → Type 0
-Used a rows r q u = (x p : ℕ) → bit u x ≡ 0 → p < q → bit (getD a (cell-of rows r p + 1) 0) x ≡ 0
+Used a rows r q u = (x p : ℕ) → bit u x ≡ 0 → p < q → bit (vars-of a (cell-of rows r p)) x ≡ 0
 
 -- the cells before q, and their visits
 pub record Pairing (a rows vis : List ℕ) (r q : ℕ) : Type 0 where

@@ -1,7 +1,6 @@
 // A leaf: a row's rule and plan, and which visit bound each of its variables.
-use cell::cell::CELL;
 use path::rows::ROW;
-use path::rows::start_of;
+use path::rows::cell_of;
 use pattern::limits::PATTERN_WORDS;
 use pattern::limits::VARIABLES;
 use sets::set::has as has_bit;
@@ -46,8 +45,8 @@ fn one_pair(
     requires { ⌜ Pairing (now a) (now rows) (now vis) r (p + 1) × (x < set-limit) × (at ≤ length (now out)) ⌝ }
     ensures { λ u. ⌜ Paired (cell-pair (now (a .entry)) (now (rows .entry)) (now (vis .entry)) r x p) at u (now (out .entry)) (now (out .exit)) ⌝ }
 {
-    let cell = start_of(rows, r) as usize + CELL * p;
-    if has_bit(a[cell + 1], x as u32) {
+    let c = cell_of(a, rows, r, p);
+    if has_bit(c.vars, x as u32) {
         if out.len() - at < 2 {
             return out.len() + 1;
         }
@@ -90,11 +89,11 @@ fn used(a: &[u64], rows: &[u16], r: usize, q: usize) -> u64
     requires { ⌜ (row-stride * r + row-stride ≤ length (now rows)) × (cell-of (now rows) r q ≤ length (now a)) ⌝ }
     ensures { λ u. ⌜ Used (now (a .entry)) (now (rows .entry)) r q u ⌝ }
 {
-    let start = start_of(rows, r) as usize;
     let mut u = 0;
     let mut p = 0;
     while p < q {
-        u = join(u, a[start + CELL * p + 1]);
+        let c = cell_of(a, rows, r, p);
+        u = join(u, c.vars);
         p += 1;
     }
     u

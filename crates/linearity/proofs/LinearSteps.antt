@@ -15,10 +15,10 @@ use Rattle.pattern.specs.Given.{Opens}
 use Rattle.pattern.specs.Linear.{E, O, E-all, O-all, linear-plus, linear-minus, all-plus, all-minus, disjoint, same-set}
 use Rattle.pattern.specs.Linearity.{vars-at, behind}
 use Rattle.linearity.specs.Linearity.{linear-at, Holds, Judged, joint-at, joins, own-vars}
-use Rattle.pattern.specs.Pattern.{Pattern, Patterns, pnil, pcons, head, and, or, wild, absurd-pat, neg, var, pattern-code, patterns-code}
+use Rattle.pattern.specs.Pattern.{Pattern, Patterns, pnil, pcons, head, and, or, wild, absurd-pat, neg, var, range, pattern-code, patterns-code}
 use Rattle.pattern.specs.Read.{Form, form}
 use Rattle.pattern.specs.Side.{Side, plus, minus}
-use Rattle.pattern.specs.Word.{part-count}
+use Rattle.pattern.specs.Word.{own-words, part-count}
 use Rattle.linearity.specs.declared.linear.Joint.{Joint}
 use Rattle.linearity.specs.declared.linear.Joint.the-variants.{Apart, Bare}
 use Rattle.linearity.specs.declared.linear.Part.{Part}
@@ -122,6 +122,7 @@ by-word plus wild = (refl, refl)
 by-word plus absurd-pat = (refl, refl)
 by-word plus (neg p) = (sym (and-true (linear-minus p)), refl)
 by-word plus (var x) = (refl, refl)
+by-word plus (range low high) = (refl, refl)
 by-word minus (head c ps) = (sym (minus-from ps 0 []), sym (gathered-minus ps []))
 by-word minus (and p q) = (and-three (linear-minus p) (linear-minus q) (same-set (O p) (O q)), refl)
 by-word minus (or p q) = (and-three (linear-minus p) (linear-minus q) (disjoint (O p) (O q)), refl)
@@ -129,6 +130,7 @@ by-word minus wild = (refl, refl)
 by-word minus absurd-pat = (refl, refl)
 by-word minus (neg p) = (sym (and-true (linear-plus p)), refl)
 by-word minus (var x) = (refl, refl)
+by-word minus (range low high) = (refl, refl)
 
 -- behind i words and j parts, with their variables in `set`
 pub record Left (s : Side) (t ws : List ℕ) (p : Pattern) (s′ : Side) (jt : Joint) (set i left j : ℕ) : Type 0 where
@@ -140,14 +142,14 @@ pub record Left (s : Side) (t ws : List ℕ) (p : Pattern) (s′ : Side) (jt : J
   pub linear : linear-at s p ≡ linear-from s′ jt j xs ps
   pub vars : vars-at s p ≡ gathered s′ xs ps
 
-pub start : (s : Side) {t ws : List ℕ} (g : Opens t ws) (f : Form) → f ≡ form (getD ws 0 0) → (s′ : Side) (jt : Joint) (set k : ℕ) → s′ ≡ behind f s → jt ≡ joint-at s f → Holds set (own-vars s f) → k ≡ part-count t f → Left s t ws (g .pattern) s′ jt set 1 (k - 0) 0
+pub start : (s : Side) {t ws : List ℕ} (g : Opens t ws) (f : Form) → f ≡ form (getD ws 0 0) → (s′ : Side) (jt : Joint) (set k : ℕ) → s′ ≡ behind f s → jt ≡ joint-at s f → Holds set (own-vars s f) → k ≡ part-count t f → Left s t ws (g .pattern) s′ jt set (own-words f) (k - 0) 0
 start s {t} {ws} g f f-is s′ jt set k a b h m =
     let w = subst (ByWord s (g .pattern)) (sym (shape-is g f f-is)) (by-word s (g .pattern)) in
     record {
       xs = own-vars s f;
       ps = inner (g .pattern);
-      front = subst (λ x. OpensAll t (drop 1 ws) x (inner (g .pattern))) (omega (arith, m)) (opened g f f-is);
-      ends = inner-length (g .pattern);
+      front = subst (λ x. OpensAll t (drop (own-words f) ws) x (inner (g .pattern))) (omega (arith, m)) (opened g f f-is);
+      ends = ap (λ x. own-words x + length (patterns-code (inner (g .pattern)))) (shape-is g f f-is) ∙ inner-length (g .pattern);
       holds = h;
       linear = rw (a, b) (w .0);
       vars = rw a (w .1);

@@ -17,7 +17,7 @@ use Rattle.pattern.specs.Linear.{disjoint, same-set}
 use Rattle.linearity.specs.Linearity.{Holds, own-vars}
 use Rattle.pattern.specs.Linearity.{side-of}
 use Rattle.pattern.specs.Places.{tick}
-use Rattle.pattern.specs.Read.{Form, is-head, is-var, is-and, is-or, is-wild, is-absurd, is-not, is-other}
+use Rattle.pattern.specs.Read.{Form, is-head, is-var, is-and, is-or, is-wild, is-absurd, is-not, is-range, is-other}
 
 tick-or : (a b : Bool) → max (tick a) (tick b) ≡ tick (a || b)
 tick-or true true = refl
@@ -110,6 +110,7 @@ plain is-or = true
 plain is-wild = true
 plain is-absurd = true
 plain is-not = true
+plain is-range = true
 plain is-other = true
 
 pub own-minus : (b : Bool) (f : Form) → b ≡ false → Holds 0 (own-vars (side-of b) f)
@@ -125,6 +126,7 @@ own-plain true is-or e = holds-none
 own-plain true is-wild e = holds-none
 own-plain true is-absurd e = holds-none
 own-plain true is-not e = holds-none
+own-plain true is-range e = holds-none
 own-plain true is-other e = holds-none
 
 pub own-var : (b : Bool) (x r : ℕ) → b ≡ true → ((j : ℕ) → bit r j ≡ cond (eqb j x) 1 0) → Holds r (own-vars (side-of b) (is-var x))

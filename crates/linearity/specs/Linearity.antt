@@ -11,7 +11,7 @@ use Rattle.pattern.specs.Linear.{linear-plus, linear-minus, disjoint, same-set}
 use Rattle.pattern.specs.Linearity.{vars-at}
 use Rattle.pattern.specs.Pattern.{Pattern, pattern-code}
 use Rattle.pattern.specs.Places.{tick}
-use Rattle.pattern.specs.Read.{Form, is-head, is-var, is-and, is-or, is-wild, is-absurd, is-not, is-other}
+use Rattle.pattern.specs.Read.{Form, is-head, is-var, is-and, is-or, is-wild, is-absurd, is-not, is-range, is-other}
 use Rattle.pattern.specs.Side.{Side, plus, minus}
 use Rattle.linearity.specs.declared.linear.Joint.{Joint}
 use Rattle.linearity.specs.declared.linear.Joint.the-variants.{Apart, Alike, Bare}
@@ -40,6 +40,7 @@ joint-at plus is-or = Alike
 joint-at plus is-wild = Apart
 joint-at plus is-absurd = Apart
 joint-at plus is-not = Apart
+joint-at plus is-range = Apart
 joint-at plus is-other = Apart
 joint-at minus (is-head c) = Bare
 joint-at minus (is-var x) = Apart
@@ -48,6 +49,7 @@ joint-at minus is-or = Apart
 joint-at minus is-wild = Apart
 joint-at minus is-absurd = Apart
 joint-at minus is-not = Apart
+joint-at minus is-range = Apart
 joint-at minus is-other = Apart
 
 -- the j-th part's variables ys, after the variables xs of the parts before it
@@ -65,5 +67,6 @@ own-vars plus is-or = []
 own-vars plus is-wild = []
 own-vars plus is-absurd = []
 own-vars plus is-not = []
+own-vars plus is-range = []
 own-vars plus is-other = []
 own-vars minus f = []

@@ -42,6 +42,7 @@ fn plus_joint(w: Word) -> Joint
         Word::Absurd => Joint::Apart,
         Word::Not => Joint::Apart,
         Word::Var(_x) => Joint::Apart,
+        Word::Range => Joint::Apart,
         Word::Other => Joint::Apart,
     }
 }
@@ -57,6 +58,7 @@ fn minus_joint(w: Word) -> Joint
         Word::Absurd => Joint::Apart,
         Word::Not => Joint::Apart,
         Word::Var(_x) => Joint::Apart,
+        Word::Range => Joint::Apart,
         Word::Other => Joint::Apart,
     }
 }
@@ -85,6 +87,7 @@ fn own_set(w: Word, plus: bool) -> u64
         Word::Absurd => 0,
         Word::Not => 0,
         Word::Var(x) => only(x as u32),
+        Word::Range => 0,
         Word::Other => 0,
     }
 }

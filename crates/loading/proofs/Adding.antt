@@ -86,7 +86,7 @@ module _ {t : List ℕ} {n used total : ℕ} {rows : List ℕ} {m : ℕ} (g : Gi
 
       module _ (fits : total + w ≤ limits .weight) (n'' m'' : ℕ) (n''-is : n'' ≡ length rows) (m''-is : m'' ≡ m) where
         pub place-given : GivenPlace t ws used n'' m''
-        place-given = record { known = g .known; p = passed .pat; words = pattern-words (g .known .sig) ws (passed .pat) (passed .read); light = passed .light; room = omega (arith, n''-is, used-le); work-room = omega (arith, m''-is, g .work-room) }
+        place-given = record { known = g .known; p = passed .pat; words = pattern-words (g .known .sig) ws (passed .pat) (passed .read); light = passed .light; ranges = passed .ranges; room = omega (arith, n''-is, used-le); work-room = omega (arith, m''-is, g .work-room) }
 
         module _ (o : List ℕ) (kept : take used o ≡ take used rows) (r' : ℕ) (o' : List ℕ) (put : (q : GivenPlace t ws used n'' m'') → ListPlaced (q .known .sig) (q .p) used r' o o') where
           placed : ListPlaced (g .known .sig) (passed .pat) used r' o o'

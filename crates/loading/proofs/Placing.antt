@@ -22,7 +22,7 @@ module _ {t ws : List ℕ} {used n m : ℕ} (g : GivenPlace t ws used n m) where
   at-le = omega (arith, g .room)
 
   pub whole : (n' : ℕ) → n' ≡ n - (used + 1) → GivenWhole t ws n' m
-  whole n' e = record { known = g .known; p = g .p; words = g .words; light = g .light; room = omega (arith, e, g .room); work-room = g .work-room }
+  whole n' e = record { known = g .known; p = g .p; words = g .words; light = g .light; ranges = g .ranges; room = omega (arith, e, g .room); work-room = g .work-room }
 
   module _ (n' : ℕ) (e : n' ≡ n - (used + 1)) (k : ℕ) (ys : List ℕ) (gave : (q : GivenWhole t ws n' m) → RowsFirst (q .known .sig) (q .p) k ys) (l : length ys ≡ n') (o : List ℕ) (o-is : length o ≡ n) where
     first : RowsFirst (g .known .sig) (g .p) k ys

@@ -10,6 +10,7 @@ use Rattle.signature.specs.Lists.{any}
 use Rattle.signature.specs.Signature.{Signature}
 use Rattle.pattern.specs.Limits.{pattern-limit}
 use Rattle.pattern.specs.Pattern.{Pattern}
+use Rattle.pattern.specs.Ranged.{ranged}
 use Rattle.pattern.specs.Weight.{weight, weight-plus, light-plus}
 use Rattle.pattern.specs.WellFormed.{PatternWords}
 use Rattle.row.specs.Admitted.{refusal-of-pattern}
@@ -47,6 +48,7 @@ pub record GivenPlace (t ws : List ℕ) (used n m : ℕ) : Type 0 where
   pub p : Pattern
   pub words : PatternWords (known .sig) ws p
   pub light : light-plus p ≡ true
+  pub ranges : ranged p ≡ true
   pub room : used + 1 + row-room ≤ n
   pub work-room : row-room ≤ m
 

@@ -1,19 +1,21 @@
 -- The places that the matcher puts in.
 use mathlib.Core.Path.{_≡_, refl, sym, ap, _∙_}
-use mathlib.Core.Bool.{Bool, true, false, not, Bool·beq}
+use mathlib.Core.Bool.{Bool, true, false, not, cond, Bool·beq}
 use mathlib.Core.List.{List, [], _∷_, _++_}
 use Prim.Native.Nat.{ℕ, _+_}
-use lib.ListN.{length, set}
+use lib.ListN.{length, set, getD}
 use Rattle.signature.specs.Value.{Values, size}
 use Rattle.signature.proofs.Tests.{true≢false}
 use Rattle.pattern.specs.Decide.{Out, fit, fail, swap, decide, decides, is-fit}
 use Rattle.pattern.specs.Match.{Binds}
 use Rattle.pattern.specs.Pattern.{Patterns, pattern-code}
 use Rattle.pattern.specs.Places.{bind-all}
+use Rattle.pattern.specs.Range.{within}
+use Rattle.pattern.specs.Read.{is-range, form}
 use Rattle.matching.specs.Bound.{bound, join}
-use Rattle.matching.specs.Given.{GivenTwo}
+use Rattle.matching.specs.Given.{Given, GivenTwo}
 use Rattle.matching.proofs.FitSteps.{test, not-true, not-false}
-use Rattle.matching.proofs.GivenSteps.{Uncons}
+use Rattle.matching.proofs.GivenSteps.{range-of, Uncons}
 
 swapped : (o : Out) → bound (swap o) ≡ bound o
 swapped (fit σ) = refl
@@ -21,6 +23,14 @@ swapped (fail σ) = refl
 
 pub nothing-put : (σ : Binds) (o : List ℕ) → σ ≡ [] → o ≡ bind-all σ o
 nothing-put σ o e = rw e
+
+-- a range binds nothing
+pub range-binds : {t ws bs : List ℕ} (g : Given t ws bs) (l : ℕ) → form (getD ws 0 0) ≡ is-range → bound (decide (g .pattern) (g .value) l) ≡ []
+range-binds {t} {ws} {bs} g l e = ap bound (range-of g e l) ∙ go (within (getD ws 1 0) (getD ws 2 0) (getD bs 0 0))
+  where
+    go : (b : Bool) → bound (cond b (fit []) (fail [])) ≡ []
+    go true = refl
+    go false = refl
 
 pub put : (a c : Out) (o o′ : List ℕ) → c ≡ a → o′ ≡ bind-all (bound a) o → o′ ≡ bind-all (bound c) o
 put a c o o′ e h = rw e h

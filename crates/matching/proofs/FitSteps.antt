@@ -8,11 +8,12 @@ use Rattle.signature.specs.Value.{Values, size}
 use Rattle.signature.proofs.Tests.{true≢false}
 use Rattle.pattern.specs.Decide.{Out, fit, fail, swap, both, decide, decides, is-fit}
 use Rattle.pattern.specs.Pattern.{Pattern, Patterns, pattern-code}
-use Rattle.pattern.specs.Read.{is-wild, is-absurd, is-var, form}
-use Rattle.pattern.proofs.Decided.{fit-swap}
+use Rattle.pattern.specs.Range.{within}
+use Rattle.pattern.specs.Read.{is-wild, is-absurd, is-var, is-range, form}
+use Rattle.pattern.proofs.Decided.{fit-swap, fit-when}
 use Rattle.matching.specs.Bound.{join}
 use Rattle.matching.specs.Given.{Given}
-use Rattle.matching.proofs.GivenSteps.{seen, Uncons}
+use Rattle.matching.proofs.GivenSteps.{seen, range-of, Uncons}
 
 -- leaves
 module _ {t ws bs : List ℕ} (g : Given t ws bs) (l : ℕ) where
@@ -24,6 +25,10 @@ module _ {t ws bs : List ℕ} (g : Given t ws bs) (l : ℕ) where
 
   pub var-fits : (x : ℕ) → form (getD ws 0 0) ≡ is-var x → decide (g .pattern) (g .value) l ≡ fit ((x, l) ∷ [])
   var-fits x e = ap (λ (y : Pattern). decide y (g .value) l) (seen g (is-var x) e)
+
+-- a range
+pub range-answer : {t ws bs : List ℕ} (g : Given t ws bs) (e : form (getD ws 0 0) ≡ is-range) (l : ℕ) (r : Bool) → r ≡ within (getD ws 1 0) (getD ws 2 0) (getD bs 0 0) → r ≡ is-fit (decide (g .pattern) (g .value) l)
+range-answer {t} {ws} {bs} g e l r h = h ∙ sym (fit-when (within (getD ws 1 0) (getD ws 2 0) (getD bs 0 0))) ∙ ap is-fit (sym (range-of g e l))
 
 -- the answer to an outcome that is another
 pub answer : (a c : Out) (r : Bool) → c ≡ a → r ≡ is-fit a → r ≡ is-fit c

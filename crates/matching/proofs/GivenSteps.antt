@@ -1,6 +1,6 @@
 -- What each call of the matcher is given, from what its caller is given.
 use mathlib.Core.Path.{_≡_, refl, sym, ap, ap₂, _∙_, subst}
-use mathlib.Core.Bool.{true, false}
+use mathlib.Core.Bool.{true, false, cond}
 use mathlib.Core.List.{List, [], _∷_, _++_, append-assoc, append-nil}
 use mathlib.Core.Option.{some}
 use Prim.Native.Nat.{ℕ, _+_, _-_, _≤_, _<_}
@@ -12,14 +12,15 @@ use Rattle.signature.specs.Lawful.{OfKind, OfKinds, of-kind, of-kinds-nil, of-k
 use Rattle.signature.specs.Limits.{constructor-limit, booking-limit}
 use Rattle.signature.specs.Signature.{Signature, arguments-at}
 use Rattle.signature.specs.Value.{Value, Values, con, code, codes, size}
-use Rattle.signature.proofs.Heads.{constructor-of, same-args}
+use Rattle.signature.proofs.Heads.{same-args}
 use Rattle.signature.proofs.Tests.{eqb-self, eqb-no}
 use Rattle.signature.proofs.Values.{length-code, some-size, booking-lawful}
 use Rattle.pattern.specs.Decide.{fit, fail, swap, both, decide, decides}
 use Rattle.pattern.specs.Given.{Opens}
 use Rattle.pattern.specs.Limits.{variable-count}
-use Rattle.pattern.specs.Pattern.{Pattern, Patterns, head, and, or, wild, absurd-pat, neg, var, pattern-code, patterns-code}
-use Rattle.pattern.specs.Read.{Form, is-head, is-var, is-and, is-or, is-wild, is-absurd, is-not, is-other, form}
+use Rattle.pattern.specs.Pattern.{Pattern, Patterns, head, and, or, wild, absurd-pat, neg, var, range, pattern-code, patterns-code}
+use Rattle.pattern.specs.Range.{within}
+use Rattle.pattern.specs.Read.{Form, is-head, is-var, is-and, is-or, is-wild, is-absurd, is-not, is-range, is-other, form}
 use Rattle.pattern.specs.WellFormed.{WellFormed, AllWellFormed, well-head, well-and, well-or, well-not, well-var, well-nil, well-cons}
 use Rattle.pattern.proofs.Opened.{shape, shape-is}
 use Rattle.pattern.proofs.Opened as opened
@@ -82,6 +83,7 @@ View is-or p = (q : Pattern) × (r : Pattern) × (p ≡ or q r)
 View is-wild p = p ≡ wild
 View is-absurd p = p ≡ absurd-pat
 View is-not p = (q : Pattern) × (p ≡ neg q)
+View is-range p = (low : ℕ) × (high : ℕ) × (p ≡ range low high)
 View is-other p = ⊥
 
 view : (p : Pattern) → View (shape p) p
@@ -92,6 +94,7 @@ view wild = refl
 view absurd-pat = refl
 view (neg p) = (p, refl)
 view (var x) = refl
+view (range low high) = (low, high, refl)
 
 module _ {t ws bs : List ℕ} (g : Given t ws bs) where
   pub seen : (f : Form) → form (getD ws 0 0) ≡ f → View f (g .pattern)
@@ -203,8 +206,7 @@ module _ {t ws bs : List ℕ} (g : Given t ws bs) (x : ℕ) (e : form (getD ws 0
   head-of n a h =
       let (ps, i) = seen g (is-head x) e in
       let (ks, q, s) = head-well (named-well g (head x ps) i) in
-      let (vs, j, w, u) = same-con (g .known .sig) (g .kind) x ks (g .value) (g .value-rest) bs q (g .kinded) (g .value-words) h in
-      let (d, e₁, e₂, e₃) = constructor-of (g .known .sig) (g .kind) x ks q in (
+      let (vs, j, w, u) = same-con (g .known .sig) (g .kind) x ks (g .value) (g .value-rest) bs q (g .kinded) (g .value-words) h in (
         record {
           known = g .known;
           kinds = ks;
@@ -216,10 +218,27 @@ module _ {t ws bs : List ℕ} (g : Given t ws bs) (x : ℕ) (e : form (getD ws 0
           value-rest = g .value-rest;
           pattern-words = behind ws (x ∷ []) (patterns-code ps ++ g .pattern-rest) 1 (named-words g (head x ps) i) refl;
           value-words = w;
-          many = ap length (sym e₃) ∙ sym (g .known .decoded .arity x d e₁) ∙ sym a;
+          many = sym (opened.arity-there (g .known) (g .kind) x ks (head-known g x e) q) ∙ sym a;
         },
         λ l. ap₂ (λ (y : Pattern) (z : Value). decide y z l) i j ∙ decide-same x ps vs l,
       )
+
+-- a range, and the head that it is held against
+decide-range : (low high : ℕ) (v : Value) (rest : List ℕ) (l : ℕ) → decide (range low high) v l ≡ cond (within low high (getD (code v ++ rest) 0 0)) (fit []) (fail [])
+decide-range low high (con d vs) rest l = refl
+
+module _ {t ws bs : List ℕ} (g : Given t ws bs) (e : form (getD ws 0 0) ≡ is-range) where
+  pub range-there : 3 ≤ length ws
+  range-there = opened.own-in (opens g) is-range (sym e)
+
+  pub range-of : (l : ℕ) → decide (g .pattern) (g .value) l ≡ cond (within (getD ws 1 0) (getD ws 2 0) (getD bs 0 0)) (fit []) (fail [])
+  range-of l =
+      let (low, high, i) = seen g is-range e in
+      let w = named-words g (range low high) i in
+      let a : getD ws 1 0 ≡ low = ap (λ (x : List ℕ). getD x 1 0) w in
+      let b : getD ws 2 0 ≡ high = ap (λ (x : List ℕ). getD x 2 0) w in
+      let c : getD bs 0 0 ≡ getD (code (g .value) ++ g .value-rest) 0 0 = ap (λ (x : List ℕ). getD x 0 0) (g .value-words) in
+      rw (a, b, c) (ap (λ (y : Pattern). decide y (g .value) l) i ∙ decide-range low high (g .value) (g .value-rest) l)
 
 -- arguments: none, or the first and the others
 pub none-left : {t ws bs : List ℕ} {n : ℕ} (g : GivenAll t ws bs n) (l : ℕ) → n ≡ 0 → decides (g .patterns) (g .values) l ≡ fit []

@@ -1,34 +1,21 @@
--- Patterns that stand one after another, their words taken off one by one.
+-- How many patterns are left, and where they end.
 use mathlib.Core.Path.{_≡_, refl, sym, ap, _∙_}
-use mathlib.Core.List.{List, [], _∷_, _++_, append-assoc, append-nil}
+use mathlib.Core.List.{List, [], _∷_, _++_, append-nil}
 use Prim.Native.Nat.{ℕ, _+_, _-_, _≤_, _<_}
-use native.Mathlib.Nat.{add-zero}
 use native.Mathlib.Omega.{arith}
 use lib.ListN.{length, drop, getD, length-append}
-use lib.Seq.{drop-drop, getD-drop}
 use Rattle.signature.specs.Decoded.{Known}
 use Rattle.signature.specs.Signature.{Signature}
 use Rattle.pattern.specs.Given.{Opens}
 use Rattle.pattern.specs.Pattern.{Patterns, pnil, pcons, pattern-code, patterns-code}
 use Rattle.pattern.specs.Read.{Form, form}
 use Rattle.pattern.specs.WellFormed.{AllWellFormed, well-nil, well-cons}
-use Rattle.pattern.specs.Word.{part-count}
-use Rattle.pattern.proofs.Opened.{shape, inner, code-word, code-split, word-form, kind-count, inner-well, inner-count}
+use Rattle.pattern.specs.Word.{own-words, part-count}
+use Rattle.pattern.proofs.Opened.{shape, inner, kind-count, inner-well, inner-count}
 use Rattle.pattern.proofs.PatternBack.{some-pattern-word}
-
-abbrev then : Patterns → Patterns → Patterns
-then pnil qs = qs
-then (pcons p ps) qs = pcons p (then ps qs)
-
-then-code : (ps qs : Patterns) → patterns-code (then ps qs) ≡ patterns-code ps ++ patterns-code qs
-then-code pnil qs = refl
-then-code (pcons p ps) qs = rw (then-code ps qs, append-assoc (pattern-code p) (patterns-code ps) (patterns-code qs))
+use Rattle.pattern.proofs.Walk.{then, then-well, front-form, front-length, behind-front}
 
 module _ (sig : Signature) where
-  then-well : {ks js : List ℕ} {ps qs : Patterns} → AllWellFormed sig ks ps → AllWellFormed sig js qs → AllWellFormed sig (ks ++ js) (then ps qs)
-  then-well well-nil q = q
-  then-well (well-cons h p) q = well-cons h (then-well p q)
-
   -- each pattern has a word
   kinds-length : {ks : List ℕ} {ps : Patterns} → AllWellFormed sig ks ps → length ks ≤ length (patterns-code ps)
   kinds-length well-nil = omega arith
@@ -64,11 +51,11 @@ left-done {sig} {ws} {n} {left} {at} h l = go (l .well) (l .many) (l .ends)
     go well-nil m e = omega arith
     go (well-cons p q) m e = absurd (omega arith)
 
--- the word at the front, and what is left behind it
+-- the pattern at the front, and what is left behind the words of its own
 pub record Next (t : List ℕ) (sig : Signature) (ws : List ℕ) (n left at : ℕ) (f : Form) : Type 0 where
-  pub below : at < n
+  pub below : at + own-words f ≤ n
   pub within : n ≤ length ws
-  pub next : Left sig ws n (left - 1 + part-count t f) (at + 1)
+  pub next : Left sig ws n (left - 1 + part-count t f) (at + own-words f)
   pub few : left - 1 + part-count t f ≤ length ws
 
 pub left-next : {t ws : List ℕ} {n left at : ℕ} (g : Known t) (f : Form) → f ≡ form (getD ws at 0) → 0 < left → Left (g .sig) ws n left at → Next t (g .sig) ws n left at f
@@ -78,23 +65,21 @@ left-next {t} {ws} {n} {left} {at} g f i h l = go (l .well) (l .words) (l .many)
     go well-nil d m e = absurd (omega arith)
     go (well-cons {k = k} {ks = ks} {p = p} {ps = ps} s u) d m e =
         let (js, v) = inner-well (g .sig) s in
-        let split : pattern-code p ++ patterns-code ps ≡ code-word p ∷ patterns-code (then (inner p) ps) = ap (λ z. z ++ patterns-code ps) (code-split p) ∙ ap (λ z. code-word p ∷ z) (sym (then-code (inner p) ps)) in
-        let all : drop at ws ≡ code-word p ∷ (patterns-code (then (inner p) ps) ++ l .rest) = d ∙ ap (λ z. z ++ l .rest) split in
-        let word : getD ws at 0 ≡ code-word p = ap (λ j. getD ws j 0) (sym (add-zero at)) ∙ sym (getD-drop at ws 0 0) ∙ ap (λ x. getD x 0 0) all in
-        let is : f ≡ shape p = i ∙ ap form word ∙ word-form (g .sig) s in
+        let is : f ≡ shape p = i ∙ front-form p ps ws (l .rest) at d s in
+        let own : own-words f ≡ own-words (shape p) = ap own-words is in
         let count : length js ≡ part-count t f = sym (kind-count (g .sig) v) ∙ inner-count g s ∙ ap (part-count t) (sym is) in
-        let wells = then-well (g .sig) v u in
+        let wells = then-well v u in
         let more : length (js ++ ks) ≡ left - 1 + part-count t f = omega (arith, length-append js ks, count, m) in
-        let sum : at + 1 + length (patterns-code (then (inner p) ps)) ≡ n = omega (arith, e, ap length split) in
+        let sum : at + own-words f + length (patterns-code (then (inner p) ps)) ≡ n = omega (arith, e, own, front-length p ps) in
         record {
-          below = omega (arith, e, ap length split);
+          below = omega (arith, sum);
           within = l .inside;
           next = record {
             kinds = js ++ ks;
             patterns = then (inner p) ps;
             rest = l .rest;
             well = wells;
-            words = sym (drop-drop 1 at ws) ∙ ap (drop 1) all;
+            words = ap (λ m. drop (at + m) ws) own ∙ behind-front p ps ws (l .rest) at d;
             many = more;
             ends = sum;
             inside = l .inside;

@@ -62,6 +62,7 @@ fn bind(t: &[u16], p: &[u16], b: &[u16], at: u16, out: &mut [u16])
             let i = x as usize;
             out[i] = at;
         }
+        Word::Range => {}
         Word::Other => {}
     }
 }

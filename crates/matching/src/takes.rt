@@ -1,5 +1,6 @@
 // Whether a rule takes a booking.
 use crate::span::span;
+use pattern::range::within;
 use pattern::token::Word;
 use pattern::token::classify;
 use pattern::token::own_words;
@@ -40,6 +41,7 @@ pub(crate) fn fits(t: &[u16], p: &[u16], b: &[u16]) -> bool
         Word::Absurd => false,
         Word::Not => !fits(t, &p[own..], b),
         Word::Var(_x) => true,
+        Word::Range => within(p[1], p[2], b[0]),
         Word::Other => false,
     }
 }

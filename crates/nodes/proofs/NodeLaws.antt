@@ -11,13 +11,17 @@ use Rattle.signature.specs.Decoded.{Known, Starts}
 use Rattle.signature.specs.Lawful.{OfKind, of-kind, OfKinds, of-kinds-nil, of-kinds-cons}
 use Rattle.signature.specs.Signature.{arguments-at}
 use Rattle.signature.specs.Value.{Values, vnil, vcons, con, size, codes}
-use Rattle.signature.proofs.KnownFacts.{constructors, is-constructor}
 use Rattle.signature.proofs.ListFacts.{at-getD, at-out}
 use Rattle.signature.proofs.Tests.{eqb-no}
-use Rattle.nodes.specs.Parts.{Parts}
-use Rattle.nodes.specs.Step.{link-to, or-0, link-step, step-at}
+use Rattle.nodes.specs.Parts.{Parts, Standing}
+use Rattle.nodes.specs.Step.{link-to, split-to, or-0, link-step, step-on, step-at}
 use Rattle.nodes.specs.declared.node.Step.the-variants.{Default, Hit, On, Broken}
-use Rattle.nodes.proofs.LinkLaws.{link-above}
+use Rattle.nodes.proofs.LinkLaws.{stands, link-above, split-above}
+
+-- a link that is followed leads on
+step-same : (d : ℕ) (o : Option ℕ) → ((x : ℕ) → o ≡ some x → 0 < x) → d ≡ or-0 o → step-on d ≡ link-step o
+step-same d none f q = rw q
+step-same d (some x) f q = let z : ¬ (x ≡ 0) = λ y. omega (arith, f x refl) in rw (q, eqb-no x 0 z)
 
 -- the first part left
 pub record Front {table b : List ℕ} (p : Parts table b) : Type 0 where
@@ -52,8 +56,8 @@ module _ {table b : List ℕ} (p : Parts table b) where
   head-is : (l : 0 < length b) → getD b 0 0 ≡ front l .head
   head-is l = ap (λ w. getD w 0 0) (front l .words)
 
-  pub head-known : 0 < length b → (g : Known table) → getD b 0 0 < length (g .sig)
-  head-known l g = omega (arith, head-is l, is-constructor (p .known) (front l .kind) (front l .head) (front l .args) (front l .has), constructors g, constructors (p .known))
+  pub head-known : 0 < length b → Standing table (getD b 0 0)
+  head-known l = rw (head-is l) (stands (p .known) (front l .kind) (front l .head) (front l .args) (front l .has))
 
   module _ (t : List ℕ) (i : ℕ) where
     pub node-out : length t ≡ 0 → Broken ≡ step-at (p .known .sig) t i (p .values)
@@ -72,31 +76,24 @@ module _ {table b : List ℕ} (p : Parts table b) where
       pub node-hit : getD t 0 0 ≡ 1 → length b ≤ 0 → Hit ≡ step-at (p .known .sig) t i (p .values)
       node-hit e l = rw (word, e, none-left l)
 
-      pub node-link : getD t 0 0 ≡ 2 → 0 < length b → (d : ℕ) → d ≡ or-0 (link-to (p .known .sig) t i (getD b 0 0)) → (d ≡ 0 → ⊥) → On d 1 ≡ step-at (p .known .sig) t i (p .values)
-      node-link e l d q n = rw (word, e, front l .values-are) (go (link-to (p .known .sig) t i (front l .head)) (rw (head-is l) at q))
-        where
-          go : (o : Option ℕ) → d ≡ or-0 o → On d 1 ≡ link-step o
-          go none q′ = absurd (n q′)
-          go (some x) q′ = ap (λ y. On y 1) q′
+      pub node-test : getD t 0 0 ≡ 2 → 0 < length b → (d : ℕ) → d ≡ or-0 (link-to (p .known .sig) t i (getD b 0 0)) → step-on d ≡ step-at (p .known .sig) t i (p .values)
+      node-test e l d q = rw (word, e, front l .values-are) (step-same d (link-to (p .known .sig) t i (front l .head)) (link-above (p .known .sig) t i (front l .head)) (rw (head-is l) at q))
 
-      pub node-no-link : getD t 0 0 ≡ 2 → 0 < length b → (d : ℕ) → d ≡ or-0 (link-to (p .known .sig) t i (getD b 0 0)) → d ≡ 0 → Broken ≡ step-at (p .known .sig) t i (p .values)
-      node-no-link e l d q n = rw (word, e, front l .values-are) (go (link-to (p .known .sig) t i (front l .head)) refl (rw (head-is l) at q))
-        where
-          go : (o : Option ℕ) → link-to (p .known .sig) t i (front l .head) ≡ o → d ≡ or-0 o → Broken ≡ link-step o
-          go none z q′ = refl
-          go (some x) z q′ = absurd (omega (arith, link-above (p .known .sig) t i (front l .head) x z))
+      pub node-split : getD t 0 0 ≡ 4 → 0 < length b → (d : ℕ) → d ≡ or-0 (split-to t i (getD b 0 0)) → step-on d ≡ step-at (p .known .sig) t i (p .values)
+      node-split e l d q = rw (word, e, front l .values-are) (step-same d (split-to t i (front l .head)) (split-above t i (front l .head)) (rw (head-is l) at q))
 
       pub node-skip : getD t 0 0 ≡ 3 → (l : 0 < length b) → (m : ℕ) → m ≡ size (con (front l .head) (front l .under)) → On 1 m ≡ step-at (p .known .sig) t i (p .values)
       node-skip e l m q = rw (word, e, front l .values-are) (ap (On 1) q)
 
       module _ (n₀ : getD t 0 0 ≡ 0 → ⊥) (n₁ : getD t 0 0 ≡ 1 → ⊥) where
         pub node-no-part : length b ≡ 0 → Broken ≡ step-at (p .known .sig) t i (p .values)
-        node-no-part l = rw (word, eqb-no (getD t 0 0) 0 n₀, eqb-no (getD t 0 0) 1 n₁, none-left (omega arith)) (go (eqb (getD t 0 0) 2) (eqb (getD t 0 0) 3))
+        node-no-part l = rw (word, eqb-no (getD t 0 0) 0 n₀, eqb-no (getD t 0 0) 1 n₁, none-left (omega arith)) (go (eqb (getD t 0 0) 2) (eqb (getD t 0 0) 3) (eqb (getD t 0 0) 4))
           where
-            go : (x y : Bool) → Broken ≡ cond x Broken (cond y Broken Broken)
-            go true y = refl
-            go false true = refl
-            go false false = refl
+            go : (x y z : Bool) → Broken ≡ cond x Broken (cond y Broken (cond z Broken Broken))
+            go true y z = refl
+            go false true z = refl
+            go false false true = refl
+            go false false false = refl
 
-        pub node-other : (getD t 0 0 ≡ 2 → ⊥) → (getD t 0 0 ≡ 3 → ⊥) → Broken ≡ step-at (p .known .sig) t i (p .values)
-        node-other n₂ n₃ = rw (word, eqb-no (getD t 0 0) 0 n₀, eqb-no (getD t 0 0) 1 n₁, eqb-no (getD t 0 0) 2 n₂, eqb-no (getD t 0 0) 3 n₃)
+        pub node-other : (getD t 0 0 ≡ 2 → ⊥) → (getD t 0 0 ≡ 3 → ⊥) → (getD t 0 0 ≡ 4 → ⊥) → Broken ≡ step-at (p .known .sig) t i (p .values)
+        node-other n₂ n₃ n₄ = rw (word, eqb-no (getD t 0 0) 0 n₀, eqb-no (getD t 0 0) 1 n₁, eqb-no (getD t 0 0) 2 n₂, eqb-no (getD t 0 0) 3 n₃, eqb-no (getD t 0 0) 4 n₄)

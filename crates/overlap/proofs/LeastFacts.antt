@@ -1,27 +1,28 @@
--- The least values of a constructor's arguments, one after the other.
+-- The least values of a head's arguments, one after the other.
 use mathlib.Core.Path.{_≡_, refl, ap, sym, _∙_, subst}
 use mathlib.Core.List.{List, [], _∷_, _++_, append-assoc, append-nil}
 use mathlib.Core.Option.{some}
+use mathlib.Core.Bool.{true, false}
+use mathlib.Core.Logic.{⊎-elim}
 use Prim.Native.Nat.{ℕ, zero, suc, _+_, _-_, _≤_, _<_, min}
 use native.Mathlib.Omega.{arith}
 use lib.ListN.{length, drop, take, getD, set, length-append, length-drop, drop-of-length-le}
-use lib.Seq.{drop-drop, drop-at, take-at, drop-cons}
-use Rattle.signature.specs.Decoded.{Known, least-head, least-size, least-head-of, argument-of, arity-of}
-use Rattle.signature.specs.Lawful.{OfKind, OfKinds, of-kind, of-kinds-nil, of-kinds-cons}
-use Rattle.signature.specs.Limits.{small-size, over-small, constructor-limit, kind-limit, argument-limit}
-use Rattle.signature.specs.Lists.{All, none-left, also}
-use Rattle.signature.specs.Read.{best, least, total}
-use Rattle.signature.specs.Signature.{Signature, arguments-at, arguments}
+use lib.Seq.{drop-drop, drop-at, take-at}
+use Rattle.signature.specs.Decoded.{Known, least-size, least-head-of, argument-of, head-arity, kind-of}
+use Rattle.signature.specs.Lawful.{OfKinds, of-kind, of-kinds-nil, of-kinds-cons}
+use Rattle.signature.specs.Limits.{small-size, over-small, constructor-limit, kind-limit, argument-limit, level-base, last-level}
+use Rattle.signature.specs.Lists.{All}
+use Rattle.signature.specs.Read.{best, least}
+use Rattle.signature.specs.Signature.{Signature, arguments-at, arguments, is-number-kind, is-level}
 use Rattle.signature.specs.Value.{Value, Values, con, vnil, vcons, code, codes, size, sizes}
 use Rattle.signature.proofs.Counting.{counted-length}
 use Rattle.signature.proofs.ListFacts.{at-getD, all-first}
 use Rattle.cell.specs.RowList.{from}
-use Rattle.rowlist.proofs.Kinded.{known-head, kinds-same}
 use Rattle.rowlist.proofs.Typing.{args-there}
 use Rattle.cell.proofs.Walk.{from-is, back, word-at}
 use Rattle.signature.proofs.LeastValue.{HeadReaches, least-head-reaches}
-use Rattle.signature.proofs.Heads.{args-same}
-use Rattle.signature.proofs.KnownFacts.{argument-is, argument-small, is-constructor, few-arguments}
+use Rattle.signature.proofs.Heads.{args-same, level-is}
+use Rattle.signature.proofs.KnownFacts.{argument-is, argument-small, is-constructor, few-constructors, few-of-head, head-is, head-arity-is}
 use Rattle.overlap.specs.Least.{GivenHead, Written, fewest}
 
 -- words of values
@@ -93,24 +94,31 @@ part-back o₀ o w v at n h e l ys f =
     rw (ta, no, append-nil ys, yy) (append-assoc (take 1 o₀) w (v ++ drop (at + n) o₀) ∙ ap (λ (z : List ℕ). take 1 o₀ ++ z) (sym (append-assoc w v (drop (at + n) o₀))))
 
 module _ {t : List ℕ} {c : ℕ} {o₀ : List ℕ} (g : GivenHead t c o₀) where
-  -- what the table says of the constructor
-  pub arity-here : arity-of t c ≡ length (g .ks)
-  arity-here = known-head (g .known) (g .kind) c (g .ks) (g .is) .arity ∙ ap length (args-same (g .known .sig) (g .kind) c (g .ks) (g .is))
+  -- what the table says of the head
+  pub arity-here : head-arity t c ≡ length (g .ks)
+  arity-here = head-arity-is (g .known) (g .kind) c (g .ks) (g .is)
 
-  pub tag-here : c < constructor-limit
-  tag-here = known-head (g .known) (g .kind) c (g .ks) (g .is) .tag
+  pub tag-here : c < level-base → c < constructor-limit
+  tag-here l = omega (arith, is-constructor (g .known) (g .kind) c (g .ks) l (g .is), few-constructors (g .known))
 
-  in-signature : c < length (g .known .sig)
-  in-signature = is-constructor (g .known) (g .kind) c (g .ks) (g .is)
+  pub word-here : c ≤ level-base + last-level
+  word-here = ⊎-elim (λ (a : (c < length (g .known .sig)) × (is-number-kind (g .known .sig) (g .kind) ≡ false) × (kind-of t c ≡ g .kind)). omega (arith, a .0, few-constructors (g .known))) (λ (b : (is-level c ≡ true) × (is-number-kind (g .known .sig) (g .kind) ≡ true) × (g .ks ≡ [])). level-is c (b .0) .1) (head-is (g .known) (g .kind) c (g .ks) (g .is))
+
+  -- one that has arguments is a constructor
+  in-signature : 0 < length (g .ks) → c < length (g .known .sig)
+  in-signature h = ⊎-elim (λ (a : (c < length (g .known .sig)) × (is-number-kind (g .known .sig) (g .kind) ≡ false) × (kind-of t c ≡ g .kind)). a .0) (λ (b : (is-level c ≡ true) × (is-number-kind (g .known .sig) (g .kind) ≡ true) × (g .ks ≡ [])). absurd (omega (arith, h, ap length (b .2)))) (head-is (g .known) (g .kind) c (g .ks) (g .is))
+
+  pub constructor-here : (j : ℕ) → j < length (g .ks) → c < constructor-limit
+  constructor-here j h = omega (arith, in-signature (omega (arith, h)), few-constructors (g .known))
 
   same-ks : arguments (g .known .sig) c ≡ g .ks
   same-ks = args-same (g .known .sig) (g .kind) c (g .ks) (g .is)
 
   pub arity-small : length (g .ks) ≤ argument-limit
-  arity-small = rw same-ks at (few-arguments (g .known) c in-signature)
+  arity-small = few-of-head (g .known) (g .kind) c (g .ks) (g .is)
 
   pub argument-there : (j : ℕ) → j < length (g .ks) → argument-of t c j < kind-limit
-  argument-there j h = argument-small (g .known) c in-signature j (rw same-ks h)
+  argument-there j h = argument-small (g .known) c (in-signature (omega (arith, h))) j (rw same-ks h)
 
   module _ (at j : ℕ) (o : List ℕ) where
     reach : (k : ℕ) → k < g .known .decoded .n → HeadReaches (g .known .sig) (g .known .decoded .n) k
@@ -125,7 +133,7 @@ module _ {t : List ℕ} {c : ℕ} {o₀ : List ℕ} (g : GivenHead t c o₀) whe
     first-todo : (k : ℕ) (todo : List ℕ) → Mid g at j o (k ∷ todo) → argument-of t c j ≡ k
     first-todo k todo m =
         let q = word-at (g .ks) j k todo (m .kinds) in
-        argument-is (g .known) c in-signature j (rw same-ks (q .1)) ∙ ap (λ (l : List ℕ). getD l j 0) same-ks ∙ q .0
+        argument-is (g .known) c (in-signature (omega (arith, q .1))) j (rw same-ks (q .1)) ∙ ap (λ (l : List ℕ). getD l j 0) same-ks ∙ q .0
 
     unfoldable given-at : (k hh : ℕ) (todo : List ℕ) → Mid g at j o (k ∷ todo) → hh ≡ least-head-of t k → GivenHead t hh (from o at)
     given-at k hh todo m e =

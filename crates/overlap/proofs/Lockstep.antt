@@ -1,8 +1,8 @@
 -- Two rows in lockstep, of which nothing is written.
-use mathlib.Core.Path.{_≡_, refl, ap, sym, _∙_}
-use mathlib.Core.List.{List, _++_}
+use mathlib.Core.Path.{_≡_, refl, ap, sym}
+use mathlib.Core.List.{List}
 use mathlib.Core.Option.{Option, none, some}
-use mathlib.Core.Bool.{Bool, true, false}
+use mathlib.Core.Bool.{true, false}
 use Prim.Native.Nat.{ℕ, _+_, _≤_, _<_, _-_}
 use native.Mathlib.Omega.{arith}
 use lib.ListN.{length, replicate, length-replicate, length-append}
@@ -11,6 +11,7 @@ use Rattle.cell.specs.declared.cell.Cell.{Cell}
 use Rattle.cell.specs.declared.cell.Cursor.{Cursor}
 use Rattle.cell.specs.declared.cell.Out.{Out}
 use Rattle.cell.specs.declared.cell.Out.the-variants.{Dropped, Kept}
+use Rattle.sets.specs.Heads.{number-of}
 use Rattle.cell.specs.Cell.{Kinds}
 use Rattle.cell.specs.Coded.{row-code, row-code-of}
 use Rattle.signature.specs.Decoded.{decoded-length}
@@ -87,11 +88,11 @@ module _ {ar a b : List ℕ} (g : TwoRows ar a b) (x y : Cursor) (left : ℕ) (m
       pub known-here : c .tag < 256 → length ar ≡ decoded-length
       known-here = known-of (given g) x y (m .0) left (m .1) p q c ep eq ec h in-front
 
-      pub none-met : c .allowed ≡ 0 → false ≡ is-some (combine (g .r) (g .s))
+      pub none-met : number-of (c .allowed) ≡ 0 → false ≡ is-some (combine (g .r) (g .s))
       unfolding given roomy
       none-met e = dropped-none (g .K) (g .kind) (combine (g .r) (g .s)) _ _ (of-rows (roomy g) _ _ _ (out-of (given g) x y (m .0) left (m .1) p q c ep eq ec h (m .2) e))
 
-      module _ (w : ℕ) (e : ¬ (c .allowed ≡ 0)) (f : w ≡ opens-of ar (c .tag)) where
+      module _ (w : ℕ) (e : ¬ (number-of (c .allowed) ≡ 0)) (f : w ≡ opens-of ar (c .tag)) where
         turn-of : Turned (given g) x y (m .0) left (m .1) p q c w
         turn-of = turned (given g) x y (m .0) left (m .1) p q c ep eq ec h w (m .2) e f
 

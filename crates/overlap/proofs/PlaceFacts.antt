@@ -3,17 +3,17 @@ use mathlib.Core.Path.{_≡_, refl, ap, sym, _∙_}
 use mathlib.Core.List.{List, [], _∷_}
 use mathlib.Core.Bool.{Bool, true, false}
 use mathlib.Core.Option.{some}
-use Prim.Native.Nat.{ℕ, suc, _+_, _*_, _≤_, _<_}
+use Prim.Native.Nat.{ℕ, _+_, _*_, _≤_, _<_}
 use native.Mathlib.Omega.{arith}
 use lib.ListN.{length}
 use Rattle.signature.specs.Decoded.{Known, first-of}
 use Rattle.signature.specs.Lawful.{of-kind}
 use Rattle.signature.specs.Limits.{small-size, argument-limit, kind-limit}
 use Rattle.signature.specs.Lists.{All, none-left, also, first, is-empty, memb}
-use Rattle.sets.specs.Set.{bit, Lowest, set-of, Within}
+use Rattle.sets.specs.Set.{heads-width, bit, Lowest, set-of, Within}
 use Rattle.signature.specs.Signature.{arguments-at, heads}
-use Rattle.signature.proofs.Heads.{kind-of-head, args-same}
-use Rattle.signature.proofs.KnownFacts.{is-constructor, few-arguments, words-of}
+use Rattle.signature.proofs.Heads.{kind-of-head}
+use Rattle.signature.proofs.KnownFacts.{few-of-head, words-of}
 use Rattle.signature.proofs.LeastValue.{least-at-most}
 use Rattle.signature.proofs.Tests.{true≢false}
 use Rattle.rowlist.proofs.Kinded.{kinds-same}
@@ -48,7 +48,7 @@ module _ {t : List ℕ} {k allowed : ℕ} {o : List ℕ} (g : GivenPlace t k all
   pub kind-small : k < kind-limit
   kind-small = omega (arith, g .there, kinds-same (g .known), words-of (g .known) .few-kinds)
 
-  module _ (c r : ℕ) (low : Lowest allowed r) (e : c ≡ first-of t k + r) where
+  module _ (c r : ℕ) (low : Lowest heads-width allowed r) (e : c ≡ first-of t k + r) where
     pub allowed-head : memb c (g .cs) ≡ true
     allowed-head =
         let f = first (heads (g .known .sig) k) in
@@ -57,7 +57,7 @@ module _ {t : List ℕ} {k allowed : ℕ} {o : List ℕ} (g : GivenPlace t k all
 
     pub args-few : (ks : List ℕ) → arguments-at (g .known .sig) k c ≡ some ks → fewest (g .known) ks ≤ small-size * argument-limit
     args-few ks h =
-        let n : length ks ≤ argument-limit = rw (args-same (g .known .sig) k c ks h) at (few-arguments (g .known) c (is-constructor (g .known) k c ks h)) in
+        let n : length ks ≤ argument-limit = few-of-head (g .known) k c ks h in
         omega (arith, fewest-small (g .known) ks (args-there (g .known) k c ks h), n)
 
     unfoldable pub head-given : GivenHead t c o

@@ -12,7 +12,7 @@ use Rattle.cell.specs.Cell.{Kinds}
 use Rattle.cell.specs.Coded.{row-code, Typed}
 use Rattle.rowlist.specs.Product.{AllTyped, with-each}
 use Rattle.row.specs.Row.{Row, combine, each}
-use Rattle.cell.specs.RowList.{list-code, entries, from}
+use Rattle.cell.specs.RowList.{list-code, from}
 use Rattle.cell.proofs.Walk.{word-at, code-long, from-is}
 use Rattle.overlap.specs.Lists.{RowByList, TwoLists}
 use Rattle.overlap.specs.Pair.{TwoRows}

@@ -1,4 +1,4 @@
--- A constructor with the least values of its arguments.
+-- A head with the least values of its arguments.
 use mathlib.Core.Path.{_≡_}
 use mathlib.Core.List.{List, _++_}
 use mathlib.Core.Bool.{true, false}
@@ -19,7 +19,7 @@ use Rattle.sets.specs.Set.{set-of, Within}
 abbrev pub fewest : {t : List ℕ} → Known t → List ℕ → ℕ
 fewest g ks = total (least small-size (g .sig) (g .decoded .n)) ks
 
--- c is a constructor of the signature, and o has room
+-- c is a head of a kind, and o has room
 pub record GivenHead (t : List ℕ) (c : ℕ) (o : List ℕ) : Type 0 where
   pub known : Known t
   pub kind : ℕ

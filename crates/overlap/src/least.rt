@@ -1,23 +1,25 @@
 // Least values.
 use cell::cell::KIND_TAG;
-use sets::set::lowest;
+use sets::heads::Heads;
+use sets::heads::lowest;
 use signature::decoded::argument_of;
-use signature::decoded::arity_of;
 use signature::decoded::first_of;
+use signature::decoded::head_arity;
 use signature::decoded::least_head_of;
 ghost use mathlib.Core.Path.{_≡_};
 ghost use mathlib.Core.List.{_∷_};
 ghost use Prim.Native.Nat.{_<_, _≤_, _-_};
 ghost use lib.ListN.{length, drop};
 ghost use Rattle.cell.specs.Cell.{kind-tag};
+ghost use Rattle.sets.specs.Heads.{number-of};
 ghost use Rattle.overlap.specs.Least.{GivenHead, Written, GivenPlace, ValueWritten};
 
-// A constructor and the least values of its arguments, first in out; how many words.
+// A head and the least values of its arguments, first in out; how many words.
 fn with_least(t: &[u16], c: u16, out: &mut [u16]) -> usize
     requires { ⌜ GivenHead (now t) c (now out) ⌝ }
     ensures { λ r. ⌜ ((g : GivenHead (now (t .entry)) c (now (out .entry))) → Written g r (now (out .exit))) ⌝ }
 {
-    let n = arity_of(t, c as usize) as usize;
+    let n = head_arity(t, c) as usize;
     let mut at = 1;
     let mut j = 0;
     while j < n {
@@ -31,19 +33,19 @@ fn with_least(t: &[u16], c: u16, out: &mut [u16]) -> usize
 }
 
 // A value of kind k under the lowest head that is allowed, first in out; how many words.
-fn lowest_value(t: &[u16], k: usize, allowed: u64, out: &mut [u16]) -> usize
-    requires { ⌜ GivenPlace (now t) k allowed (now out) ⌝ }
-    ensures { λ r. ⌜ ((g : GivenPlace (now (t .entry)) k allowed (now (out .entry))) → ValueWritten g r (now (out .exit))) ⌝ }
+fn lowest_value(t: &[u16], k: usize, allowed: Heads, out: &mut [u16]) -> usize
+    requires { ⌜ GivenPlace (now t) k (number-of allowed) (now out) ⌝ }
+    ensures { λ r. ⌜ ((g : GivenPlace (now (t .entry)) k (number-of allowed) (now (out .entry))) → ValueWritten g r (now (out .exit))) ⌝ }
 {
     let c = first_of(t, k) + lowest(allowed) as u16;
     with_least(t, c, out)
 }
 
 // What a cell stands for, first in out: the constructor that it names, or a value under an allowed head; how many words.
-pub fn place(t: &[u16], tag: u64, allowed: u64, out: &mut [u16]) -> usize
-    requires { ⌜ (1 ≤ length (now out)) × (kind-tag ≤ tag → GivenPlace (now t) (tag - kind-tag) allowed (now out)) ⌝ }
+pub fn place(t: &[u16], tag: u64, allowed: Heads, out: &mut [u16]) -> usize
+    requires { ⌜ (1 ≤ length (now out)) × (kind-tag ≤ tag → GivenPlace (now t) (tag - kind-tag) (number-of allowed) (now out)) ⌝ }
     ensures named { λ r. ⌜ (tag < kind-tag → (r ≡ 1) × (now (out .exit) ≡ tag ∷ drop 1 (now (out .entry)))) ⌝ }
-    ensures unnamed { λ r. ⌜ (kind-tag ≤ tag → (g : GivenPlace (now (t .entry)) (tag - kind-tag) allowed (now (out .entry))) → ValueWritten g r (now (out .exit))) ⌝ }
+    ensures unnamed { λ r. ⌜ (kind-tag ≤ tag → (g : GivenPlace (now (t .entry)) (tag - kind-tag) (number-of allowed) (now (out .entry))) → ValueWritten g r (now (out .exit))) ⌝ }
 {
     if tag < KIND_TAG {
         out[0] = tag as u16;

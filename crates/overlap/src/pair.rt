@@ -4,7 +4,7 @@ use cell::cell::join;
 use cell::cell::look;
 use cell::cell::next;
 use cell::cell::opens;
-use sets::set::size;
+use sets::heads::is_empty;
 ghost use mathlib.Core.Path.{_≡_};
 ghost use Rattle.signature.specs.Lists.{is-some};
 ghost use Rattle.row.specs.Row.{combine};
@@ -28,7 +28,7 @@ pub fn rows_meet(t: &[u16], a: &[u64], b: &[u64]) -> bool
         let p = look(a, x);
         let q = look(b, y);
         let c = join(p, q);
-        if size(c.allowed) == 0 {
+        if is_empty(c.allowed) {
             return false;
         }
         let w = opens(t, c.tag);

@@ -8,7 +8,7 @@ use shown::file::size;
 ghost use Prim.Native.Nat.{_≤_};
 ghost use lib.ListN.{length};
 
-const WORDS: usize = 1024;
+const WORDS: usize = 2048;
 
 // The first case of these words; how many words it has, 0 where there is none.
 fn first(w: &[u16]) -> usize

@@ -8,7 +8,7 @@ use borrow.Author.Tests.{ltb-true, ltb-false}
 use lib.Dec.{eqb, ltb}
 use lib.ListN.{length, getD, set}
 use lib.Seq.{getD-set-same, getD-set-other}
-use Rattle.sets.specs.Set.{bit, Lowest}
+use Rattle.sets.specs.Set.{bit, set-limit, Lowest}
 use Rattle.sets.proofs.SetLaws.{bit-zero}
 use Rattle.signature.proofs.Tests.{eqb-eq, eqb-ne, eqb-no, eqb-self}
 use Rattle.tree.specs.Limits.{row-limit}
@@ -63,7 +63,7 @@ word-none s i h l q m = go (ltb q (64 * i)) refl
         let z : getD s i 0 ≡ 0 = omega arith in
         of-word s i q 0 (omega (arith, ltb-false q (64 * i) e)) (ap (λ (w : ℕ). bit w (q % 64)) z ∙ bit-zero (q % 64))
 
-pub word-first : (s : List ℕ) (i b n : ℕ) → NoneIn s i → Lowest (getD s i 0) b → FirstAlive s n (min (64 * i + b) n)
+pub word-first : (s : List ℕ) (i b n : ℕ) → NoneIn s i → Lowest set-limit (getD s i 0) b → FirstAlive s n (min (64 * i + b) n)
 word-first s i b n h w = record {
   most = omega arith;
   before = λ q l. go q (omega arith) (ltb q (64 * i)) refl;

@@ -13,7 +13,7 @@ use Rattle.cell.specs.Cell.{words, all-words}
 use Rattle.cell.specs.Coded.{kinds-of, cells, all-cells, row-code}
 use Rattle.cell.specs.Cursor.{opens-of}
 use Rattle.tree.specs.Tree.{rappend}
-use Rattle.path.specs.Standing.{RowStands, RowsStand, At}
+use Rattle.path.specs.Standing.{RowStands, RowsStand, At, tag-of}
 use Rattle.path.specs.State.{row-stride, own-of, start-of, stop-of, rule-of, plan-of}
 use Rattle.path.specs.Rows.{GivenRow, RowCounted, RowIndexed, Before}
 use Rattle.path.proofs.StandingLaws.{RealAt, is-real}
@@ -49,10 +49,10 @@ module _ (sig : Signature) (t : List ℕ) where
   pub own-end : (a : List ℕ) (stop at own : ℕ) → OwnAt a stop at own → own ≤ 0 → at ≡ stop
   own-end a stop at own w l = let h = w .here in omega (arith, no-words (h .qs) (h .mine) (h .good) (omega (arith, h .own-is)), h .ends)
 
-  own-step : (a : List ℕ) (stop at own k : ℕ) (ks : List ℕ) (rs : Rows) (r : Row) (w : RealAt sig t a stop at k ks rs) → w .r ≡ r → own ≡ suc (length ks) → OwnAt a stop (at + 3) (own - 1 + opens-of t (getD a at 0))
+  own-step : (a : List ℕ) (stop at own k : ℕ) (ks : List ℕ) (rs : Rows) (r : Row) (w : RealAt sig t a stop at k ks rs) → w .r ≡ r → own ≡ suc (length ks) → OwnAt a stop (at + 3) (own - 1 + opens-of t (tag-of a at))
   own-step a stop at own k ks rs (named vs c ps) w e o =
       let g : RowStands sig t (named vs c ps) k = subst (λ (r : Row). RowStands sig t r k) e (w .good) in
-      let tag : getD a at 0 ≡ c = its-cell sig t a stop at k ks rs w .tag ∙ ap (λ (r : Row). row-tag r k) e in
+      let tag : tag-of a at ≡ c = its-cell sig t a stop at k ks rs w .tag ∙ ap (λ (r : Row). row-tag r k) e in
       record {
         ks = arguments sig c ++ ks;
         rs = rappend ps (w .qs);
@@ -60,18 +60,19 @@ module _ (sig : Signature) (t : List ℕ) where
         all = rw (tag, lt-ltb c 256 (g .0 .tag)) (simp length-append (omega (arith, g .0 .arity)));
       }
   own-step a stop at own k ks rs (free vs cs) w e o =
-      let tag : getD a at 0 ≡ 256 + k = its-cell sig t a stop at k ks rs w .tag ∙ ap (λ (r : Row). row-tag r k) e in
+      let g : RowStands sig t (free vs cs) k = subst (λ (r : Row). RowStands sig t r k) e (w .good) in
+      let tag : tag-of a at ≡ 256 + k = its-cell sig t a stop at k ks rs w .tag ∙ ap (λ (r : Row). row-tag r k) e in
       record {
         ks = ks;
         rs = w .qs;
-        here = after-free sig t a stop at own k [] ks (w .qs) (w .rest) vs cs (w .goods) (w .code-is ∙ ap (λ (r : Row). words (cells (kinds-of sig) r k) ++ (all-words (all-cells (kinds-of sig) (w .qs) ks) ++ w .rest)) e) (ap (λ (r : Row). at + (length (words (cells (kinds-of sig) r k)) + length (all-words (all-cells (kinds-of sig) (w .qs) ks)))) (sym e) ∙ w .ends) o;
+        here = after-free sig t a stop at own k [] ks (w .qs) (w .rest) vs cs (g .0) (w .goods) (w .code-is ∙ ap (λ (r : Row). words (cells (kinds-of sig) r k) ++ (all-words (all-cells (kinds-of sig) (w .qs) ks) ++ w .rest)) e) (ap (λ (r : Row). at + (length (words (cells (kinds-of sig) r k)) + length (all-words (all-cells (kinds-of sig) (w .qs) ks)))) (sym e) ∙ w .ends) o;
         all = rw (tag, le-ltb (256 + k) 256 (omega arith)) (omega arith);
       }
 
-  pub own-next : (a : List ℕ) (stop at own : ℕ) → OwnAt a stop at own → 0 < own → OwnAt a stop (at + 3) (own - 1 + opens-of t (getD a at 0))
+  pub own-next : (a : List ℕ) (stop at own : ℕ) → OwnAt a stop at own → 0 < own → OwnAt a stop (at + 3) (own - 1 + opens-of t (tag-of a at))
   own-next a stop at own w l = go (w .ks) (w .here) (w .all)
     where
-      go : (ks : List ℕ) → At sig t a stop at own ks (w .rs) → own ≡ length ks → OwnAt a stop (at + 3) (own - 1 + opens-of t (getD a at 0))
+      go : (ks : List ℕ) → At sig t a stop at own ks (w .rs) → own ≡ length ks → OwnAt a stop (at + 3) (own - 1 + opens-of t (tag-of a at))
       go [] h e = absurd (omega arith)
       go (k ∷ ks) h e = let v = is-real sig t a stop at own k ks (w .rs) h e in own-step a stop at own k ks (w .rs) (v .r) v refl e
 
@@ -99,7 +100,7 @@ own-start {t} {a} {start} {len} g =
 pub row-within : {t a : List ℕ} {start len : ℕ} (g : GivenRow t a start len) → start + len ≤ length a
 row-within {t} {a} {start} {len} g = omega (arith, g .len-is, length-drop start a, ap length (g .code-is), length-append (row-code (kinds-of (g .known .sig)) (g .row) 0) (g .rest), g .within)
 
-pub own-on : {t a : List ℕ} {start len : ℕ} (g : GivenRow t a start len) (i left x : ℕ) → OwnAt (g .known .sig) t a (start + len) (start + 3 * i) left → 0 < left → x ≡ opens-of t (getD a (start + 3 * i) 0) → OwnAt (g .known .sig) t a (start + len) (start + 3 * (i + 1)) (left - 1 + x)
+pub own-on : {t a : List ℕ} {start len : ℕ} (g : GivenRow t a start len) (i left x : ℕ) → OwnAt (g .known .sig) t a (start + len) (start + 3 * i) left → 0 < left → x ≡ opens-of t (tag-of a (start + 3 * i)) → OwnAt (g .known .sig) t a (start + len) (start + 3 * (i + 1)) (left - 1 + x)
 own-on {t} {a} {start} {len} g i left x w l e =
     let z : start + 3 * (i + 1) ≡ start + 3 * i + 3 = omega arith in
     rw (z, e) (own-next (g .known .sig) t a (start + len) (start + 3 * i) left w l)
@@ -109,8 +110,8 @@ own-on {t} {a} {start} {len} g i left x w l e =
 pub record Counting (t a rows : List ℕ) (r start i left : ℕ) : Type 0 where
   pub zero : i ≡ 0 → left ≡ 1
   pub one : 0 < i → own-of rows r 0 ≡ 1
-  pub steps : (q : ℕ) → q + 1 < i → own-of rows r (q + 1) ≡ own-of rows r q - 1 + opens-of t (getD a (start + 3 * q) 0)
-  pub last : (q : ℕ) → q + 1 ≡ i → left ≡ own-of rows r q - 1 + opens-of t (getD a (start + 3 * q) 0)
+  pub steps : (q : ℕ) → q + 1 < i → own-of rows r (q + 1) ≡ own-of rows r q - 1 + opens-of t (tag-of a (start + 3 * q))
+  pub last : (q : ℕ) → q + 1 ≡ i → left ≡ own-of rows r q - 1 + opens-of t (tag-of a (start + 3 * q))
 
 pub counting-start : (t a rows : List ℕ) (r start : ℕ) → Counting t a rows r start 0 1
 counting-start t a rows r start = record { zero = λ e. refl; one = λ l. absurd (omega arith); steps = λ q l. absurd (omega arith); last = λ q e. absurd (omega (arith, e)) }
@@ -129,32 +130,32 @@ module _ (t a rows : List ℕ) (r start i left : ℕ) (w : Counting t a rows r s
       go zero e = ap (λ (z : ℕ). own-of (set rows (row-stride * r + 4 + i) left) r z) (sym e) ∙ here ∙ w .zero e
       go (suc j) e = there 0 (omega (arith, e)) ∙ w .one (omega (arith, e))
 
-  step : (q : ℕ) → q < i → own-of (set rows (row-stride * r + 4 + i) left) r (q + 1) ≡ own-of (set rows (row-stride * r + 4 + i) left) r q - 1 + opens-of t (getD a (start + 3 * q) 0)
+  step : (q : ℕ) → q < i → own-of (set rows (row-stride * r + 4 + i) left) r (q + 1) ≡ own-of (set rows (row-stride * r + 4 + i) left) r q - 1 + opens-of t (tag-of a (start + 3 * q))
   step q h = go (i - (q + 1)) refl
     where
-      back : own-of rows r q - 1 + opens-of t (getD a (start + 3 * q) 0) ≡ own-of (set rows (row-stride * r + 4 + i) left) r q - 1 + opens-of t (getD a (start + 3 * q) 0)
-      back = ap (λ (z : ℕ). z - 1 + opens-of t (getD a (start + 3 * q) 0)) (sym (there q h))
+      back : own-of rows r q - 1 + opens-of t (tag-of a (start + 3 * q)) ≡ own-of (set rows (row-stride * r + 4 + i) left) r q - 1 + opens-of t (tag-of a (start + 3 * q))
+      back = ap (λ (z : ℕ). z - 1 + opens-of t (tag-of a (start + 3 * q))) (sym (there q h))
 
-      go : (j : ℕ) → i - (q + 1) ≡ j → own-of (set rows (row-stride * r + 4 + i) left) r (q + 1) ≡ own-of (set rows (row-stride * r + 4 + i) left) r q - 1 + opens-of t (getD a (start + 3 * q) 0)
+      go : (j : ℕ) → i - (q + 1) ≡ j → own-of (set rows (row-stride * r + 4 + i) left) r (q + 1) ≡ own-of (set rows (row-stride * r + 4 + i) left) r q - 1 + opens-of t (tag-of a (start + 3 * q))
       go zero e =
           let z : q + 1 ≡ i = omega (arith, e) in
           ap (λ (y : ℕ). own-of (set rows (row-stride * r + 4 + i) left) r y) z ∙ here ∙ w .last q z ∙ back
       go (suc j) e = there (q + 1) (omega (arith, e)) ∙ w .steps q (omega (arith, e)) ∙ back
 
-  pub counting-next : Counting t a (set rows (row-stride * r + 4 + i) left) r start (i + 1) (left - 1 + opens-of t (getD a (start + 3 * i) 0))
+  pub counting-next : Counting t a (set rows (row-stride * r + 4 + i) left) r start (i + 1) (left - 1 + opens-of t (tag-of a (start + 3 * i)))
   counting-next = record {
     zero = λ e. absurd (omega (arith, e));
     one = λ h. first;
     steps = λ q h. step q (omega arith);
     last = λ q e.
         let z : q ≡ i = omega (arith, e) in
-        rw z (ap (λ (y : ℕ). y - 1 + opens-of t (getD a (start + 3 * i) 0)) (sym here));
+        rw z (ap (λ (y : ℕ). y - 1 + opens-of t (tag-of a (start + 3 * i))) (sym here));
   }
 
   pub counting-end : (len x : ℕ) → len ≡ 3 * i → x ≡ left → RowCounted t a (set rows (row-stride * r + 4 + i) x) r start len
   counting-end len x e f = rw f (record { one = first; counts = λ q h. step q (omega arith) })
 
-pub counted-on : (t a rows : List ℕ) (r start i left x : ℕ) → Counting t a rows r start i left → row-stride * r + 4 + i < length rows → x ≡ opens-of t (getD a (start + 3 * i) 0) → Counting t a (set rows (row-stride * r + 4 + i) left) r start (i + 1) (left - 1 + x)
+pub counted-on : (t a rows : List ℕ) (r start i left x : ℕ) → Counting t a rows r start i left → row-stride * r + 4 + i < length rows → x ≡ opens-of t (tag-of a (start + 3 * i)) → Counting t a (set rows (row-stride * r + 4 + i) left) r start (i + 1) (left - 1 + x)
 counted-on t a rows r start i left x w l e = rw e (counting-next t a rows r start i left w l)
 
 pub before-set : (k i x : ℕ) (xs ys : List ℕ) → Before k xs ys → k ≤ i → Before k xs (set ys i x)

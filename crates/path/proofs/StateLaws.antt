@@ -2,7 +2,7 @@
 use mathlib.Core.Path.{_≡_, refl, sym, ap, ap₂, subst, _∙_}
 use mathlib.Core.List.{List, [], _∷_, _++_}
 use mathlib.Core.Option.{Option, none, some}
-use mathlib.Core.Bool.{Bool, true, false, _&&_, not}
+use mathlib.Core.Bool.{Bool, true, false, _&&_, not, cond}
 use Prim.Native.Nat.{ℕ, zero, suc, _+_, _-_, _*_, _≤_, _<_}
 use native.Mathlib.Nat.{add-zero}
 use native.Mathlib.Omega.{arith}
@@ -16,11 +16,11 @@ use Rattle.sets.proofs.SetLaws.{bit-lt}
 use Rattle.signature.proofs.Tests.{eqb-eq, eqb-ne, none≢some, some-inj}
 use Rattle.row.specs.Row.{Rows}
 use Rattle.cell.specs.Cursor.{opens-of}
-use Rattle.tree.specs.Tree.{Line, inserts, after, taken, passed, refined}
-use Rattle.path.specs.Standing.{At, refined-cell}
+use Rattle.tree.specs.Tree.{Line, inserts, after, taken, passed, refined, holds}
+use Rattle.path.specs.Standing.{At, refined-cell, tag-of, vars-of, allowed-of}
 use Rattle.path.specs.State.{Indexed, LineAt, RowIs, State, Raised, real-of, kept-by, cell-of, own-of, stop-of, visit-of, bound, one-if}
 use Rattle.path.specs.Variables.{variables}
-use Rattle.path.proofs.StepLaws.{Next, virt-taken, virt-passed, virt-refined, real-taken, real-not, real-passed, real-refined, real-room}
+use Rattle.path.proofs.StepLaws.{Next, virt-taken, virt-passed, virt-refined, real-taken, real-not, real-passed, real-refined, real-room, real-holds, virt-holds}
 use Rattle.path.proofs.VariableLaws.{once-rising, no-variables}
 
 -- the rows that are kept, by the cursors before they are raised
@@ -65,7 +65,7 @@ module _ (sig : Signature) (t a rows : List ℕ) (n : ℕ) where
   -- a line that goes on to the next cell
   line-real : (vis vis′ : List ℕ) (v r q : ℕ) (ks ks′ : List ℕ) (l : Line) (o : Option (List ℕ × Rows)) → LineAt sig t a rows n vis r q ks l
       → ((p : ℕ) → p < q → visit-of vis′ r p ≡ visit-of vis r p) → visit-of vis′ r q ≡ v
-      → Next sig t a (stop-of rows r) (cell-of rows r (suc q)) (own-of rows r (suc q)) ks′ (getD a (cell-of rows r q + 1) 0) o
+      → Next sig t a (stop-of rows r) (cell-of rows r (suc q)) (own-of rows r (suc q)) ks′ (vars-of a (cell-of rows r q)) o
       → RowIs sig t a rows n true (stepped v l o) vis′ r (suc q) ks′
   line-real vis vis′ v r q ks ks′ l o w h e g = rw (g .is) (record {
     here = g .here;
@@ -74,17 +74,17 @@ module _ (sig : Signature) (t a rows : List ℕ) (n : ℕ) where
     binds-are =
         once-rising v (g .vs) (l .binds) (g .once)
         ∙ ap₂ (λ (m : ℕ) (bs : List (ℕ × ℕ)). inserts v (variables m) bs) (g .vars-are) (w .binds-are ∙ sym (bound-same vis vis′ r q h))
-        ∙ ap (λ (u : ℕ). inserts u (variables (getD a (cell-of rows r q + 1) 0)) (bound a rows vis′ r q)) (sym e);
+        ∙ ap (λ (u : ℕ). inserts u (variables (vars-of a (cell-of rows r q))) (bound a rows vis′ r q)) (sym e);
   })
 
   own-most : (vis : List ℕ) (r q k : ℕ) (ks : List ℕ) (l : Line) → LineAt sig t a rows n vis r q (k ∷ ks) l → own-of rows r q ≤ suc (length ks)
   own-most vis r q k ks l w = omega (arith, w .here .own-is, ap length (w .here .kinds-are), length-append (w .here .virt) (w .here .mine))
 
-  own-next : Indexed t a rows n → (r q : ℕ) → r < n → cell-of rows r q + 3 ≤ stop-of rows r → own-of rows r q - 1 + opens-of t (getD a (cell-of rows r q) 0) ≡ own-of rows r (suc q)
+  own-next : Indexed t a rows n → (r q : ℕ) → r < n → cell-of rows r q + 3 ≤ stop-of rows r → own-of rows r q - 1 + opens-of t (tag-of a (cell-of rows r q)) ≡ own-of rows r (suc q)
   own-next ok r q l h = sym (ok .counts r q l h) ∙ ap (λ (m : ℕ). own-of rows r m) (let e : q + 1 ≡ suc q = omega arith in e)
 
   next-cell : Indexed t a rows n → (r q : ℕ) (ks : List ℕ) (v : ℕ) (o : Option (List ℕ × Rows)) → r < n → cell-of rows r q + 3 ≤ stop-of rows r
-      → Next sig t a (stop-of rows r) (cell-of rows r q + 3) (own-of rows r q - 1 + opens-of t (getD a (cell-of rows r q) 0)) ks v o
+      → Next sig t a (stop-of rows r) (cell-of rows r q + 3) (own-of rows r q - 1 + opens-of t (tag-of a (cell-of rows r q))) ks v o
       → Next sig t a (stop-of rows r) (cell-of rows r (suc q)) (own-of rows r (suc q)) ks v o
   next-cell ok r q ks v o l h g =
       let e : cell-of rows r q + 3 ≡ cell-of rows r (suc q) = omega arith in
@@ -93,7 +93,7 @@ module _ (sig : Signature) (t a rows : List ℕ) (n : ℕ) where
   -- one row where the head c of kind k is taken
   row-take : Indexed t a rows n → (vis vis′ : List ℕ) (v r q q′ c k : ℕ) (ks : List ℕ) → r < n → memb c (heads sig k) ≡ true → first (heads sig k) ≤ c
       → (b : Bool) (o : Option Line) (e z : Bool) → RowIs sig t a rows n b o vis r q (k ∷ ks)
-      → eqb (own-of rows r q) (suc (length ks)) ≡ e → eqb (bit (getD a (cell-of rows r q + 2) 0) (c - first (heads sig k))) 0 ≡ z
+      → eqb (own-of rows r q) (suc (length ks)) ≡ e → eqb (bit (allowed-of a (cell-of rows r q)) (c - first (heads sig k))) 0 ≡ z
       → q′ ≡ q + one-if (b && e) → ((p : ℕ) → p < q → visit-of vis′ r p ≡ visit-of vis r p) → ((b && e) ≡ true → visit-of vis′ r q ≡ v)
       → RowIs sig t a rows n (b && not ((b && e) && z)) (o >>= after v (taken sig (arguments sig c) c)) vis′ r q′ (arguments sig c ++ ks)
   row-take ok vis vis′ v r q q′ c k ks l m f true none e z w x y u h i = absurd w
@@ -103,7 +103,7 @@ module _ (sig : Signature) (t a rows : List ℕ) (n : ℕ) where
       rw (real-not sig t a (stop-of rows r) (cell-of rows r q) (own-of rows r q) k ks (s .cells) (w .here) (eqb-eq _ _ x) c f (eqb-eq _ _ y)) tt
   row-take ok vis vis′ v r q q′ c k ks l m f true (some s) true false w x y u h i =
       let own = eqb-eq _ _ x in
-      let one : bit (getD a (cell-of rows r q + 2) 0) (c - first (heads sig k)) ≡ 1 = omega (arith, bit-lt (getD a (cell-of rows r q + 2) 0) (c - first (heads sig k)), eqb-ne (bit (getD a (cell-of rows r q + 2) 0) (c - first (heads sig k))) 0 y) in
+      let one : bit (allowed-of a (cell-of rows r q)) (c - first (heads sig k)) ≡ 1 = omega (arith, bit-lt (allowed-of a (cell-of rows r q)) (c - first (heads sig k)), eqb-ne (bit (allowed-of a (cell-of rows r q)) (c - first (heads sig k))) 0 y) in
       let g = real-taken sig t a (stop-of rows r) (cell-of rows r q) (own-of rows r q) k ks (s .cells) (w .here) own c f one in
       let room = real-room sig t a (stop-of rows r) (cell-of rows r q) (own-of rows r q) k ks (s .cells) (w .here) own in
       let q′is : q′ ≡ suc q = omega arith in
@@ -148,10 +148,21 @@ module _ (sig : Signature) (t a rows : List ℕ) (n : ℕ) where
   -- refined, by the cells of the real rows
   pub row-refined : (vis : List ℕ) (r q k : ℕ) (ks : List ℕ) → Sized sig k → (b : Bool) (o : Option Line) (e : Bool) (s : Line) → RowIs sig t a rows n b o vis r q (k ∷ ks) → o ≡ some s
       → eqb (own-of rows r q) (suc (length ks)) ≡ e
-      → refined sig k (s .cells) ≡ ((b && e) && refined-cell sig k (getD a (cell-of rows r q) 0) (getD a (cell-of rows r q + 2) 0))
+      → refined sig k (s .cells) ≡ ((b && e) && refined-cell sig k (tag-of a (cell-of rows r q)) (allowed-of a (cell-of rows r q)))
   row-refined vis r q k ks z b none e s w i x = none≢some i
   row-refined vis r q k ks z false (some l) e s w i x = absurd w
   row-refined vis r q k ks z true (some l) true s w i x =
       ap (λ (m : Line). refined sig k (m .cells)) (sym (some-inj l s i)) ∙ real-refined sig t a (stop-of rows r) (cell-of rows r q) (own-of rows r q) k ks (l .cells) (w .here) (eqb-eq _ _ x) z
   row-refined vis r q k ks z true (some l) false s w i x =
       ap (λ (m : Line). refined sig k (m .cells)) (sym (some-inj l s i)) ∙ virt-refined sig t a (stop-of rows r) (cell-of rows r q) (own-of rows r q) k ks (l .cells) (w .here) (omega (arith, own-most vis r q k ks l w, eqb-ne (own-of rows r q) (suc (length ks)) x))
+
+  -- whether a line's first column allows the head c, by the cell of a real row
+  pub row-holds : (vis : List ℕ) (r q c k : ℕ) (ks : List ℕ) → memb c (heads sig k) ≡ true → first (heads sig k) ≤ c → (b : Bool) (o : Option Line) (e : Bool) (s : Line) → RowIs sig t a rows n b o vis r q (k ∷ ks) → o ≡ some s
+      → eqb (own-of rows r q) (suc (length ks)) ≡ e
+      → holds (s .cells) c ≡ cond (b && e) (eqb (bit (allowed-of a (cell-of rows r q)) (c - first (heads sig k))) 1) true
+  row-holds vis r q c k ks m f b none e s w i x = none≢some i
+  row-holds vis r q c k ks m f false (some l) e s w i x = absurd w
+  row-holds vis r q c k ks m f true (some l) true s w i x =
+      ap (λ (y : Line). holds (y .cells) c) (sym (some-inj l s i)) ∙ real-holds sig t a (stop-of rows r) (cell-of rows r q) (own-of rows r q) k ks (l .cells) (w .here) (eqb-eq _ _ x) c f
+  row-holds vis r q c k ks m f true (some l) false s w i x =
+      ap (λ (y : Line). holds (y .cells) c) (sym (some-inj l s i)) ∙ virt-holds sig t a (stop-of rows r) (cell-of rows r q) (own-of rows r q) k ks (l .cells) (w .here) c m (omega (arith, own-most vis r q k ks l w, eqb-ne (own-of rows r q) (suc (length ks)) x))

@@ -12,7 +12,7 @@ use Rattle.cell.specs.Cell.{cell-width}
 use Rattle.cell.specs.Coded.{kinds-of, row-code}
 use Rattle.cell.specs.Cursor.{opens-of}
 use Rattle.tree.specs.Tree.{Line}
-use Rattle.path.specs.Standing.{RowStands}
+use Rattle.path.specs.Standing.{RowStands, tag-of}
 use Rattle.path.specs.State.{start-of, stop-of, rule-of, plan-of, own-of}
 
 -- a row of a rule
@@ -48,7 +48,7 @@ Before k xs ys = (i : ℕ) → i < k → getD ys i 0 ≡ getD xs i 0
 -- one column is row r's own at its first cell, and each cell leaves those that it opens
 pub record RowCounted (t a rows : List ℕ) (r start len : ℕ) : Type 0 where
   pub one : own-of rows r 0 ≡ 1
-  pub counts : (q : ℕ) → cell-width * q + cell-width ≤ len → own-of rows r (q + 1) ≡ own-of rows r q - 1 + opens-of t (getD a (start + cell-width * q) 0)
+  pub counts : (q : ℕ) → cell-width * q + cell-width ≤ len → own-of rows r (q + 1) ≡ own-of rows r q - 1 + opens-of t (tag-of a (start + cell-width * q))
 
 -- row r of the table: where its words are, and whose it is
 pub record RowIndexed (t a rows : List ℕ) (r start len rule plan : ℕ) : Type 0 where

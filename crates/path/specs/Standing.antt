@@ -10,9 +10,21 @@ use Rattle.signature.specs.Signature.{Signature, heads, arguments}
 use Rattle.row.specs.Row.{Row, Rows, named, free, rnil, rcons, open-rows}
 use Rattle.cell.specs.Cell.{kind-tag, all-words}
 use Rattle.cell.specs.Coded.{HeadOfKind, kinds-of, all-cells}
+use Rattle.cell.specs.Cursor.{cell-at}
+use Rattle.sets.specs.Heads.{number-of}
 use Rattle.sets.specs.Set.{Within, members}
 use Rattle.tree.specs.Tree.{rappend}
 use Rattle.path.specs.Variables.{Once}
+
+-- the cell whose words begin at a word: its tag, its variables, and the set of the heads that it allows
+abbrev pub tag-of : List ℕ → ℕ → ℕ
+tag-of a at = cell-at a at .tag
+
+abbrev pub vars-of : List ℕ → ℕ → ℕ
+vars-of a at = cell-at a at .vars
+
+abbrev pub allowed-of : List ℕ → ℕ → ℕ
+allowed-of a at = number-of (cell-at a at .allowed)
 
 -- each of these is one of those
 abbrev pub Among : List ℕ → List ℕ → Type 0

@@ -12,7 +12,7 @@ use Rattle.pattern.specs.Limits.{pattern-limit}
 use Rattle.cell.specs.Cell.{cell-width}
 use Rattle.cell.specs.Cursor.{opens-of}
 use Rattle.tree.specs.Tree.{Line, inserts}
-use Rattle.path.specs.Standing.{At}
+use Rattle.path.specs.Standing.{At, tag-of, vars-of, allowed-of}
 use Rattle.path.specs.Variables.{variables}
 
 -- the options of n numbers from i on
@@ -51,7 +51,7 @@ cell-of rows r q = start-of rows r + cell-width * q
 
 pub record Indexed (t a rows : List ℕ) (n : ℕ) : Type 0 where
   pub long : row-stride * n ≤ length rows
-  pub counts : (r q : ℕ) → r < n → cell-of rows r q + cell-width ≤ stop-of rows r → own-of rows r (q + 1) ≡ own-of rows r q - 1 + opens-of t (getD a (cell-of rows r q) 0)
+  pub counts : (r q : ℕ) → r < n → cell-of rows r q + cell-width ≤ stop-of rows r → own-of rows r (q + 1) ≡ own-of rows r q - 1 + opens-of t (tag-of a (cell-of rows r q))
   pub within : (r : ℕ) → r < n → (stop-of rows r ≤ length a) × (stop-of rows r ≤ start-of rows r + cell-width * pattern-limit)
 
 -- visits: a word for each cell of each row
@@ -62,7 +62,7 @@ visit-of vis r q = getD vis (pattern-limit * r + q) 0
 -- what the first q cells of row r bind, each at its visit
 abbrev pub bound : List ℕ → List ℕ → List ℕ → ℕ → ℕ → List (ℕ × ℕ)
 bound a rows vis r zero = []
-bound a rows vis r (suc q) = inserts (visit-of vis r q) (variables (getD a (cell-of rows r q + 1) 0)) (bound a rows vis r q)
+bound a rows vis r (suc q) = inserts (visit-of vis r q) (variables (vars-of a (cell-of rows r q))) (bound a rows vis r q)
 
 -- sets of rows, by the test of a row
 
@@ -76,7 +76,7 @@ real-of rows alive cur m r = alive r && eqb (own-of rows r (getD cur r 0)) m
 
 -- those that allow head number j of the kind, by the cell q of a row
 abbrev pub kept-by : List ℕ → List ℕ → (ℕ → Bool) → (ℕ → Bool) → ℕ → ℕ → ℕ → Bool
-kept-by a rows alive real q j r = alive r && not (real r && eqb (bit (getD a (cell-of rows r q + 2) 0) j) 0)
+kept-by a rows alive real q j r = alive r && not (real r && eqb (bit (allowed-of a (cell-of rows r q)) j) 0)
 
 -- by the cursors, which are raised by then
 abbrev pub kept-of : List ℕ → List ℕ → (ℕ → Bool) → (ℕ → Bool) → List ℕ → ℕ → ℕ → Bool

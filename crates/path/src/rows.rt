@@ -1,10 +1,15 @@
 // The table of rows: for each where its words begin and end, its rule, its plan, and how many columns are its own at each of its cells.
+use cell::cell::CELL;
+use cell::cell::Cell;
+use cell::cell::cell_at;
 use pattern::limits::PATTERN_WORDS;
 use tree::words::ROWS;
 ghost use mathlib.Core.Path.{_≡_};
 ghost use Prim.Native.Nat.{_+_, _*_, _≤_};
 ghost use lib.ListN.{length};
-ghost use Rattle.path.specs.State.{row-stride, start-of};
+ghost use Rattle.cell.specs.Cell.{cell-width};
+ghost use Rattle.cell.specs.Cursor.{cell-at};
+ghost use Rattle.path.specs.State.{row-stride, start-of, cell-of};
 
 // The words of a row before the counts of columns.
 pub const OWN: usize = 4;
@@ -24,4 +29,12 @@ pub fn start_of(rows: &[u16], r: usize) -> u16
     ensures { λ w. ⌜ w ≡ start-of (now (rows .entry)) r ⌝ }
 {
     rows[ROW * r]
+}
+
+// The cell q of row r.
+pub fn cell_of(a: &[u64], rows: &[u16], r: usize, q: usize) -> Cell
+    requires { ⌜ (row-stride * r + row-stride ≤ length (now rows)) × (cell-of (now rows) r q + cell-width ≤ length (now a)) ⌝ }
+    ensures { λ c. ⌜ c ≡ cell-at (now (a .entry)) (cell-of (now (rows .entry)) r q) ⌝ }
+{
+    cell_at(a, start_of(rows, r) as usize + CELL * q)
 }

@@ -11,8 +11,8 @@ use Rattle.signature.proofs.Booleans.{and-left, and-right}
 use Rattle.signature.proofs.Members.{memb-append, memb-empty, all-memb}
 use Rattle.signature.proofs.Tests.{true≢false}
 use Rattle.pattern.specs.Linear.{E, O, E-all, O-all, disjoint, same-set, linear-plus, linear-minus, all-plus}
-use Rattle.pattern.specs.Match.{Binds, Fits, fits-var, fits-wild, fits-not, fits-and, fits-left, fits-right, fits-con, Fails, fails-absurd, fails-not, fails-left, fails-right, fails-or, fails-head, fails-arg, AllFit, all-nil, all-cons}
-use Rattle.pattern.specs.Pattern.{Pattern, var, wild, absurd-pat, neg, and, or, head, Patterns, pnil, pcons}
+use Rattle.pattern.specs.Match.{Binds, Fits, fits-var, fits-wild, fits-not, fits-and, fits-left, fits-right, fits-con, fits-range, Fails, fails-absurd, fails-not, fails-left, fails-right, fails-or, fails-head, fails-arg, fails-range, AllFit, all-nil, all-cons}
+use Rattle.pattern.specs.Pattern.{Pattern, var, wild, absurd-pat, neg, and, or, head, range, Patterns, pnil, pcons}
 use Rattle.pattern.specs.Places.{tick, times}
 use Rattle.pattern.proofs.Once.{times-append}
 use Rattle.pattern.proofs.Unique.{minus-empty}
@@ -65,6 +65,7 @@ mutual
       let a : (linear-plus p && linear-plus q) ≡ true = and-left (linear-plus p && linear-plus q) (same-set (E p) (E q)) l in
       omega (arith, fit-bound q (and-right (linear-plus p) (linear-plus q) a) f x, same-right x (E p) (E q) (and-right (linear-plus p && linear-plus q) (same-set (E p) (E q)) l))
   fit-bound (head c ps) l (fits-con e f) x = all-bound ps l f x
+  fit-bound (range low high) l (fits-range e) x = omega arith
 
   pub fail-bound : (p : Pattern) {v : Value} {i : ℕ} {σ : Binds} → linear-minus p ≡ true → Fails p v i σ → (x : ℕ) → tick (memb x (O p)) ≤ times x σ
   fail-bound absurd-pat l fails-absurd x = omega arith
@@ -80,6 +81,7 @@ mutual
       omega (arith, fail-bound q (and-right (linear-minus p) (linear-minus q) a) f x, same-right x (O p) (O q) (and-right (linear-minus p && linear-minus q) (same-set (O p) (O q)) l))
   fail-bound (head c ps) l (fails-head n) x = none-of x (O-all ps) _ (minus-empty ps l)
   fail-bound (head c ps) l (fails-arg e f) x = none-of x (O-all ps) _ (minus-empty ps l)
+  fail-bound (range low high) l (fails-range e) x = omega arith
 
   all-bound : (ps : Patterns) {vs : Values} {i : ℕ} {σ : Binds} → all-plus ps ≡ true → AllFit ps vs i σ → (x : ℕ) → tick (memb x (E-all ps)) ≤ times x σ
   all-bound pnil l all-nil x = omega arith

@@ -1,7 +1,7 @@
 -- The decision says which of Fits and Fails holds.
 use mathlib.Core.Path.{_≡_, refl, sym, subst, _∙_}
-use mathlib.Core.List.{List}
-use mathlib.Core.Bool.{Bool, true, false, _&&_, not, _||_}
+use mathlib.Core.List.{List, []}
+use mathlib.Core.Bool.{Bool, true, false, _&&_, not, _||_, cond}
 use Prim.Native.Nat.{ℕ, _+_, suc}
 use lib.Dec.{eqb}
 use Rattle.signature.specs.Lawful.{OfKind, of-kind, OfKinds, of-kinds-nil, of-kinds-cons}
@@ -11,8 +11,9 @@ use Rattle.signature.specs.Value.{Value, Values, size, vcons, con, vnil}
 use Rattle.signature.proofs.Heads.{same-args}
 use Rattle.signature.proofs.Tests.{eqb-eq, eqb-ne, true≢false, some-inj}
 use Rattle.pattern.specs.Decide.{Out, fit, fail, swap, both, decide, decides, is-fit}
-use Rattle.pattern.specs.Match.{Binds, Fits, Fails, AllFit, SomeFails, fails-not, fits-not, fits-and, fails-right, fails-left, fails-or, fits-right, fits-left, all-cons, some-there, some-here, fits-con, fails-arg, fits-var, fits-wild, fails-absurd, fails-head, all-nil}
-use Rattle.pattern.specs.Pattern.{Pattern, Patterns, neg, and, or, pcons, head, var, wild, absurd-pat, pnil}
+use Rattle.pattern.specs.Match.{Binds, Fits, Fails, AllFit, SomeFails, fails-not, fits-not, fits-and, fails-right, fails-left, fails-or, fits-right, fits-left, all-cons, some-there, some-here, fits-con, fails-arg, fits-var, fits-wild, fits-range, fails-absurd, fails-head, fails-range, all-nil}
+use Rattle.pattern.specs.Pattern.{Pattern, Patterns, neg, and, or, pcons, head, var, wild, absurd-pat, range, pnil}
+use Rattle.pattern.specs.Range.{within}
 use Rattle.pattern.specs.Takes.{Takes, TakesNot}
 use Rattle.pattern.specs.WellFormed.{WellFormed, well-not, well-and, well-or, well-head, AllWellFormed, well-nil, well-cons}
 use Rattle.pattern.proofs.Exclusive.{exclusive}
@@ -63,6 +64,11 @@ module _ (sig : Signature) where
         go : (b : Bool) → eqb c d ≡ b → (OfKinds sig ks vs → SaysAll ps vs (suc i) (decides ps vs (suc i))) → Says (head c ps) (con d vs) i (decide (head c ps) (con d vs) i)
         go true q f = rw q (says-head (eqb-eq c d q) (f (rw (same-args sig k c d e e′ (eqb-eq c d q)) at h)))
         go false q f = rw q (says-fails (fails-head (eqb-ne c d q)))
+    decide-says (range low high) s (con d vs) h i = go (within low high d) refl
+      where
+        go : (b : Bool) → within low high d ≡ b → Says (range low high) (con d vs) i (cond b (fit []) (fail []))
+        go true q = says-fits (fits-range q)
+        go false q = says-fails (fails-range q)
 
     pub decides-says : {ks : List ℕ} (ps : Patterns) → AllWellFormed sig ks ps → (vs : Values) → OfKinds sig ks vs → (i : ℕ) → SaysAll ps vs i (decides ps vs i)
     decides-says pnil well-nil vnil of-kinds-nil i = says-all all-nil
@@ -76,6 +82,10 @@ fit-both (fail σ) u = refl
 pub fit-swap : (o : Out) → is-fit (swap o) ≡ not (is-fit o)
 fit-swap (fit σ) = refl
 fit-swap (fail σ) = refl
+
+pub fit-when : (b : Bool) → is-fit (cond b (fit []) (fail [])) ≡ b
+fit-when true = refl
+fit-when false = refl
 
 pub fit-back : (o : Out) → is-fit o ≡ not (is-fit (swap o))
 fit-back (fit σ) = refl

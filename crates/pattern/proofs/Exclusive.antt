@@ -1,8 +1,10 @@
 -- The paper's theorem 3: not both.
+use mathlib.Core.Path.{sym, _∙_}
 use Prim.Native.Nat.{ℕ}
 use Rattle.signature.specs.Value.{Value, Values}
-use Rattle.pattern.specs.Match.{Binds, Fits, Fails, fits-not, fails-not, fits-and, fails-left, fails-right, fits-left, fails-or, fits-right, fits-con, fails-head, fails-arg, AllFit, SomeFails, all-cons, some-here, some-there}
-use Rattle.pattern.specs.Pattern.{Pattern, neg, and, or, head, Patterns, pcons}
+use Rattle.signature.proofs.Tests.{true≢false}
+use Rattle.pattern.specs.Match.{Binds, Fits, Fails, fits-not, fails-not, fits-and, fails-left, fails-right, fits-left, fails-or, fits-right, fits-con, fits-range, fails-head, fails-arg, fails-range, AllFit, SomeFails, all-cons, some-here, some-there}
+use Rattle.pattern.specs.Pattern.{Pattern, neg, and, or, head, range, Patterns, pcons}
 
 -- the paper's Theorem 3: not both
 mutual
@@ -14,6 +16,7 @@ mutual
   exclusive (or p q) (fits-right f) (fails-or g h) = exclusive q f h
   exclusive (head c ps) (fits-con e f) (fails-head n) = n e
   exclusive (head c ps) (fits-con e f) (fails-arg e′ g) = exclusive-all ps f g
+  exclusive (range low high) (fits-range e) (fails-range e′) = true≢false (sym e ∙ e′)
 
   exclusive-all : (ps : Patterns) {vs : Values} {i : ℕ} {σ τ : Binds} → AllFit ps vs i σ → SomeFails ps vs i τ → ⊥
   exclusive-all (pcons p ps) (all-cons f g) (some-here h) = exclusive p f h

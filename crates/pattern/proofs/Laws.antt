@@ -13,6 +13,7 @@ use Rattle.pattern.proofs.Decided.{Says, says-fits, says-fails, decide-
 use Rattle.pattern.proofs.Exclusive.{exclusive}
 use Rattle.pattern.proofs.Once.{fit-once, fail-once, once-fits, places-of, places-only, same-places}
 use Rattle.pattern.proofs.PatternBack.{pattern-words, words-pattern, pattern-read, pattern-was}
+use Rattle.pattern.proofs.RangedLaw.{wrong-is-some}
 use Rattle.pattern.proofs.StandsLaw.{light-is-each, heavy-is-some}
 use Rattle.pattern.proofs.Unique.{same-fits}
 
@@ -37,4 +38,5 @@ laws = record {
   one-list = λ sig k p v i σ τ l n h f g. same-places σ τ unbound (once-fits p l f) (once-fits p l g) (same-fits sig p l n h f g);
   light = λ sig k p w. light-is-each sig p w;
   heavy = λ sig k p w. heavy-is-some sig p w;
+  wrong-range = λ sig k p w. wrong-is-some sig p w;
 }

@@ -10,5 +10,8 @@ pub mod Covering
 pub mod Laws
 pub mod ReadSteps
 pub mod Opened
+pub mod Walk
 pub mod StandsLaw
+pub mod RangedLaw
+pub mod Within
 pub mod Sides

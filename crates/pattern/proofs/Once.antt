@@ -16,8 +16,8 @@ use Rattle.signature.proofs.Members.{memb-append, all-memb}
 use Rattle.signature.proofs.Tests.{eqb-ne, true≢false, eqb-eq, eqb-self}
 use Rattle.pattern.specs.Limits.{variable-count, unbound-place}
 use Rattle.pattern.specs.Linear.{disjoint, linear-plus, E, same-set, linear-minus, O, all-plus, E-all, all-minus, O-all}
-use Rattle.pattern.specs.Match.{Binds, Fits, fits-var, fits-wild, fits-not, fits-and, fits-left, fits-right, fits-con, Fails, fails-absurd, fails-not, fails-or, fails-left, fails-right, fails-head, fails-arg, AllFit, all-nil, all-cons, SomeFails, some-here, some-there}
-use Rattle.pattern.specs.Pattern.{Pattern, var, wild, neg, and, or, head, absurd-pat, Patterns, pnil, pcons}
+use Rattle.pattern.specs.Match.{Binds, Fits, fits-var, fits-wild, fits-not, fits-and, fits-left, fits-right, fits-con, fits-range, Fails, fails-absurd, fails-not, fails-or, fails-left, fails-right, fails-head, fails-arg, fails-range, AllFit, all-nil, all-cons, SomeFails, some-here, some-there}
+use Rattle.pattern.specs.Pattern.{Pattern, var, wild, neg, and, or, head, absurd-pat, range, Patterns, pnil, pcons}
 use Rattle.pattern.specs.Places.{times, tick, Once, bind-all, binds, Same, PlacesOf, unbound}
 
 pub times-append : (x : ℕ) (σ τ : Binds) → times x (σ ++ τ) ≡ times x σ + times x τ
@@ -71,6 +71,7 @@ mutual
       let a : (linear-plus p && linear-plus q) ≡ true = and-left (linear-plus p && linear-plus q) (same-set (E p) (E q)) l in
       omega (arith, fit-once q (and-right (linear-plus p) (linear-plus q) a) f x, right-tick x (E p) (E q))
   fit-once (head c ps) l (fits-con e f) x = all-once ps l f x
+  fit-once (range low high) l (fits-range e) x = omega arith
 
   pub fail-once : (p : Pattern) {v : Value} {i : ℕ} {σ : Binds} → linear-minus p ≡ true → Fails p v i σ → (x : ℕ) → times x σ ≤ tick (memb x (O p))
   fail-once absurd-pat l fails-absurd x = omega arith
@@ -86,6 +87,7 @@ mutual
       omega (arith, fail-once q (and-right (linear-minus p) (linear-minus q) a) f x, right-tick x (O p) (O q))
   fail-once (head c ps) l (fails-head n) x = omega arith
   fail-once (head c ps) l (fails-arg e f) x = some-once ps l f x
+  fail-once (range low high) l (fails-range e) x = omega arith
 
   all-once : (ps : Patterns) {vs : Values} {i : ℕ} {σ : Binds} → all-plus ps ≡ true → AllFit ps vs i σ → (x : ℕ) → times x σ ≤ tick (memb x (E-all ps))
   all-once pnil l all-nil x = omega arith

@@ -1,18 +1,21 @@
 -- A pattern at the front of some words: its first word, and the patterns behind it.
 use mathlib.Core.Path.{_≡_, refl, sym, ap, _∙_}
 use mathlib.Core.List.{List, [], _∷_, _++_, append-assoc, append-nil}
+use mathlib.Core.Option.{some}
 use Prim.Native.Nat.{ℕ, suc, _+_, _-_, _≤_, _<_}
 use native.Mathlib.Omega.{arith}
 use lib.ListN.{length, drop, getD, length-append}
 use lib.Seq.{drop-at}
-use Rattle.signature.specs.Decoded.{Known}
-use Rattle.signature.specs.Signature.{Signature}
-use Rattle.signature.proofs.Heads.{constructor-of}
+use Rattle.signature.specs.Decoded.{Known, arity-of}
+use Rattle.signature.specs.Signature.{Signature, arguments-at}
+use Rattle.signature.proofs.Heads.{args-same}
+use Rattle.signature.proofs.KnownFacts.{arity-is, is-constructor}
 use Rattle.pattern.specs.Given.{Patterned, Opens}
-use Rattle.pattern.specs.Pattern.{Pattern, Patterns, pnil, pcons, head, and, or, wild, absurd-pat, neg, var, pattern-code, patterns-code}
-use Rattle.pattern.specs.Read.{Form, is-head, is-var, is-and, is-or, is-wild, is-absurd, is-not, form}
-use Rattle.pattern.specs.WellFormed.{WellFormed, AllWellFormed, well-head, well-and, well-or, well-not, well-wild, well-absurd, well-var, well-nil, well-cons}
-use Rattle.pattern.specs.Word.{part-count}
+use Rattle.pattern.specs.Limits.{range-word}
+use Rattle.pattern.specs.Pattern.{Pattern, Patterns, pnil, pcons, head, and, or, wild, absurd-pat, neg, var, range, pattern-code, patterns-code}
+use Rattle.pattern.specs.Read.{Form, is-head, is-var, is-and, is-or, is-wild, is-absurd, is-not, is-range, is-other, form}
+use Rattle.pattern.specs.WellFormed.{WellFormed, AllWellFormed, well-head, well-and, well-or, well-not, well-wild, well-absurd, well-var, well-range, well-nil, well-cons}
+use Rattle.pattern.specs.Word.{own-words, part-count}
 use Rattle.pattern.proofs.Forms.{form-head, form-var}
 use Rattle.pattern.proofs.PatternBack.{some-pattern-word, pattern-words}
 use Rattle.pattern.proofs.ReadSteps.{part, to-end}
@@ -26,8 +29,9 @@ shape wild = is-wild
 shape absurd-pat = is-absurd
 shape (neg p) = is-not
 shape (var x) = is-var x
+shape (range low high) = is-range
 
--- the patterns behind the first word
+-- the patterns behind the words of its own
 abbrev pub inner : Pattern → Patterns
 inner (head c ps) = ps
 inner (and p q) = pcons p (pcons q pnil)
@@ -36,6 +40,18 @@ inner wild = pnil
 inner absurd-pat = pnil
 inner (neg p) = pcons p pnil
 inner (var x) = pnil
+inner (range low high) = pnil
+
+-- the words of its own behind the first one
+abbrev pub own-rest : Pattern → List ℕ
+own-rest (head c ps) = []
+own-rest (and p q) = []
+own-rest (or p q) = []
+own-rest wild = []
+own-rest absurd-pat = []
+own-rest (neg p) = []
+own-rest (var x) = []
+own-rest (range low high) = low ∷ (high ∷ [])
 
 abbrev pub count : Patterns → ℕ
 count pnil = 0
@@ -50,7 +66,7 @@ pub record OpensAll (t ws : List ℕ) (n : ℕ) (ps : Patterns) : Type 0 where
   pub words : ws ≡ patterns-code ps ++ rest
   pub many : count ps ≡ n
 
-pub code-word : Pattern → ℕ
+unfoldable pub code-word : Pattern → ℕ
 code-word (head c ps) = c
 code-word (and p q) = 256
 code-word (or p q) = 257
@@ -58,8 +74,9 @@ code-word wild = 258
 code-word absurd-pat = 259
 code-word (neg p) = 260
 code-word (var x) = 261 + x
+code-word (range low high) = range-word
 
-pub code-split : (p : Pattern) → pattern-code p ≡ code-word p ∷ patterns-code (inner p)
+pub code-split : (p : Pattern) → pattern-code p ≡ code-word p ∷ (own-rest p ++ patterns-code (inner p))
 unfolding code-word
 code-split (head c ps) = refl
 code-split (and p q) = ap (λ z. 256 ∷ (pattern-code p ++ z)) (sym (append-nil (pattern-code q)))
@@ -68,9 +85,42 @@ code-split wild = refl
 code-split absurd-pat = refl
 code-split (neg p) = ap (λ z. 260 ∷ z) (sym (append-nil (pattern-code p)))
 code-split (var x) = refl
+code-split (range low high) = refl
 
-pub inner-length : (p : Pattern) → 1 + length (patterns-code (inner p)) ≡ length (pattern-code p)
-inner-length p = omega (arith, ap length (code-split p))
+-- how many words are its own
+pub some-own : (f : Form) → 1 ≤ own-words f
+some-own (is-head c) = omega arith
+some-own (is-var x) = omega arith
+some-own is-and = omega arith
+some-own is-or = omega arith
+some-own is-wild = omega arith
+some-own is-absurd = omega arith
+some-own is-not = omega arith
+some-own is-range = omega arith
+some-own is-other = omega arith
+
+pub behind-own : (p : Pattern) (w : ℕ) (us : List ℕ) → drop (own-words (shape p)) (w ∷ (own-rest p ++ us)) ≡ us
+behind-own (head c ps) w us = refl
+behind-own (and p q) w us = refl
+behind-own (or p q) w us = refl
+behind-own wild w us = refl
+behind-own absurd-pat w us = refl
+behind-own (neg p) w us = refl
+behind-own (var x) w us = refl
+behind-own (range low high) w us = refl
+
+pub own-length : (p : Pattern) → own-words (shape p) ≡ 1 + length (own-rest p)
+own-length (head c ps) = refl
+own-length (and p q) = refl
+own-length (or p q) = refl
+own-length wild = refl
+own-length absurd-pat = refl
+own-length (neg p) = refl
+own-length (var x) = refl
+own-length (range low high) = refl
+
+pub inner-length : (p : Pattern) → own-words (shape p) + length (patterns-code (inner p)) ≡ length (pattern-code p)
+inner-length p = omega (arith, own-length p, ap length (code-split p), length-append (own-rest p) (patterns-code (inner p)))
 
 module _ (sig : Signature) where
   pub word-form : {k : ℕ} {p : Pattern} → WellFormed sig k p → form (code-word p) ≡ shape p
@@ -81,6 +131,7 @@ module _ (sig : Signature) where
   word-form (well-not s) = refl
   word-form well-wild = refl
   word-form well-absurd = refl
+  word-form (well-range e) = refl
   word-form (well-var {x = x} l) = let back : 261 + x - 261 ≡ x = omega arith in form-var (261 + x) (omega arith) (omega arith) ∙ ap is-var back
 
   pub kind-count : {ks : List ℕ} {ps : Patterns} → AllWellFormed sig ks ps → count ps ≡ length ks
@@ -95,17 +146,21 @@ module _ (sig : Signature) where
   inner-well well-wild = ([], well-nil)
   inner-well well-absurd = ([], well-nil)
   inner-well (well-var l) = ([], well-nil)
+  inner-well (well-range e) = ([], well-nil)
+
+-- the arguments of a constructor of a pattern, by the table
+pub arity-there : {t : List ℕ} (g : Known t) (k c : ℕ) (ks : List ℕ) → c < 256 → arguments-at (g .sig) k c ≡ some ks → arity-of t c ≡ length ks
+arity-there g k c ks l e = arity-is g c (is-constructor g k c ks (omega arith) e) ∙ ap length (args-same (g .sig) k c ks e)
 
 pub inner-count : {t : List ℕ} (g : Known t) {k : ℕ} {p : Pattern} → WellFormed (g .sig) k p → count (inner p) ≡ part-count t (shape p)
-inner-count g (well-head {k = k} {c = c} {ks = ks} l e s) =
-    let (d, e₁, q, a) = constructor-of (g .sig) k c ks e in
-    kind-count (g .sig) s ∙ ap length (sym a) ∙ sym (g .decoded .arity c d e₁)
+inner-count g (well-head {k = k} {c = c} {ks = ks} l e s) = kind-count (g .sig) s ∙ sym (arity-there g k c ks l e)
 inner-count g (well-and s u) = refl
 inner-count g (well-or s u) = refl
 inner-count g (well-not s) = refl
 inner-count g well-wild = refl
 inner-count g well-absurd = refl
 inner-count g (well-var l) = refl
+inner-count g (well-range e) = refl
 
 module _ {t ws : List ℕ} (g : Opens t ws) where
   pub word-there : 0 < length ws
@@ -114,13 +169,16 @@ module _ {t ws : List ℕ} (g : Opens t ws) where
   pub fits-in : length (pattern-code (g .pattern)) ≤ length ws
   fits-in = omega (arith, ap length (g .words), length-append (pattern-code (g .pattern)) (g .rest))
 
-  split-words : ws ≡ code-word (g .pattern) ∷ (patterns-code (inner (g .pattern)) ++ g .rest)
-  split-words = g .words ∙ ap (λ z. z ++ g .rest) (code-split (g .pattern))
+  split-words : ws ≡ code-word (g .pattern) ∷ (own-rest (g .pattern) ++ (patterns-code (inner (g .pattern)) ++ g .rest))
+  split-words = g .words ∙ ap (λ z. z ++ g .rest) (code-split (g .pattern)) ∙ ap (λ z. code-word (g .pattern) ∷ z) (append-assoc (own-rest (g .pattern)) (patterns-code (inner (g .pattern))) (g .rest))
 
   pub shape-is : (f : Form) → f ≡ form (getD ws 0 0) → f ≡ shape (g .pattern)
   shape-is f e = e ∙ ap (λ z. form (getD z 0 0)) split-words ∙ word-form (g .known .sig) (g .well)
 
-  pub opened : (f : Form) → f ≡ form (getD ws 0 0) → OpensAll t (drop 1 ws) (part-count t f) (inner (g .pattern))
+  pub own-in : (f : Form) → f ≡ form (getD ws 0 0) → own-words f ≤ length ws
+  own-in f e = omega (arith, ap own-words (shape-is f e), inner-length (g .pattern), fits-in)
+
+  pub opened : (f : Form) → f ≡ form (getD ws 0 0) → OpensAll t (drop (own-words f) ws) (part-count t f) (inner (g .pattern))
   opened f e =
       let (ks, s) = inner-well (g .known .sig) (g .well) in
       record {
@@ -128,7 +186,7 @@ module _ {t ws : List ℕ} (g : Opens t ws) where
         kinds = ks;
         well = s;
         rest = g .rest;
-        words = ap (drop 1) split-words;
+        words = ap (λ n. drop (own-words n) ws) (shape-is f e) ∙ ap (drop (own-words (shape (g .pattern)))) split-words ∙ behind-own (g .pattern) (code-word (g .pattern)) (patterns-code (inner (g .pattern)) ++ g .rest);
         many = inner-count (g .known) (g .well) ∙ ap (part-count t) (sym (shape-is f e));
       }
 

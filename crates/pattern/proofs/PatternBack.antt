@@ -1,21 +1,22 @@
 -- Patterns are read back from their words, and what was read was there.
 use mathlib.Core.Path.{_≡_, refl, subst, sym, _∙_, ap}
 use mathlib.Core.List.{List, _++_, append-assoc, [], _∷_, append-nil}
-use mathlib.Core.Option.{some}
+use mathlib.Core.Option.{some, none}
+use mathlib.Core.Bool.{Bool, true, false, cond}
 use Prim.Native.Nat.{_≤_, ℕ, _<_, _+_, _-_, zero, suc}
 use native.Mathlib.Decide.{decLe, ℕ-discrete}
 use native.Mathlib.Omega.{arith}
 use lib.Dec.{leb, leb→le}
 use lib.ListN.{length, length-append}
 use Rattle.signature.specs.Lists.{require}
-use Rattle.signature.specs.Signature.{Signature, arguments-at}
+use Rattle.signature.specs.Signature.{Signature, arguments-at, is-number-kind}
 use Rattle.signature.proofs.Tests.{ltb-no, eqb-no, leb-yes, some-inj, bind-some, none≢some, T-of, require-some}
 use Rattle.signature.proofs.Values.{whole-some}
-use Rattle.pattern.specs.Limits.{pattern-limit, variable-count, last-variable}
-use Rattle.pattern.specs.Pattern.{Pattern, pattern-code, head, and, or, wild, absurd-pat, neg, var, pattern-depth, Patterns, patterns-depth, patterns-code, pnil, pcons}
-use Rattle.pattern.specs.Read.{form, is-var, read-one, read-each, Form, is-head, is-and, is-or, is-wild, is-absurd, is-not, is-other, read-by-form, read-pattern}
-use Rattle.pattern.specs.WellFormed.{WellFormed, well-head, well-and, well-or, well-not, well-wild, well-absurd, well-var, AllWellFormed, well-nil, well-cons, PatternWords}
-use Rattle.pattern.proofs.Forms.{form-head, form-var, form-other, form-not, form-absurd, form-wild, form-or, form-and}
+use Rattle.pattern.specs.Limits.{pattern-limit, variable-count, last-variable, range-word}
+use Rattle.pattern.specs.Pattern.{Pattern, pattern-code, head, and, or, wild, absurd-pat, neg, var, range, pattern-depth, Patterns, patterns-depth, patterns-code, pnil, pcons}
+use Rattle.pattern.specs.Read.{form, is-var, read-one, read-each, Form, is-head, is-and, is-or, is-wild, is-absurd, is-not, is-range, is-other, read-by-form, read-range, read-pattern}
+use Rattle.pattern.specs.WellFormed.{WellFormed, well-head, well-and, well-or, well-not, well-wild, well-absurd, well-var, well-range, AllWellFormed, well-nil, well-cons, PatternWords}
+use Rattle.pattern.proofs.Forms.{form-head, form-var, form-range, form-other, form-not, form-absurd, form-wild, form-or, form-and}
 
 pub some-pattern-word : (p : Pattern) → 1 ≤ length (pattern-code p)
 some-pattern-word (head c ps) = omega arith
@@ -25,6 +26,7 @@ some-pattern-word wild = omega arith
 some-pattern-word absurd-pat = omega arith
 some-pattern-word (neg p) = omega arith
 some-pattern-word (var x) = omega arith
+some-pattern-word (range low high) = omega arith
 
 form-variable : (x : ℕ) → x < variable-count → form (261 + x) ≡ is-var x
 form-variable x l =
@@ -41,6 +43,7 @@ module _ (sig : Signature) where
     pattern-read well-wild zero rest l = absurd (omega arith)
     pattern-read well-absurd zero rest l = absurd (omega arith)
     pattern-read (well-var lx) zero rest l = absurd (omega arith)
+    pattern-read (well-range e) zero rest l = absurd (omega arith)
     pattern-read (well-head {c = c} lc e s) (suc d) rest l = rw (form-head c lc, e, patterns-read s d rest (omega arith))
     pattern-read (well-and {p = p} {q = q} s t) (suc d) rest l = rw (append-assoc (pattern-code p) (pattern-code q) rest, pattern-read s d (pattern-code q ++ rest) (omega arith), pattern-read t d rest (omega arith))
     pattern-read (well-or {p = p} {q = q} s t) (suc d) rest l = rw (append-assoc (pattern-code p) (pattern-code q) rest, pattern-read s d (pattern-code q ++ rest) (omega arith), pattern-read t d rest (omega arith))
@@ -48,6 +51,7 @@ module _ (sig : Signature) where
     pattern-read well-wild (suc d) rest l = refl
     pattern-read well-absurd (suc d) rest l = refl
     pattern-read (well-var {x = x} lx) (suc d) rest l = rw (form-variable x lx)
+    pattern-read (well-range e) (suc d) rest l = rw e
 
     pub patterns-read : {ks : List ℕ} {ps : Patterns} → AllWellFormed sig ks ps → (d : ℕ) (rest : List ℕ) → patterns-depth ps ≤ d → read-each (λ j us. read-one sig d j us) ks (patterns-code ps ++ rest) ≡ some (ps, rest)
     patterns-read well-nil d rest l = refl
@@ -62,14 +66,19 @@ pub data Formed (w : ℕ) : Form → Type 0 where
   formed-absurd : w ≡ 259 → Formed w is-absurd
   formed-not : w ≡ 260 → Formed w is-not
   formed-var : (x : ℕ) → w ≡ 261 + x → x < variable-count → Formed w (is-var x)
+  formed-range : w ≡ range-word → Formed w is-range
   formed-other : Formed w is-other
 
 pub formed : (w : ℕ) → Formed w (form w)
 formed w = go₁ (decLe (suc w) 256)
   where
+    go₈ : Dec (w ≡ range-word) → 261 + variable-count ≤ w → Formed w (form w)
+    go₈ (yes h) l = subst (Formed w) (sym (form-range w h)) (formed-range h)
+    go₈ (no h) l = rw (form-other w l h) formed-other
+
     go₇ : Dec (w ≤ (261 + last-variable)) → 261 ≤ w → Formed w (form w)
     go₇ (yes h) l = rw (form-var w l h) (formed-var (w - 261) (omega arith) (omega arith))
-    go₇ (no h) l = rw (form-other w (omega arith)) formed-other
+    go₇ (no h) l = go₈ (ℕ-discrete w range-word) (omega arith)
 
     go₆ : Dec (w ≡ 260) → 260 ≤ w → Formed w (form w)
     go₆ (yes h) l = subst (Formed w) (sym (form-not w h)) (formed-not h)
@@ -115,6 +124,15 @@ module _ (sig : Signature) where
       let (p′, q′, h′) = patterns-were d one ks (a .1) b e₂ in
       subst (WasPats d (k ∷ ks) ws) (some-inj (pcons (a .0) (b .0), b .1) r f₂) (well-cons p p′, omega arith, append-assoc (pattern-code (a .0)) (patterns-code (b .0)) (b .1) ∙ ap (λ x. pattern-code (a .0) ++ x) h′ ∙ h)
 
+  range-was : (d k w : ℕ) (ws : List ℕ) (r : Pattern × List ℕ) → w ≡ range-word → read-range (is-number-kind sig k) ws ≡ some r → WasPat (suc d) k (w ∷ ws) r
+  range-was d k w [] r l e = none≢some e
+  range-was d k w (low ∷ []) r l e = none≢some e
+  range-was d k w (low ∷ (high ∷ ws)) r l e = go (is-number-kind sig k) refl e
+    where
+      go : (b : Bool) → is-number-kind sig k ≡ b → cond b (some (range low high, ws)) none ≡ some r → WasPat (suc d) k (w ∷ (low ∷ (high ∷ ws))) r
+      go true q f = subst (WasPat (suc d) k (w ∷ (low ∷ (high ∷ ws)))) (some-inj (range low high, ws) r f) (well-range q, omega arith, rw l)
+      go false q f = none≢some f
+
   part-was : (d : ℕ) → Ones d → (k w : ℕ) (ws : List ℕ) (r : Pattern × List ℕ) (f : Form) → Formed w f → read-by-form sig (λ j us. read-one sig d j us) f k ws ≡ some r → WasPat (suc d) k (w ∷ ws) r
   part-was d one k w ws r f (formed-head l) e =
       let (ks, e₁, f₁) = bind-some (arguments-at sig k w) _ r e in
@@ -140,6 +158,7 @@ module _ (sig : Signature) where
       let (p, q, h) = one k ws a e₁ in
       subst (WasPat (suc d) k (w ∷ ws)) (some-inj (neg (a .0), a .1) r f₁) (well-not p, omega arith, rw l (ap (λ x. 260 ∷ x) h))
   part-was d one k w ws r f (formed-var x l m) e = subst (WasPat (suc d) k (w ∷ ws)) (some-inj (var x, ws) r e) (well-var m, omega arith, ap (λ y. y ∷ ws) (sym l))
+  part-was d one k w ws r f (formed-range l) e = range-was d k w ws r l e
   part-was d one k w ws r f formed-other e = none≢some e
 
   pub pattern-was : (d : ℕ) → Ones d
@@ -156,6 +175,7 @@ mutual
   pdepth-length absurd-pat = omega arith
   pdepth-length (neg p) = omega (arith, pdepth-length p)
   pdepth-length (var x) = omega arith
+  pdepth-length (range low high) = omega arith
 
   pdepths-length : (ps : Patterns) → patterns-depth ps ≤ length (patterns-code ps)
   pdepths-length pnil = omega arith

@@ -7,7 +7,7 @@ use lib.ListN.{length, drop, take, length-drop}
 use lib.Seq.{take-all}
 use Rattle.pattern.specs.Read.{Form, form}
 use Rattle.pattern.specs.Word.{head-small, var-small}
-use Rattle.pattern.proofs.PatternBack.{Formed, formed, formed-head, formed-and, formed-or, formed-wild, formed-absurd, formed-not, formed-var, formed-other}
+use Rattle.pattern.proofs.PatternBack.{Formed, formed, formed-head, formed-and, formed-or, formed-wild, formed-absurd, formed-not, formed-var, formed-range, formed-other}
 
 small-of : (w : ℕ) (f : Form) → Formed w f → head-small f
 small-of w f (formed-head l) = l
@@ -17,6 +17,7 @@ small-of w f (formed-wild e) = tt
 small-of w f (formed-absurd e) = tt
 small-of w f (formed-not e) = tt
 small-of w f (formed-var x e l) = tt
+small-of w f (formed-range e) = tt
 small-of w f formed-other = tt
 
 -- the form of a word names a constructor that a table has a row for
@@ -32,6 +33,7 @@ variable-of w f (formed-wild e) = tt
 variable-of w f (formed-absurd e) = tt
 variable-of w f (formed-not e) = tt
 variable-of w f (formed-var x e l) = l
+variable-of w f (formed-range e) = tt
 variable-of w f formed-other = tt
 
 pub variable-small : (w : ℕ) (f : Form) → f ≡ form w → var-small f

@@ -11,7 +11,7 @@ use Rattle.signature.specs.Signature.{Signature, arguments-at}
 use Rattle.signature.proofs.Booleans.{and-left, and-right}
 use Rattle.signature.proofs.Tests.{le-of, lt-of-not, leb-yes, true≢false}
 use Rattle.pattern.specs.Limits.{part-weight-limit}
-use Rattle.pattern.specs.Pattern.{Pattern, Patterns, pnil, pcons, head, and, or, wild, absurd-pat, neg, var}
+use Rattle.pattern.specs.Pattern.{Pattern, Patterns, pnil, pcons, head, and, or, wild, absurd-pat, neg, var, range}
 use Rattle.pattern.specs.Side.{Side, TooHeavy, plus, minus, other, weight-at, light-at, Stands, StandsIn, itself, in-not, in-and-left, in-and-right, in-or-left, in-or-right, in-head, in-first, in-rest}
 use Rattle.pattern.proofs.Sides.{light-all}
 use Rattle.pattern.specs.Weight.{light-plus}
@@ -52,6 +52,11 @@ light-weight s absurd-pat e = leaf s
     leaf : (r : Side) → weight-at r absurd-pat ≤ part-weight-limit
     leaf plus = omega arith
     leaf minus = omega arith
+light-weight s (range low high) e = leaf s
+  where
+    leaf : (r : Side) → weight-at r (range low high) ≤ part-weight-limit
+    leaf plus = omega arith
+    leaf minus = omega arith
 light-weight plus (neg p) e = light-weight minus p e
 light-weight minus (neg p) e = light-weight plus p e
 light-weight plus (and p q) e = le-of (weight-at plus (and p q)) part-weight-limit (first-of (fits plus (and p q)) (light-at plus p) (light-at plus q) e)
@@ -62,7 +67,7 @@ light-weight plus (head c ps) e = le-of (weight-at plus (head c ps)) part-weight
 light-weight minus (head c ps) e = le-of (weight-at minus (head c ps)) part-weight-limit (and-left (fits minus (head c ps)) (light-all minus ps) e)
 
 -- which of them is false
-either : {A : Type 0} (a b : Bool) → (a && b) ≡ false → (a ≡ false → A) → (b ≡ false → A) → A
+pub either : {A : Type 0} (a b : Bool) → (a && b) ≡ false → (a ≡ false → A) → (b ≡ false → A) → A
 either true b e f g = g e
 either false b e f g = f refl
 
@@ -125,6 +130,8 @@ module _ (sig : Signature) where
     find-heavy wild minus w e = true≢false e
     find-heavy absurd-pat plus w e = true≢false e
     find-heavy absurd-pat minus w e = true≢false e
+    find-heavy (range low high) plus w e = true≢false e
+    find-heavy (range low high) minus w e = true≢false e
     find-heavy (neg p) plus (well-not w) e = heavy-not (find-heavy p minus w e)
     find-heavy (neg p) minus (well-not w) e = heavy-not (find-heavy p plus w e)
     find-heavy (and p q) plus {k} (well-and v w) e = either (fits plus (and p q) && light-at plus p) (light-at plus q) e (λ f. either (fits plus (and p q)) (light-at plus p) f (heavy-itself plus k (and p q)) (λ a. heavy-left q (find-heavy p plus v a) .0)) (λ a. heavy-right p (find-heavy q plus w a) .0)

@@ -15,8 +15,8 @@ use Rattle.signature.proofs.Tests.{true≢false, eqb-no}
 use Rattle.pattern.specs.Ambiguous.{an-or, an-and}
 use Rattle.pattern.specs.Limits.{variable-count}
 use Rattle.pattern.specs.Linear.{E, O, E-all, O-all, all-minus, linear-minus, linear-plus, all-plus}
-use Rattle.pattern.specs.Match.{Binds, Fits, fits-var, fits-wild, fits-not, fits-and, fits-left, fits-right, fits-con, Fails, fails-absurd, fails-not, fails-left, fails-right, fails-or, fails-head, fails-arg, AllFit, all-nil, all-cons, SomeFails, some-here, some-there}
-use Rattle.pattern.specs.Pattern.{Pattern, var, wild, neg, and, or, head, absurd-pat, Patterns, pnil, pcons}
+use Rattle.pattern.specs.Match.{Binds, Fits, fits-var, fits-wild, fits-not, fits-and, fits-left, fits-right, fits-con, fits-range, Fails, fails-absurd, fails-not, fails-left, fails-right, fails-or, fails-head, fails-arg, fails-range, AllFit, all-nil, all-cons, SomeFails, some-here, some-there}
+use Rattle.pattern.specs.Pattern.{Pattern, var, wild, neg, and, or, head, absurd-pat, range, Patterns, pnil, pcons}
 use Rattle.pattern.specs.Places.{binds, Same}
 use Rattle.pattern.specs.WellFormed.{WellFormed, well-var, well-not, well-and, well-or, well-head, AllWellFormed, well-cons}
 use Rattle.pattern.specs.Side.{plus, minus}
@@ -39,6 +39,7 @@ mutual
   fit-in-E (or p q) (fits-left {σ = σ} f) x j = imp-append-left (binds x j σ) x (E p) (E q) (fit-in-E p f x j)
   fit-in-E (or p q) (fits-right {σ = σ} f) x j = imp-append-right (binds x j σ) x (E p) (E q) (fit-in-E q f x j)
   fit-in-E (head c ps) (fits-con e f) x j = all-in-E ps f x j
+  fit-in-E (range low high) (fits-range a) x j = λ e. e
 
   pub fail-in-O : (p : Pattern) {v : Value} {i : ℕ} {σ : Binds} → Fails p v i σ → (x j : ℕ) → Imp (binds x j σ) (memb x (O p))
   fail-in-O absurd-pat fails-absurd x j = λ e. e
@@ -48,6 +49,7 @@ mutual
   fail-in-O (or p q) (fails-or {σ = σ} {τ = τ} f g) x j = join x j σ τ (O p) (O q) (fail-in-O p f x j) (fail-in-O q g x j)
   fail-in-O (head c ps) (fails-head n) x j = λ e. true≢false (sym e)
   fail-in-O (head c ps) (fails-arg e f) x j = some-in-O ps f x j
+  fail-in-O (range low high) (fails-range a) x j = λ e. e
 
   all-in-E : (ps : Patterns) {vs : Values} {i : ℕ} {σ : Binds} → AllFit ps vs i σ → (x j : ℕ) → Imp (binds x j σ) (memb x (E-all ps))
   all-in-E pnil all-nil x j = λ e. e
@@ -99,6 +101,7 @@ module _ (sig : Signature) where
     same-fits (or p q) l n h (fits-left f) (fits-right g) = clash-or sig p q n h f g
     same-fits (or p q) l n h (fits-right f) (fits-left g) = λ x j. sym (clash-or sig p q n h g f x j)
     same-fits {k} (head c ps) l n (of-kind e h) (fits-con a f) (fits-con b g) = same-all ps l (λ z. n (under-head (rw a e) z)) h f g
+    same-fits (range low high) l n h (fits-range a) (fits-range b) = λ x j. refl
 
     pub same-fails : {k : ℕ} (p : Pattern) {v : Value} {i : ℕ} {σ τ : Binds} → linear-minus p ≡ true → (AmbiguousAt sig minus k p → ⊥) → OfKind sig k v → Fails p v i σ → Fails p v i τ → Same σ τ
     same-fails absurd-pat l n h fails-absurd fails-absurd = λ x j. refl
@@ -114,6 +117,7 @@ module _ (sig : Signature) where
     same-fails (head c ps) l n h (fails-head a) (fails-arg b g) = absurd (a b)
     same-fails (head c ps) l n h (fails-arg a f) (fails-head b) = absurd (b a)
     same-fails (head c ps) l n h (fails-arg {σ = σ} a f) (fails-arg {σ = τ} b g) = λ x j. not-bound-in x (O-all ps) (binds x j σ) (minus-empty ps l) (some-in-O ps f x j) ∙ sym (not-bound-in x (O-all ps) (binds x j τ) (minus-empty ps l) (some-in-O ps g x j))
+    same-fails (range low high) l n h (fails-range a) (fails-range b) = λ x j. refl
 
     same-all : {ks : List ℕ} (ps : Patterns) {vs : Values} {i : ℕ} {σ τ : Binds} → all-plus ps ≡ true → (AmbiguousIn sig plus ks ps → ⊥) → OfKinds sig ks vs → AllFit ps vs i σ → AllFit ps vs i τ → Same σ τ
     same-all pnil l n h all-nil all-nil = λ x j. refl
@@ -131,6 +135,7 @@ module _ (sig : Signature) where
     no-E (and p q) (well-and s t) x m = no-either x (E p) (E q) (no-E p s x m) (no-E q t x m)
     no-E (or p q) (well-or s t) x m = no-either x (E p) (E q) (no-E p s x m) (no-E q t x m)
     no-E (head c ps) (well-head l e s) x m = no-E-all ps s x m
+    no-E (range low high) s x m = refl
 
     no-O : (p : Pattern) {k : ℕ} → WellFormed sig k p → (x : ℕ) → variable-count ≤ x → memb x (O p) ≡ false
     no-O (var y) s x m = refl
@@ -140,6 +145,7 @@ module _ (sig : Signature) where
     no-O (and p q) (well-and s t) x m = no-either x (O p) (O q) (no-O p s x m) (no-O q t x m)
     no-O (or p q) (well-or s t) x m = no-either x (O p) (O q) (no-O p s x m) (no-O q t x m)
     no-O (head c ps) (well-head l e s) x m = no-O-all ps s x m
+    no-O (range low high) s x m = refl
 
     no-E-all : (ps : Patterns) {ks : List ℕ} → AllWellFormed sig ks ps → (x : ℕ) → variable-count ≤ x → memb x (E-all ps) ≡ false
     no-E-all pnil s x m = refl

@@ -1,17 +1,18 @@
--- What Case T and "Where a reader of the paper slips" say of patterns. The function `cases` promises them.
+-- What Case T and "Where a reader of the paper slips" say of patterns, and ranges. The function `cases` promises them.
 use mathlib.Core.Path.{_≡_}
 use mathlib.Core.List.{List, [], _∷_}
 use mathlib.Core.Option.{none, some}
 use mathlib.Core.Bool.{true, false}
 use Prim.Native.Nat.{ℕ, zero, suc}
-use Rattle.signature.specs.Cases.{T}
+use Rattle.signature.specs.Cases.{T, L}
 use Rattle.signature.specs.Lists.{is-some}
-use Rattle.signature.specs.Value.{Value}
-use Rattle.pattern.specs.Linear.{linear-plus}
-use Rattle.pattern.specs.Match.{Binds, Fits}
-use Rattle.pattern.specs.Pattern.{Pattern, head, and, or, wild, absurd-pat, neg, var, pnil, pcons}
+use Rattle.signature.specs.Value.{Value, con, vnil}
+use Rattle.pattern.specs.Linear.{linear-plus, linear-minus}
+use Rattle.pattern.specs.Match.{Binds, Fits, Fails}
+use Rattle.pattern.specs.Pattern.{Pattern, head, and, or, wild, absurd-pat, neg, var, range, pnil, pcons}
+use Rattle.pattern.specs.Ranged.{ranged}
 use Rattle.pattern.specs.Read.{read-pattern}
-use Rattle.pattern.specs.Weight.{weight-plus, light-plus}
+use Rattle.pattern.specs.Weight.{weight-plus, weight-minus, light-plus}
 
 -- an "or" of suc n wildcards
 abbrev pub ors : ℕ → Pattern
@@ -57,3 +58,28 @@ pub record Cases : Type 0 where
   pub heavy-65 : light-plus (and (ors 4) (ors 12)) ≡ false
   pub hidden-weight : weight-plus (and absurd-pat (and (ors 7) (ors 8))) ≡ 0
   pub hidden-heavy : light-plus (and absurd-pat (and (ors 7) (ors 8))) ≡ false
+  -- 02, job 1: ranges under the signature L; malformed: cut short, at another kind, a level as a word of a pattern, the constructor number of a number kind
+  pub read-range : read-pattern L (0 ∷ 258 ∷ 280 ∷ 20 ∷ 80 ∷ []) ≡ some (head 0 (pcons wild (pcons (range 20 80) pnil)))
+  pub read-not-range : read-pattern L (0 ∷ 258 ∷ 260 ∷ 280 ∷ 20 ∷ 80 ∷ []) ≡ some (head 0 (pcons wild (pcons (neg (range 20 80)) pnil)))
+  pub range-short : read-pattern L (0 ∷ 258 ∷ 280 ∷ 5 ∷ []) ≡ none
+  pub range-elsewhere : read-pattern L (0 ∷ 280 ∷ 20 ∷ 80 ∷ 258 ∷ []) ≡ none
+  pub first-level : read-pattern L (0 ∷ 258 ∷ 1000 ∷ []) ≡ none
+  pub last-level : read-pattern L (0 ∷ 258 ∷ 1100 ∷ []) ≡ none
+  pub number-row : read-pattern L (0 ∷ 258 ∷ 3 ∷ []) ≡ none
+  -- its ends are never read as words of a pattern: 280 258 258 is no 7, but 18, like a low above its high and a high above 100
+  pub any-ends : read-pattern L (0 ∷ 258 ∷ 280 ∷ 258 ∷ 258 ∷ []) ≡ some (head 0 (pcons wild (pcons (range 258 258) pnil)))
+  pub ends-258 : ranged (range 258 258) ≡ false
+  pub ends-falling : ranged (neg (range 6 5)) ≡ false
+  pub ends-101 : ranged (and absurd-pat (range 0 101)) ≡ false
+  pub ends-all : ranged (range 0 100) ≡ true
+  -- "both included", "binds nothing"
+  pub at-low : (i : ℕ) → Fits (range 20 80) (con 1020 vnil) i []
+  pub at-high : (i : ℕ) → Fits (range 20 80) (con 1080 vnil) i []
+  pub below-low : (i : ℕ) → Fails (range 20 80) (con 1019 vnil) i []
+  pub above-high : (i : ℕ) → Fails (range 20 80) (con 1081 vnil) i []
+  pub range-binds : (v : Value) (i : ℕ) (σ : Binds) → Fits (range 20 80) v i σ → σ ≡ []
+  -- "a range weighs 1/1", "linear both ways"
+  pub range-weight : weight-plus (range 0 100) ≡ 1
+  pub range-weight-minus : weight-minus (range 0 100) ≡ 1
+  pub range-linear : linear-plus (range 20 80) ≡ true
+  pub range-linear-minus : linear-minus (range 20 80) ≡ true

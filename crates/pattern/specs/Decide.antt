@@ -5,7 +5,8 @@ use Prim.Native.Nat.{ℕ, suc, _+_}
 use lib.Dec.{eqb}
 use Rattle.signature.specs.Value.{Value, con, Values, vnil, vcons, size}
 use Rattle.pattern.specs.Match.{Binds}
-use Rattle.pattern.specs.Pattern.{Pattern, var, wild, absurd-pat, neg, and, or, head, Patterns, pnil, pcons}
+use Rattle.pattern.specs.Range.{within}
+use Rattle.pattern.specs.Pattern.{Pattern, var, wild, absurd-pat, neg, and, or, head, range, Patterns, pnil, pcons}
 
 -- fits, or fails, with these bindings
 pub data Out : Type 0 where
@@ -32,6 +33,7 @@ abbrev mutual
   decide (and p q) v i = both (decide p v i) (decide q v i)
   decide (or p q) v i = swap (both (swap (decide p v i)) (swap (decide q v i)))
   decide (head c ps) (con d vs) i = cond (eqb c d) (decides ps vs (suc i)) (fail [])
+  decide (range low high) (con d vs) i = cond (within low high d) (fit []) (fail [])
 
   pub decides : Patterns → Values → ℕ → Out
   decides pnil vs i = fit []

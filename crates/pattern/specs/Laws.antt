@@ -17,7 +17,8 @@ use Rattle.pattern.specs.Match.{Binds, Fits, Fails}
 use Rattle.pattern.specs.Pattern.{Pattern, pattern-code, pattern-depth}
 use Rattle.pattern.specs.Places.{Same, PlacesOf, bind-all, unbound, times, tick}
 use Rattle.pattern.specs.Read.{read-one, read-pattern}
-use Rattle.pattern.specs.Side.{Side, plus, Stands, TooHeavy, weight-at}
+use Rattle.pattern.specs.Ranged.{ranged}
+use Rattle.pattern.specs.Side.{Side, plus, Stands, TooHeavy, WrongRange, weight-at}
 use Rattle.pattern.specs.Weight.{light-plus}
 use Rattle.pattern.specs.WellFormed.{WellFormed, PatternWords}
 
@@ -45,3 +46,5 @@ pub record Laws : Type 0 where
   -- 9: "Each part, at the side on which it stands, weighs at most 64", and some part does not
   pub light : (sig : Signature) (k : ℕ) (p : Pattern) → WellFormed sig k p → ((light-plus p ≡ true) ↔ ((r : Side) (j : ℕ) (q : Pattern) → Stands sig plus k p r j q → weight-at r q ≤ part-weight-limit))
   pub heavy : (sig : Signature) (k : ℕ) (p : Pattern) → WellFormed sig k p → ((light-plus p ≡ false) ↔ TooHeavy sig k p)
+  -- 18: some range is wrong
+  pub wrong-range : (sig : Signature) (k : ℕ) (p : Pattern) → WellFormed sig k p → ((ranged p ≡ false) ↔ WrongRange sig k p)

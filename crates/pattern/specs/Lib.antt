@@ -1,14 +1,16 @@
--- Patterns. Read: Limits, Pattern, WellFormed, Read, Match, Takes, Places, Linear, Weight, Side, Ambiguous, Decide, Laws, Cases. Linearity, Word and Given are the code's terms.
+-- Patterns. Read: Limits, Pattern, WellFormed, Read, Range, Match, Takes, Places, Linear, Weight, Side, Ranged, Ambiguous, Decide, Laws, Cases. Linearity, Word and Given are the code's terms.
 pub mod Limits
 pub mod Pattern
 pub mod WellFormed
 pub mod Read
+pub mod Range
 pub mod Match
 pub mod Takes
 pub mod Places
 pub mod Linear
 pub mod Weight
 pub mod Side
+pub mod Ranged
 pub mod Ambiguous
 pub mod Decide
 pub mod Laws

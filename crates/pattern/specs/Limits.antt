@@ -17,6 +17,10 @@ variable-count = suc last-variable
 abbrev pub unbound-place : ℕ
 unbound-place = 65535
 
+-- 02, job 1: "A pattern there may be 280, low, high"
+abbrev pub range-word : ℕ
+range-word = 280
+
 -- "Each part, at the side on which it stands, weighs at most 64"
 abbrev pub part-weight-limit : ℕ
 part-weight-limit = 64

@@ -4,7 +4,7 @@ use mathlib.Core.Bool.{Bool, true, false}
 use Prim.Native.Nat.{ℕ}
 use Rattle.pattern.specs.Linear.{E, O}
 use Rattle.pattern.specs.Pattern.{Pattern}
-use Rattle.pattern.specs.Read.{Form, is-head, is-var, is-and, is-or, is-wild, is-absurd, is-not, is-other}
+use Rattle.pattern.specs.Read.{Form, is-head, is-var, is-and, is-or, is-wild, is-absurd, is-not, is-range, is-other}
 use Rattle.pattern.specs.Side.{Side, plus, minus, other}
 
 abbrev pub side-of : Bool → Side
@@ -24,4 +24,5 @@ behind is-or s = s
 behind is-wild s = s
 behind is-absurd s = s
 behind is-not s = other s
+behind is-range s = s
 behind is-other s = s

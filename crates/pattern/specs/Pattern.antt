@@ -1,8 +1,9 @@
 -- 01, Patterns: patterns as trees, and their words.
 use mathlib.Core.List.{List, _∷_, _++_, []}
 use Prim.Native.Nat.{ℕ, _+_, suc, max}
+use Rattle.pattern.specs.Limits.{range-word}
 
--- a head with a pattern for each argument; and; or; wildcard; absurd; not; variable
+-- a head with a pattern for each argument; and; or; wildcard; absurd; not; variable; a range of levels, low and high
 mutual
   pub data Pattern : Type 0 where
     head : ℕ → Patterns → Pattern
@@ -12,12 +13,13 @@ mutual
     absurd-pat : Pattern
     neg : Pattern → Pattern
     var : ℕ → Pattern
+    range : ℕ → ℕ → Pattern
 
   pub data Patterns : Type 0 where
     pnil : Patterns
     pcons : Pattern → Patterns → Patterns
 
--- "0 to 255: that constructor and a pattern for each argument. 256: and, two patterns. 257: or, two. 258: wildcard. 259: absurd. 260: not, one. 261 to 276: variable 0 to 15."
+-- "0 to 255: that constructor and a pattern for each argument. 256: and, two patterns. 257: or, two. 258: wildcard. 259: absurd. 260: not, one. 261 to 276: variable 0 to 15."; 02, job 1: "280, low, high"
 abbrev mutual
   pub pattern-code : Pattern → List ℕ
   pattern-code (head c ps) = c ∷ patterns-code ps
@@ -27,6 +29,7 @@ abbrev mutual
   pattern-code absurd-pat = 259 ∷ []
   pattern-code (neg p) = 260 ∷ pattern-code p
   pattern-code (var x) = (261 + x) ∷ []
+  pattern-code (range low high) = range-word ∷ (low ∷ (high ∷ []))
 
   pub patterns-code : Patterns → List ℕ
   patterns-code pnil = []
@@ -42,6 +45,7 @@ abbrev mutual
   pattern-depth absurd-pat = 1
   pattern-depth (neg p) = suc (pattern-depth p)
   pattern-depth (var x) = 1
+  pattern-depth (range low high) = 1
 
   pub patterns-depth : Patterns → ℕ
   patterns-depth pnil = 0

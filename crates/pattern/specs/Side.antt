@@ -3,10 +3,12 @@ use mathlib.Core.Path.{_≡_}
 use mathlib.Core.List.{List, _∷_}
 use mathlib.Core.Option.{some}
 use mathlib.Core.Bool.{Bool}
+use mathlib.Core.Logic.{_⊎_}
 use Prim.Native.Nat.{ℕ, _<_}
+use Rattle.signature.specs.Limits.{last-level}
 use Rattle.signature.specs.Signature.{arguments-at, Signature}
 use Rattle.pattern.specs.Limits.{part-weight-limit}
-use Rattle.pattern.specs.Pattern.{Pattern, Patterns, head, and, or, neg, pcons}
+use Rattle.pattern.specs.Pattern.{Pattern, Patterns, head, and, or, neg, range, pcons}
 use Rattle.pattern.specs.Weight.{weight-plus, weight-minus, light-plus, light-minus}
 
 pub data Side : Type 0 where
@@ -44,3 +46,7 @@ module _ (sig : Signature) where
   -- 9: "Some part weighs over 64", at the side on which it stands
   abbrev pub TooHeavy : ℕ → Pattern → Type 0
   TooHeavy k p = (r : Side) × (j : ℕ) × (q : Pattern) × Stands plus k p r j q × (part-weight-limit < weight-at r q)
+
+  -- 18: "a range whose low exceeds its high or whose high exceeds 100"
+  abbrev pub WrongRange : ℕ → Pattern → Type 0
+  WrongRange k p = (r : Side) × (j low high : ℕ) × Stands plus k p r j (range low high) × ((high < low) ⊎ (last-level < high))

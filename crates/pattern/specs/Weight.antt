@@ -6,10 +6,10 @@ use Prim.Native.Nat.{ℕ, _*_, _+_, suc}
 use lib.Dec.{leb}
 use Rattle.signature.specs.Signature.{Signature}
 use Rattle.pattern.specs.Limits.{part-weight-limit}
-use Rattle.pattern.specs.Pattern.{Pattern, var, wild, absurd-pat, neg, and, or, head, Patterns, pnil, pcons}
+use Rattle.pattern.specs.Pattern.{Pattern, var, wild, absurd-pat, neg, and, or, head, range, Patterns, pnil, pcons}
 use Rattle.pattern.specs.Read.{read-pattern}
 
--- "Plus/minus: variable and wildcard 1/0, absurd 0/1; not swaps; "and" product/sum; "or" sum/product; constructor product (1 without arguments) / 1 + sum of the minus sides."
+-- "Plus/minus: variable and wildcard 1/0, absurd 0/1; not swaps; "and" product/sum; "or" sum/product; constructor product (1 without arguments) / 1 + sum of the minus sides."; 02, job 1: "a range weighs 1/1"
 abbrev mutual
   pub weight-plus : Pattern → ℕ
   weight-plus (var x) = 1
@@ -19,6 +19,7 @@ abbrev mutual
   weight-plus (and p q) = weight-plus p * weight-plus q
   weight-plus (or p q) = weight-plus p + weight-plus q
   weight-plus (head c ps) = product-plus ps
+  weight-plus (range low high) = 1
 
   pub weight-minus : Pattern → ℕ
   weight-minus (var x) = 0
@@ -28,6 +29,7 @@ abbrev mutual
   weight-minus (and p q) = weight-minus p + weight-minus q
   weight-minus (or p q) = weight-minus p * weight-minus q
   weight-minus (head c ps) = suc (sum-minus ps)
+  weight-minus (range low high) = 1
 
   pub product-plus : Patterns → ℕ
   product-plus pnil = 1
@@ -47,6 +49,7 @@ abbrev mutual
   light-plus (and p q) = leb (weight-plus p * weight-plus q) part-weight-limit && light-plus p && light-plus q
   light-plus (or p q) = leb (weight-plus p + weight-plus q) part-weight-limit && light-plus p && light-plus q
   light-plus (head c ps) = leb (product-plus ps) part-weight-limit && light-all-plus ps
+  light-plus (range low high) = true
 
   pub light-minus : Pattern → Bool
   light-minus (var x) = true
@@ -56,6 +59,7 @@ abbrev mutual
   light-minus (and p q) = leb (weight-minus p + weight-minus q) part-weight-limit && light-minus p && light-minus q
   light-minus (or p q) = leb (weight-minus p * weight-minus q) part-weight-limit && light-minus p && light-minus q
   light-minus (head c ps) = leb (suc (sum-minus ps)) part-weight-limit && light-all-minus ps
+  light-minus (range low high) = true
 
   pub light-all-plus : Patterns → Bool
   light-all-plus pnil = true

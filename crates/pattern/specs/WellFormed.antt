@@ -2,11 +2,12 @@
 use mathlib.Core.Path.{_≡_}
 use mathlib.Core.List.{List, [], _∷_}
 use mathlib.Core.Option.{some}
+use mathlib.Core.Bool.{true}
 use Prim.Native.Nat.{ℕ, _<_, _≤_}
 use lib.ListN.{length}
-use Rattle.signature.specs.Signature.{arguments-at, Signature}
+use Rattle.signature.specs.Signature.{arguments-at, is-number-kind, Signature}
 use Rattle.pattern.specs.Limits.{pattern-limit, variable-count}
-use Rattle.pattern.specs.Pattern.{Pattern, Patterns, head, and, or, neg, wild, absurd-pat, var, pnil, pcons, pattern-code}
+use Rattle.pattern.specs.Pattern.{Pattern, Patterns, head, and, or, neg, wild, absurd-pat, var, range, pnil, pcons, pattern-code}
 
 module _ (sig : Signature) where
   -- a pattern of kind k: "a constructor of another kind than its place" and "a constructor outside the signature" are malformed
@@ -19,6 +20,8 @@ module _ (sig : Signature) where
       well-wild : {k : ℕ} → WellFormed k wild
       well-absurd : {k : ℕ} → WellFormed k absurd-pat
       well-var : {k x : ℕ} → x < variable-count → WellFormed k (var x)
+      -- 02, job 1: "280 at another kind is 7"
+      well-range : {k low high : ℕ} → is-number-kind sig k ≡ true → WellFormed k (range low high)
 
     pub data AllWellFormed : List ℕ → Patterns → Type 0 where
       well-nil : AllWellFormed [] pnil

@@ -12,6 +12,8 @@ pub const FIRST_VARIABLE: u16 = 261;
 
 pub const LAST_VARIABLE: u16 = 276;
 
+pub const RANGE: u16 = 280;
+
 pub enum Word {
     Head(u16),
     And,
@@ -20,6 +22,7 @@ pub enum Word {
     Absurd,
     Not,
     Var(u16),
+    Range,
     Other,
 }
 
@@ -34,6 +37,7 @@ pub fn classify(w: u16) -> Word
         259 => Word::Absurd,
         260 => Word::Not,
         FIRST_VARIABLE..=LAST_VARIABLE => Word::Var(w - FIRST_VARIABLE),
+        RANGE => Word::Range,
         _ => Word::Other,
     }
 }
@@ -51,15 +55,26 @@ pub fn parts(t: &[u16], w: Word) -> u16
         Word::Absurd => 0,
         Word::Not => 1,
         Word::Var(_x) => 0,
+        Word::Range => 0,
         Word::Other => 0,
     }
 }
 
-// A pattern's own words before its parts: one, whatever the first is.
+// A pattern's own words before its parts: a range has its ends among them.
 pub fn own_words(w: Word) -> usize
     ensures { λ r. ⌜ r ≡ own-words (form-of w) ⌝ }
 {
-    1
+    match w {
+        Word::Head(_c) => 1,
+        Word::And => 1,
+        Word::Or => 1,
+        Word::Wild => 1,
+        Word::Absurd => 1,
+        Word::Not => 1,
+        Word::Var(_x) => 1,
+        Word::Range => 3,
+        Word::Other => 1,
+    }
 }
 
 // The side of the parts behind a word.
@@ -74,6 +89,7 @@ pub fn side_behind(w: Word, plus: bool) -> bool
         Word::Absurd => plus,
         Word::Not => !plus,
         Word::Var(_x) => plus,
+        Word::Range => plus,
         Word::Other => plus,
     }
 }

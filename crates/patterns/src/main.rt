@@ -1,4 +1,4 @@
-// Runs patterns of document 01 against Case T's signature and its three bookings, and writes a line for each: the refusal 7, 8 or 9;
+// Runs patterns of documents 01 and 02 against a signature and three bookings, and writes a line for each: the refusal 7, 18, 8 or 9;
 // or 0 and, for each booking, whether the pattern takes it, with variable:place for each variable that it binds.
 mod show;
 
@@ -11,7 +11,7 @@ ghost use Rattle.signature.specs.Decoded.{Known};
 const WORDS: usize = 1024;
 
 // Patterns one behind the other, each its count of words and then those.
-fn lines(t: &[u16], all: &[u16])
+fn lines(t: &[u16], all: &[u16], first: &[u16], second: &[u16], third: &[u16])
     requires { ⌜ Known (now t) ⌝ }
 {
     let mut w = all;
@@ -20,18 +20,34 @@ fn lines(t: &[u16], all: &[u16])
         if w.len() < e {
             return;
         }
-        show::line(t, &w[1..e]);
+        show::line(t, &w[1..e], first, second, third);
         w = &w[e..];
     }
 }
 
-fn main() {
-    let words = [6u16, 0, 2, 1, 2, 1, 0, 1, 0, 1, 0, 2, 0, 2, 0];
+fn run(signature: &[u16], name: &[u8], first: &[u16], second: &[u16], third: &[u16]) {
     let mut t = [0u16; DECODED];
-    if !decode(&words, &mut t) {
+    if !decode(signature, &mut t) {
         return;
     }
     let mut all = [0u16; WORDS];
-    let n = read_words(b"patterns.txt", true, &mut all);
-    lines(&t, &all[..n]);
+    let n = read_words(name, true, &mut all);
+    lines(&t, &all[..n], first, second, third);
+}
+
+fn main() {
+    run(
+        &[6u16, 0, 2, 1, 2, 1, 0, 1, 0, 1, 0, 2, 0, 2, 0],
+        b"patterns.txt",
+        &[0u16, 1, 5],
+        &[0u16, 2, 5],
+        &[0u16, 3, 4],
+    );
+    run(
+        &[2u16, 0, 1, 1, 1, 5],
+        b"levels.txt",
+        &[0u16, 1000],
+        &[0u16, 1006],
+        &[0u16, 1100],
+    );
 }

@@ -5,12 +5,15 @@ use shown::print;
 use weighing::weight::Weighed;
 ghost use Rattle.signature.specs.Decoded.{Known};
 
-// The refusal of a pattern by itself: 7, 8, 9, or 0 for none.
+// The refusal of a pattern by itself: 7, 18, 8, 9, or 0 for none.
 fn refusal(t: &[u16], p: &[u16]) -> usize
     requires { ⌜ Known (now t) ⌝ }
 {
     if !reading::read::well_formed(t, p) {
         return 7;
+    }
+    if !reading::ranges::ranged(p) {
+        return 18;
     }
     if !linearity::linear::linear(t, p) {
         return 8;
@@ -40,15 +43,16 @@ fn answer(t: &[u16], p: &[u16], b: &[u16])
     print::bindings(&out);
 }
 
-pub fn line(t: &[u16], p: &[u16])
+// Against three bookings.
+pub fn line(t: &[u16], p: &[u16], first: &[u16], second: &[u16], third: &[u16])
     requires { ⌜ Known (now t) ⌝ }
 {
     let n = refusal(t, p);
     print::number(n);
     if n == 0 {
-        answer(t, p, &[0u16, 1, 5]);
-        answer(t, p, &[0u16, 2, 5]);
-        answer(t, p, &[0u16, 3, 4]);
+        answer(t, p, first);
+        answer(t, p, second);
+        answer(t, p, third);
     }
     print::end();
 }

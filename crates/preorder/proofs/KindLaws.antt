@@ -1,5 +1,6 @@
 -- What the table of a signature says of a kind's heads.
 use mathlib.Core.Path.{_≡_, refl, sym, ap, ap₂, subst, _∙_}
+use mathlib.Core.Logic.{_⊎_, inl, inr}
 use mathlib.Core.List.{List, [], _∷_}
 use mathlib.Core.Bool.{Bool, true, false, _||_}
 use mathlib.Core.Option.{some}
@@ -7,12 +8,12 @@ use Prim.Native.Nat.{ℕ, zero, suc, _+_, _-_, _≤_, _<_}
 use native.Mathlib.Omega.{arith}
 use lib.Dec.{eqb}
 use lib.ListN.{length}
-use Rattle.signature.specs.Decoded.{Known, first-of, count-of, arity-of}
-use Rattle.signature.specs.Limits.{kind-limit, argument-limit, constructor-limit, heads-limit}
+use Rattle.signature.specs.Decoded.{Known, first-of, count-of, kind-of, head-arity}
+use Rattle.signature.specs.Limits.{kind-limit, argument-limit, constructor-limit, heads-limit, level-base, last-level}
 use Rattle.signature.specs.Lists.{memb, first, count-up, All, is-empty}
-use Rattle.signature.specs.Signature.{heads, arguments, arguments-at}
-use Rattle.signature.proofs.Heads.{Consecutive, consecutive-nil, consecutive-cons, consecutive-of, kind-of-head, args-same}
-use Rattle.signature.proofs.KnownFacts.{words-of, is-constructor, few-constructors, arity-is, few-arguments}
+use Rattle.signature.specs.Signature.{heads, arguments, arguments-at, is-level, is-number-kind}
+use Rattle.signature.proofs.Heads.{Consecutive, consecutive-nil, consecutive-cons, consecutive-of, kind-of-head, args-same, level-is}
+use Rattle.signature.proofs.KnownFacts.{words-of, is-constructor, few-constructors, head-is, head-arity-is, few-of-head}
 use Rattle.signature.proofs.Tests.{eqb-self}
 use Rattle.rowlist.proofs.Kinded.{kinds-same, few-heads, open-kind}
 use Rattle.rowlist.proofs.Typing.{args-there}
@@ -61,17 +62,22 @@ module _ {t : List ℕ} (g : Known t) (k : ℕ) (l : k < g .decoded .n) where
     head-at : (js : List ℕ) × (arguments-at (g .sig) k (first-of t k + j) ≡ some js)
     head-at = kind-of-head (g .sig) k (first-of t k + j) head-there
 
-    head-known : first-of t k + j < length (g .sig)
-    head-known = is-constructor g k (first-of t k + j) (head-at .0) (head-at .1)
+    pub head-below : first-of t k + j < level-base → first-of t k + j < constructor-limit
+    head-below b = omega (arith, is-constructor g k (first-of t k + j) (head-at .0) b (head-at .1), few-constructors g)
 
-    pub head-below : first-of t k + j < constructor-limit
-    head-below = omega (arith, head-known, few-constructors g)
+    -- a head is a word
+    pub head-word : first-of t k + j ≤ level-base + last-level
+    head-word = go (head-is g k (first-of t k + j) (head-at .0) (head-at .1))
+      where
+        go : ((first-of t k + j < length (g .sig)) × (is-number-kind (g .sig) k ≡ false) × (kind-of t (first-of t k + j) ≡ k)) ⊎ ((is-level (first-of t k + j) ≡ true) × (is-number-kind (g .sig) k ≡ true) × (head-at .0 ≡ [])) → first-of t k + j ≤ level-base + last-level
+        go (inl (a, n, q)) = omega (arith, few-constructors g)
+        go (inr (v, n, q)) = level-is (first-of t k + j) v .1
 
-    pub head-arity : arity-of t (first-of t k + j) ≡ length (arguments (g .sig) (first-of t k + j))
-    head-arity = arity-is g (first-of t k + j) head-known
+    pub head-columns : head-arity t (first-of t k + j) ≡ length (arguments (g .sig) (first-of t k + j))
+    head-columns = head-arity-is g k (first-of t k + j) (head-at .0) (head-at .1) ∙ ap length (sym (args-same (g .sig) k (first-of t k + j) (head-at .0) (head-at .1)))
 
-    pub head-arguments : arity-of t (first-of t k + j) ≤ argument-limit
-    head-arguments = omega (arith, head-arity, few-arguments g (first-of t k + j) head-known)
+    pub head-arguments : head-arity t (first-of t k + j) ≤ argument-limit
+    head-arguments = omega (arith, head-arity-is g k (first-of t k + j) (head-at .0) (head-at .1), few-of-head g k (first-of t k + j) (head-at .0) (head-at .1))
 
     pub head-kinds : All (λ i. i < g .decoded .n) (arguments (g .sig) (first-of t k + j))
     head-kinds = rw (args-same (g .sig) k (first-of t k + j) (head-at .0) (head-at .1)) (args-there g k (first-of t k + j) (head-at .0) (head-at .1))

@@ -6,3 +6,6 @@ pub mod KindLaws
 pub mod LoopLaws
 pub mod NodeLaws
 pub mod Options
+pub mod HeadsLaws
+pub mod EndsLaws
+pub mod FrontLaws

@@ -7,9 +7,8 @@ use mathlib.Core.Bool.{Bool, true, false, _&&_, cond}
 use Prim.Native.Nat.{ℕ, zero, suc, _+_, _-_, _≤_, _<_, min}
 use native.Mathlib.Omega.{arith}
 use lib.ListN.{length, getD, drop, set}
-use Rattle.signature.specs.Decoded.{first-of, count-of}
 use Rattle.signature.specs.Limits.{kind-limit}
-use Rattle.signature.specs.Lists.{_>>=_, All, memb, first, somes, any, count-up}
+use Rattle.signature.specs.Lists.{_>>=_, All, memb, somes, any}
 use Rattle.signature.specs.Signature.{Signature, heads, arguments}
 use Rattle.signature.proofs.Booleans.{and-left, and-right}
 use Rattle.signature.proofs.ListFacts.{rest-of}
@@ -17,15 +16,14 @@ use Rattle.signature.proofs.Tests.{eqb-eq, none≢some, true≢false}
 use Rattle.pattern.specs.Limits.{pattern-limit}
 use Rattle.rowlist.proofs.Kinded.{sized-kind}
 use Rattle.tree.proofs.RunFacts.{some-word}
-use Rattle.tree.specs.Tree.{Tree, Line, default, hit, test, skip, refined, taken, passed, after, compile, children}
+use Rattle.tree.specs.Tree.{Tree, Line, default, hit, skip, refined, taken, passed, after, compile, branches, branch, children}
 use Rattle.tree.specs.Words.{words, layout}
 use Rattle.path.specs.Alive.{member, FirstAlive}
-use Rattle.path.specs.Standing.{At, refined-cell}
+use Rattle.path.specs.Standing.{At, refined-cell, tag-of, allowed-of}
 use Rattle.path.specs.State.{options, State, RowIs, LineAt, Raised, real-of, cell-of, own-of, stop-of, rule-of, plan-of, bound, one-if}
 use Rattle.column.specs.Column.{Column, tag-at}
 use Rattle.path.specs.Wrote.{Wrote}
 use Rattle.preorder.specs.Node.{Given, Branching, lines, tree-of, branch-of}
-use Rattle.preorder.proofs.KindLaws.{heads-are}
 use Rattle.preorder.proofs.Options.{somes-none, somes-first, FirstIs, somes-step, any-no, any-yes}
 use Rattle.path.proofs.StateLaws.{state-pass, row-refined}
 use Rattle.path.proofs.StepLaws.{real-room, real-tag}
@@ -87,6 +85,16 @@ module _ {t a rows : List ℕ} {n : ℕ} {s cur vis : List ℕ} {ncols vn base l
   tree-hit-at dft [] ls l ms fuel h e = rw e
   tree-hit-at dft (k ∷ ks) ls l ms fuel h e = absurd (omega arith)
 
+  -- a row without a line has no cell in the column
+  pub row-dead-line : (re : List ℕ) → ((r : ℕ) → r < n → member re r ≡ real-of rows (member s) cur ncols r) → (r : ℕ) → r < n → g .f r ≡ none → member re r ≡ false
+  row-dead-line re h r i e = h r i ∙ go (member s r) refl
+    where
+      go : (b : Bool) → member s r ≡ b → real-of rows (member s) cur ncols r ≡ false
+      go false q = rw q
+      go true q =
+          let v = row-alive (g .known .sig) t a rows n (member s r) (g .f r) vis r (getD cur r 0) (g .ks) (g .state r i) q in
+          none≢some (sym e ∙ v .is)
+
   -- no column
   pub tree-hit : (dft fuel r : ℕ) → 0 < fuel → r < n → FirstAlive s n r → ncols ≡ 0 → tree-of g dft fuel ≡ hit (rule-of rows r) (plan-of rows r) (bound a rows vis r (getD cur r 0))
   tree-hit dft zero r z h x c = absurd (omega arith)
@@ -98,7 +106,7 @@ module _ {t a rows : List ℕ} {n : ℕ} {s cur vis : List ℕ} {ncols vn base l
   -- the first column, refined or not
   compile-step : (dft fuel k : ℕ) (ks : List ℕ) (ls : List Line) (l : Line) (ms : List Line) (b : Bool) → ls ≡ l ∷ ms → any (λ m. refined (g .known .sig) k (m .cells)) ls ≡ b
       → compile dft (suc fuel) (g .known .sig) (k ∷ ks) ls vn
-      ≡ cond b (test (first (heads (g .known .sig) k)) (children (λ c. compile dft fuel (g .known .sig) (arguments (g .known .sig) c ++ ks) (somes (map (after vn (taken (g .known .sig) (arguments (g .known .sig) c) c)) ls)) (suc vn)) (heads (g .known .sig) k)))
+      ≡ cond b (branch (g .known .sig) k (branches (g .known .sig) k ls) (children (λ c. compile dft fuel (g .known .sig) (arguments (g .known .sig) c ++ ks) (somes (map (after vn (taken (g .known .sig) (arguments (g .known .sig) c) c)) ls)) (suc vn)) (branches (g .known .sig) k ls)))
       (skip (compile dft fuel (g .known .sig) ks (somes (map (after vn passed) ls)) (suc vn)))
   compile-step dft fuel k ks ls l ms b e h = let q : any (λ m. refined (g .known .sig) k (m .cells)) (l ∷ ms) ≡ b = ap (any (λ m. refined (g .known .sig) k (m .cells))) (sym e) ∙ h in rw (e, q)
 
@@ -107,17 +115,17 @@ module _ {t a rows : List ℕ} {n : ℕ} {s cur vis : List ℕ} {ncols vn base l
   real-same re k ks e h r l = let q : suc (length ks) ≡ ncols = sym (g .columns ∙ ap length e) in ap (λ (m : ℕ). real-of rows (member s) cur m r) q ∙ sym (h r l)
 
   refined-is : (re : List ℕ) (k : ℕ) (ks : List ℕ) → g .ks ≡ k ∷ ks → k < g .known .decoded .n → ((r : ℕ) → r < n → member re r ≡ real-of rows (member s) cur ncols r) → (r : ℕ) (l : Line) → r < n → g .f r ≡ some l
-      → refined (g .known .sig) k (l .cells) ≡ (member re r && refined-cell (g .known .sig) k (getD a (cell-of rows r (getD cur r 0)) 0) (getD a (cell-of rows r (getD cur r 0) + 2) 0))
+      → refined (g .known .sig) k (l .cells) ≡ (member re r && refined-cell (g .known .sig) k (tag-of a (cell-of rows r (getD cur r 0))) (allowed-of a (cell-of rows r (getD cur r 0))))
   refined-is re k ks e u h r l i x =
       let st = subst (λ (z : List ℕ). State (g .known .sig) t a rows n (member s) cur vis z (g .f)) e (g .state) in
       row-refined (g .known .sig) t a rows n vis r (getD cur r 0) k ks (sized-kind (g .known) k u) (member s r) (g .f r) _ l (st r i) x refl
-      ∙ ap (λ (b : Bool). b && refined-cell (g .known .sig) k (getD a (cell-of rows r (getD cur r 0)) 0) (getD a (cell-of rows r (getD cur r 0) + 2) 0)) (real-same re k ks e h r i)
+      ∙ ap (λ (b : Bool). b && refined-cell (g .known .sig) k (tag-of a (cell-of rows r (getD cur r 0))) (allowed-of a (cell-of rows r (getD cur r 0)))) (real-same re k ks e h r i)
 
   pub none-refined : (re : List ℕ) (k res : ℕ) (ks : List ℕ) → g .ks ≡ k ∷ ks → k < g .known .decoded .n → ((r : ℕ) → r < n → member re r ≡ real-of rows (member s) cur ncols r)
       → Column (g .known .sig) a rows n re cur k res → res ≡ kind-limit → (r : ℕ) (l : Line) → r < n → g .f r ≡ some l → refined (g .known .sig) k (l .cells) ≡ false
   none-refined re k res ks e u h c z r l i x = refined-is re k ks e u h r l i x ∙ go (member re r) refl
     where
-      go : (b : Bool) → member re r ≡ b → (b && refined-cell (g .known .sig) k (getD a (cell-of rows r (getD cur r 0)) 0) (getD a (cell-of rows r (getD cur r 0) + 2) 0)) ≡ false
+      go : (b : Bool) → member re r ≡ b → (b && refined-cell (g .known .sig) k (tag-of a (cell-of rows r (getD cur r 0))) (allowed-of a (cell-of rows r (getD cur r 0)))) ≡ false
       go true q = c .plain z r i q
       go false q = refl
 
@@ -146,7 +154,7 @@ module _ {t a rows : List ℕ} {n : ℕ} {s cur vis : List ℕ} {ncols vn base l
       (w .line, eqb-eq _ _ (and-right (member s r) _ z) ∙ (g .columns ∙ ap length e), subst (λ (y : List ℕ). At (g .known .sig) t a (stop-of rows r) (cell-of rows r (getD cur r 0)) (own-of rows r (getD cur r 0)) y (w .line .cells)) e (w .at .here))
 
   pub real-cell : (re : List ℕ) (k : ℕ) (ks : List ℕ) → g .ks ≡ k ∷ ks → ((r : ℕ) → r < n → member re r ≡ real-of rows (member s) cur ncols r) → (r : ℕ) → r < n → member re r ≡ true
-      → (getD cur r 0 < pattern-limit) × (cell-of rows r (getD cur r 0) + 3 ≤ length a) × ((tag-at a rows cur r ≡ 256 + k) ⊎ (memb (tag-at a rows cur r) (heads (g .known .sig) k) ≡ true))
+      → (getD cur r 0 < pattern-limit) × (cell-of rows r (getD cur r 0) + 3 ≤ length a) × ((tag-at a rows cur r ≡ 256 + k) ⊎ ((tag-at a rows cur r < 256) × (memb (tag-at a rows cur r) (heads (g .known .sig) k) ≡ true)))
   real-cell re k ks e h r l i =
       let w = real-own re k ks e h r l i in
       let o = g .ok .within r l in
@@ -194,7 +202,7 @@ module _ {t a rows : List ℕ} {n : ℕ} {s cur vis : List ℕ} {ncols vn base l
       ∙ ap (λ (y : List Line). skip (compile dft fuel (g .known .sig) ks y (suc vn))) (somes-step (g .f) (after vn passed) 0 n)
       ∙ ap (λ (y : ℕ). skip (compile dft fuel (g .known .sig) ks (somes (options (λ r. g .f r >>= after vn passed) 0 n)) y)) (let q : suc vn ≡ vn + 1 = omega arith in q)
 
-  -- 2
+  -- 2 or 4
   pub branch-given : (re cur2 vis2 : List ℕ) (k : ℕ) (ks : List ℕ) → g .ks ≡ k ∷ ks → ((r : ℕ) → r < n → member re r ≡ real-of rows (member s) cur ncols r)
       → Raised n (member re) vn cur vis cur2 vis2 → length cur2 ≡ length cur → length vis2 ≡ length vis → Branching t a rows n s re cur2 vis2 ncols vn base len k
   branch-given re cur2 vis2 k ks e h w lc lv = record { cur0 = cur; vis0 = vis; given = g; ks = ks; ks-are = e; real = h; raised = w; cursors = omega (arith, g .cursors); visits = omega (arith, g .visits) }
@@ -207,4 +215,3 @@ module _ {t a rows : List ℕ} {n : ℕ} {s cur vis : List ℕ} {ncols vn base l
       let v = first-line r i x in
       ap (λ (y : List ℕ). compile dft (suc fuel) (g .known .sig) y (lines g) vn) e
       ∙ compile-step dft fuel k ks (lines g) (v .0) (v .1 .rest) true (v .1 .is) (some-refined re k res ks e u h c z)
-      ∙ ap₂ (λ (y : ℕ) (cs : List ℕ). test y (children (λ c. compile dft fuel (g .known .sig) (arguments (g .known .sig) c ++ ks) (somes (map (after vn (taken (g .known .sig) (arguments (g .known .sig) c) c)) (lines g))) (suc vn)) cs)) (sym (g .known .decoded .first-head k u)) (heads-are (g .known) k u)

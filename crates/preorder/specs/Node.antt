@@ -4,11 +4,11 @@ use mathlib.Core.List.{List, [], _∷_, _++_, map}
 use mathlib.Core.Option.{Option}
 use Prim.Native.Nat.{ℕ, suc, _+_, _*_, _^_, _≤_, _<_}
 use lib.ListN.{length, getD}
-use Rattle.signature.specs.Decoded.{Known, first-of, count-of}
-use Rattle.signature.specs.Lists.{All, somes, count-up}
+use Rattle.signature.specs.Decoded.{Known}
+use Rattle.signature.specs.Lists.{All, somes}
 use Rattle.signature.specs.Signature.{arguments}
 use Rattle.pattern.specs.Limits.{pattern-limit}
-use Rattle.tree.specs.Tree.{Tree, Line, taken, after, compile, test, children}
+use Rattle.tree.specs.Tree.{Tree, Line, taken, after, compile, branches, branch, children}
 use Rattle.tree.specs.Limits.{row-limit}
 use Rattle.path.specs.Alive.{member}
 use Rattle.path.specs.State.{options, State, Raised, Kept, real-of, Indexed}
@@ -57,7 +57,10 @@ child-of {v = v} b dft fuel c =
     compile dft fuel sig (arguments sig c ++ b .ks) (somes (map (after v (taken sig (arguments sig c) c)) (lines (b .given)))) (suc v)
 
 abbrev pub branch-of : {t a rows : List ℕ} {n : ℕ} {s re cur vis : List ℕ} {ncols v base len k : ℕ} → Branching t a rows n s re cur vis ncols v base len k → ℕ → ℕ → Tree
-branch-of {t = t} {k = k} b dft fuel = test (first-of t k) (children (child-of b dft fuel) (count-up (first-of t k) (count-of t k)))
+branch-of {k = k} b dft fuel =
+    let sig = b .given .known .sig in
+    let es = branches sig k (lines (b .given)) in
+    branch sig k es (children (child-of b dft fuel) es)
 
 -- the cursors as they were, and the visits of the cells before them
 pub record WorkKept (n : ℕ) (cur vis cur′ vis′ : List ℕ) : Type 0 where

@@ -1,21 +1,26 @@
 // The tree of the rows that stand at their cursors. The tail behind a node is lent to the child's writer.
+pub mod front;
+
 use column::NO_KIND;
 use column::column;
+use column::heads;
 use column::keep;
+use front::front as put_front;
+use front::front_words;
 use leaf::leaf;
 use path::alive::SET_WORDS;
 use path::alive::first_alive;
 use path::rows::CURSORS;
 use path::rows::INDEX_ROOM;
 use path::rows::VISITS;
+use sets::heads::lowest;
+use sets::heads::size;
+use sets::heads::without;
 use signature::decoded::DECODED;
-use signature::decoded::arity_of;
-use signature::decoded::count_of;
 use signature::decoded::first_of;
+use signature::decoded::head_arity;
 use tree::words::DEFAULT;
 use tree::words::SKIP;
-use tree::words::TEST;
-use tree::words::TEST_WORDS;
 use visits::blank;
 use visits::lower;
 use visits::raise;
@@ -152,19 +157,21 @@ fn branch(
     ensures { λ u. ⌜ BranchWrote (now (t .entry)) (now (a .entry)) (now (rows .entry)) n (now (s .entry)) (now (re .entry)) (now (cur .entry)) (now (vis .entry)) ncols v base k (now (out .entry)) u (now (out .exit)) (now (cur .exit)) (now (vis .exit)) ⌝ }
 {
     let f = first_of(t, k);
-    let m = count_of(t, k);
-    let mut at = TEST_WORDS + m as usize;
+    let all = heads(t, a, rows, n, re, cur, k);
+    let m = size(all) as usize;
+    let links = front_words(f, m);
+    let mut at = links + m;
     if out.len() < at {
         return out.len() + 1;
     }
-    out[0] = TEST;
-    out[1] = f;
-    out[2] = m;
+    put_front(out, f, all, m);
+    let mut hs = all;
     let mut j = 0;
-    while j < m as usize {
+    while j < m {
+        let h = lowest(hs);
         let mut x = [0; SET_WORDS];
-        keep(a, rows, n, s, re, cur, j, &mut x);
-        let w = ncols - 1 + arity_of(t, f as usize + j) as usize;
+        keep(a, rows, n, s, re, cur, h as usize, &mut x);
+        let w = ncols - 1 + head_arity(t, f + h as u16) as usize;
         let u = node(
             t,
             a,
@@ -181,8 +188,10 @@ fn branch(
         if u > out.len() - at {
             return out.len() + 1;
         }
-        out[TEST_WORDS + j] = (base + at) as u16;
+        out[links + j] = (base + at) as u16;
         at += u;
+        let next = without(hs, h);
+        hs = next;
         j += 1;
     }
     at

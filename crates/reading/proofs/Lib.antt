@@ -1,2 +1,3 @@
 pub mod Skip
 pub mod Steps
+pub mod RangeSteps

@@ -2,16 +2,18 @@
 use mathlib.Core.Path.{_≡_, refl, sym, ap, _∙_}
 use mathlib.Core.List.{List, [], _∷_}
 use mathlib.Core.Option.{Option, some, none}
-use Prim.Native.Nat.{ℕ, _+_, _-_, _≤_}
+use mathlib.Core.Bool.{Bool, true, false, cond}
+use Prim.Native.Nat.{ℕ, suc, _+_, _-_, _≤_, _<_}
 use native.Mathlib.Omega.{arith}
 use lib.ListN.{length, drop, length-append, length-drop}
 use lib.Seq.{drop-at}
 use Rattle.signature.specs.Lists.{_>>=_}
-use Rattle.signature.specs.Signature.{Signature, arguments-at}
+use Rattle.signature.specs.Signature.{Signature, arguments-at, is-number-kind}
 use Rattle.signature.proofs.Tests.{none≢some, some-inj}
 use Rattle.reading.specs.End.{end-of}
 use Rattle.pattern.specs.Pattern.{Pattern, pcons, head, and, or, neg, pattern-code}
-use Rattle.pattern.specs.Read.{Form, is-head, is-var, is-and, is-or, is-wild, is-absurd, is-not, is-other, read-one, read-each, read-two, read-by-form}
+use Rattle.pattern.specs.Read.{Form, is-head, is-var, is-and, is-or, is-wild, is-absurd, is-not, is-range, is-other, read-one, read-each, read-two, read-range, read-by-form}
+use Rattle.pattern.specs.Word.{own-words}
 use Rattle.reading.specs.declared.read.End.the-variants.{At, Bad}
 use Rattle.pattern.proofs.PatternBack.{pattern-was}
 
@@ -37,6 +39,7 @@ due sig is-or k = some (k ∷ (k ∷ []))
 due sig is-wild k = some []
 due sig is-absurd k = some []
 due sig is-not k = some (k ∷ [])
+due sig is-range k = cond (is-number-kind sig k) (some []) none
 due sig is-other k = none
 
 module _ (one : ℕ → List ℕ → Option (Pattern × List ℕ)) where
@@ -70,15 +73,40 @@ module _ (one : ℕ → List ℕ → Option (Pattern × List ℕ)) where
   head-skips c none ws = refl
   head-skips c (some ks) ws = rest-map (read-each one ks ws) (head c) ∙ each-skips ks ws
 
-  pub form-skips : (sig : Signature) (f : Form) (k : ℕ) (ws : List ℕ) → rest-of (read-by-form sig one f k ws) ≡ (due sig f k >>= λ ks. skip-each skips ks ws)
-  form-skips sig (is-head c) k ws = head-skips c (arguments-at sig k c) ws
-  form-skips sig (is-var x) k ws = refl
-  form-skips sig is-and k ws = two-skip and k ws
-  form-skips sig is-or k ws = two-skip or k ws
-  form-skips sig is-wild k ws = refl
-  form-skips sig is-absurd k ws = refl
-  form-skips sig is-not k ws = not-skips (one k ws)
-  form-skips sig is-other k ws = refl
+  range-skips : (b : Bool) (w : ℕ) (ws : List ℕ) → 2 ≤ length ws → rest-of (read-range b ws) ≡ (cond b (some []) none >>= λ ks. skip-each skips ks (drop 3 (w ∷ ws)))
+  range-skips b w [] l = absurd (omega arith)
+  range-skips b w (low ∷ []) l = absurd (omega arith)
+  range-skips true w (low ∷ (high ∷ ws)) l = refl
+  range-skips false w (low ∷ (high ∷ ws)) l = refl
+
+  -- w is the first word: behind the words of its own
+  pub form-skips : (sig : Signature) (f : Form) (k w : ℕ) (ws : List ℕ) → own-words f ≤ suc (length ws) → rest-of (read-by-form sig one f k ws) ≡ (due sig f k >>= λ ks. skip-each skips ks (drop (own-words f) (w ∷ ws)))
+  form-skips sig (is-head c) k w ws l = head-skips c (arguments-at sig k c) ws
+  form-skips sig (is-var x) k w ws l = refl
+  form-skips sig is-and k w ws l = two-skip and k ws
+  form-skips sig is-or k w ws l = two-skip or k ws
+  form-skips sig is-wild k w ws l = refl
+  form-skips sig is-absurd k w ws l = refl
+  form-skips sig is-not k w ws l = not-skips (one k ws)
+  form-skips sig is-range k w ws l = range-skips (is-number-kind sig k) w ws (omega arith)
+  form-skips sig is-other k w ws l = refl
+
+  cut-range : (b : Bool) (ws : List ℕ) → length ws < 2 → rest-of (read-range b ws) ≡ none
+  cut-range b [] l = refl
+  cut-range b (low ∷ []) l = refl
+  cut-range b (low ∷ (high ∷ ws)) l = absurd (omega arith)
+
+  -- cut short
+  pub form-cut : (sig : Signature) (f : Form) (k : ℕ) (ws : List ℕ) → suc (length ws) < own-words f → rest-of (read-by-form sig one f k ws) ≡ none
+  form-cut sig (is-head c) k ws l = absurd (omega arith)
+  form-cut sig (is-var x) k ws l = absurd (omega arith)
+  form-cut sig is-and k ws l = absurd (omega arith)
+  form-cut sig is-or k ws l = absurd (omega arith)
+  form-cut sig is-wild k ws l = absurd (omega arith)
+  form-cut sig is-absurd k ws l = absurd (omega arith)
+  form-cut sig is-not k ws l = absurd (omega arith)
+  form-cut sig is-range k ws l = cut-range (is-number-kind sig k) ws (omega arith)
+  form-cut sig is-other k ws l = absurd (omega arith)
 
 -- the code's reader of parts
 abbrev pub part-skips : Signature → ℕ → ℕ → List ℕ → Option (List ℕ)

@@ -1,32 +1,34 @@
 -- What the reader's steps show: the kinds that are due, one more pattern, the end.
-use mathlib.Core.Path.{_≡_, refl, sym, ap, _∙_}
+use mathlib.Core.Path.{_≡_, refl, sym, ap, subst, _∙_}
 use mathlib.Core.List.{List, [], _∷_}
 use mathlib.Core.Option.{Option, some, none}
-use mathlib.Core.Bool.{true, false}
+use mathlib.Core.Bool.{Bool, true, false}
 use Prim.Native.Nat.{ℕ, zero, suc, _+_, _-_, _≤_, _<_}
 use native.Mathlib.Numerals.{add-one}
+use native.Mathlib.Decide.{decLe}
 use native.Mathlib.Omega.{arith}
+use borrow.Author.Tests.{ltb-true, ltb-false}
 use lib.Dec.{eqb, ltb}
-use lib.ListN.{length, drop, getD, length-drop, getElem?}
+use lib.ListN.{length, drop, getD, length-drop}
 use lib.Seq.{drop-drop, drop-cons}
-use Rattle.signature.specs.Decoded.{Known, constructors-of, kind-of}
-use Rattle.signature.specs.Limits.{argument-limit}
+use Rattle.signature.specs.Decoded.{Known, constructors-of, kinds-of, kind-of, first-of}
+use Rattle.signature.specs.Limits.{argument-limit, constructor-limit, kind-limit, level-base}
 use Rattle.signature.specs.Lists.{_>>=_, is-some, whole}
-use Rattle.signature.specs.Signature.{Signature, Constructor, arguments-at}
+use Rattle.signature.specs.Signature.{Signature, arguments-at, arguments, is-number-kind}
 use Rattle.signature.proofs.Booleans.{and-left, and-right}
-use Rattle.signature.proofs.Heads.{constructor-of}
-use Rattle.signature.proofs.LawfulFacts.{sig-facts, few}
-use Rattle.signature.proofs.ListFacts.{at-getD}
-use Rattle.signature.proofs.Tests.{none≢some, some-inj, eqb-no, eqb-self, leb-yes, leb-no, ltb-no, ltb-yes, true≢false}
+use Rattle.signature.proofs.KnownFacts.{arity-is, few-arguments, few-kinds, argument-is, arguments-below, right-kind, wrong-kind, no-constructor, number-first}
+use Rattle.signature.proofs.LawfulFacts.{kinds-above}
+use Rattle.signature.proofs.ListFacts.{all-at, at-getD}
+use Rattle.signature.proofs.Tests.{none≢some, some-inj, eqb-eq, eqb-no, eqb-self, leb-yes, leb-no, ltb-no, ltb-yes, true≢false}
 use Rattle.reading.specs.End.{end-of, may-begin, kind-behind}
 use Rattle.pattern.specs.Limits.{pattern-limit}
 use Rattle.pattern.specs.Pattern.{Pattern}
-use Rattle.pattern.specs.Read.{Form, is-head, is-var, is-and, is-or, is-wild, is-absurd, is-not, is-other, form, read-one, read-pattern}
-use Rattle.pattern.specs.Word.{part-count}
+use Rattle.pattern.specs.Read.{Form, is-head, is-var, is-and, is-or, is-wild, is-absurd, is-not, is-range, is-other, form, read-one, read-by-form, read-pattern}
+use Rattle.pattern.specs.Word.{own-words, part-count, head-small}
 use Rattle.reading.specs.declared.read.End.{End}
 use Rattle.reading.specs.declared.read.End.the-variants.{At, Bad}
-use Rattle.pattern.proofs.ReadSteps.{part, to-end}
-use Rattle.reading.proofs.Skip.{rest-of, skip-each, due, part-skips, form-skips, ended, bad-ended, ends, ends-bad}
+use Rattle.pattern.proofs.ReadSteps.{part, to-end, small}
+use Rattle.reading.proofs.Skip.{rest-of, skip-each, due, part-skips, form-skips, form-cut, ended, bad-ended, ends, ends-bad}
 
 -- the kinds due behind a word, by the table
 pub record Due (t : List ℕ) (sig : Signature) (f : Form) (k : ℕ) : Type 0 where
@@ -46,62 +48,76 @@ one-kind : (k j : ℕ) → j < 1 → getD (k ∷ []) j 0 ≡ k
 one-kind k zero l = refl
 one-kind k (suc j) l = absurd (omega arith)
 
-below : (cs : Signature) (i : ℕ) (d : Constructor) → getElem? cs i ≡ some d → i < length cs
-below [] i d e = none≢some e
-below (x ∷ cs) zero d e = omega arith
-below (x ∷ cs) (suc i) d e = omega (arith, below cs i d e)
-
 module _ (t : List ℕ) (g : Known t) where
-  constructor-there : (c : ℕ) → ltb c (constructors-of t) ≡ true → (d : Constructor) × (getElem? (g .sig) c ≡ some d)
-  constructor-there c h = go (g .sig) c (λ e. true≢false (sym h ∙ ltb-no c (constructors-of t) (rw (g .decoded .constructor-count) e)))
-    where
-      go : (cs : Signature) (i : ℕ) → (length cs ≤ i → ⊥) → (d : Constructor) × (getElem? cs i ≡ some d)
-      go [] i h = absurd (h (omega arith))
-      go (d ∷ cs) zero h = (d, refl)
-      go (d ∷ cs) (suc i) h = go cs i (λ l. h (omega arith))
+  number-kind : (k : ℕ) → k < kinds-of t → is-number-kind (g .sig) k ≡ eqb (first-of t k) level-base
+  number-kind k l = number-first g k (omega (arith, g .decoded .kind-count))
 
-  arguments-there : (k c : ℕ) (d : Constructor) → getElem? (g .sig) c ≡ some d → eqb (kind-of t c) k ≡ true → arguments-at (g .sig) k c ≡ some (d .args)
-  arguments-there k c d e h = rw (e, ← g .decoded .kind c d e, h)
+  pub kind-small : (k : ℕ) → k < kinds-of t → k < kind-limit
+  kind-small k l = omega (arith, g .decoded .kind-count, few-kinds g)
 
-  head-due : (k c : ℕ) → may-begin t (is-head c) k ≡ true → Due t (g .sig) (is-head c) k
-  head-due k c h =
-      let (d, e) = constructor-there c (and-left (ltb c (constructors-of t)) (eqb (kind-of t c) k) h) in
-      let a = arguments-there k c d e (and-right (ltb c (constructors-of t)) (eqb (kind-of t c) k) h) in
+  pub kind-zero : 0 < kinds-of t
+  kind-zero = omega (arith, g .decoded .kind-count, kinds-above (g .sig) (g .decoded .n) (g .decoded .kinds-are))
+
+  in-signature : (c k : ℕ) → may-begin t (is-head c) k ≡ true → c < length (g .sig)
+  in-signature c k h = omega (arith, g .decoded .constructor-count, ltb-true c (constructors-of t) (and-left (ltb c (constructors-of t)) (eqb (kind-of t c) k) h))
+
+  head-arguments : (k c : ℕ) → k < kinds-of t → may-begin t (is-head c) k ≡ true → arguments-at (g .sig) k c ≡ some (arguments (g .sig) c)
+  head-arguments k c l h = right-kind g c (in-signature c k h) k (kind-small k l) (eqb-eq (kind-of t c) k (and-right (ltb c (constructors-of t)) (eqb (kind-of t c) k) h))
+
+  head-due : (k c : ℕ) → k < kinds-of t → may-begin t (is-head c) k ≡ true → Due t (g .sig) (is-head c) k
+  head-due k c kl h =
+      let l = in-signature c k h in
       record {
-        kinds = d .args;
-        are = a;
-        long = sym (g .decoded .arity c d e);
-        short = few (g .sig) (sig-facts (g .sig) (g .signed)) k c (d .args) a;
-        each = λ j l. sym (g .decoded .argument c j (getD (d .args) j 0) d e (at-getD (d .args) j l));
+        kinds = arguments (g .sig) c;
+        are = head-arguments k c kl h;
+        long = sym (arity-is g c l);
+        short = few-arguments g c l;
+        each = λ j m. sym (argument-is g c l j m);
       }
 
-  pub due-of : (f : Form) (k : ℕ) → may-begin t f k ≡ true → Due t (g .sig) f k
-  due-of (is-head c) k h = head-due k c h
-  due-of (is-var x) k h = record { kinds = []; are = refl; long = refl; short = omega arith; each = λ j l. absurd (omega arith) }
-  due-of is-and k h = record { kinds = k ∷ (k ∷ []); are = refl; long = refl; short = omega arith; each = two-kinds k }
-  due-of is-or k h = record { kinds = k ∷ (k ∷ []); are = refl; long = refl; short = omega arith; each = two-kinds k }
-  due-of is-wild k h = record { kinds = []; are = refl; long = refl; short = omega arith; each = λ j l. absurd (omega arith) }
-  due-of is-absurd k h = record { kinds = []; are = refl; long = refl; short = omega arith; each = λ j l. absurd (omega arith) }
-  due-of is-not k h = record { kinds = k ∷ []; are = refl; long = refl; short = omega arith; each = one-kind k }
-  due-of is-other k h = true≢false (sym h)
+  pub due-of : (f : Form) (k : ℕ) → k < kinds-of t → may-begin t f k ≡ true → Due t (g .sig) f k
+  due-of (is-head c) k l h = head-due k c l h
+  due-of (is-var x) k l h = record { kinds = []; are = refl; long = refl; short = omega arith; each = λ j l. absurd (omega arith) }
+  due-of is-and k l h = record { kinds = k ∷ (k ∷ []); are = refl; long = refl; short = omega arith; each = two-kinds k }
+  due-of is-or k l h = record { kinds = k ∷ (k ∷ []); are = refl; long = refl; short = omega arith; each = two-kinds k }
+  due-of is-wild k l h = record { kinds = []; are = refl; long = refl; short = omega arith; each = λ j l. absurd (omega arith) }
+  due-of is-absurd k l h = record { kinds = []; are = refl; long = refl; short = omega arith; each = λ j l. absurd (omega arith) }
+  due-of is-not k l h = record { kinds = k ∷ []; are = refl; long = refl; short = omega arith; each = one-kind k }
+  due-of is-range k l h = record { kinds = []; are = rw (number-kind k l, h); long = refl; short = omega arith; each = λ j l. absurd (omega arith) }
+  due-of is-other k l h = true≢false (sym h)
 
-  none-due : (f : Form) (k : ℕ) → may-begin t f k ≡ false → due (g .sig) f k ≡ none
-  none-due (is-head c) k h = go (arguments-at (g .sig) k c) refl
+  no-head : (c k : ℕ) → c < constructor-limit → k < kinds-of t → may-begin t (is-head c) k ≡ false → arguments-at (g .sig) k c ≡ none
+  no-head c k m kl h = go (ltb c (constructors-of t)) refl
     where
-      go : (o : Option (List ℕ)) → arguments-at (g .sig) k c ≡ o → o ≡ none
-      go none e = refl
-      go (some ks) e =
-          let (d, e₁, q, a) = constructor-of (g .sig) k c ks e in
-          let l : ltb c (constructors-of t) ≡ true = ltb-yes c (constructors-of t) (rw (g .decoded .constructor-count) (below (g .sig) c d e₁)) in
-          let q′ : eqb (kind-of t c) k ≡ true = rw (g .decoded .kind c d e₁) q in
-          true≢false (sym (rw (l, q′)) ∙ h)
-  none-due (is-var x) k h = true≢false h
-  none-due is-and k h = true≢false h
-  none-due is-or k h = true≢false h
-  none-due is-wild k h = true≢false h
-  none-due is-absurd k h = true≢false h
-  none-due is-not k h = true≢false h
-  none-due is-other k h = refl
+      go : (b : Bool) → ltb c (constructors-of t) ≡ b → arguments-at (g .sig) k c ≡ none
+      go true q = wrong-kind g c (omega (arith, g .decoded .constructor-count, ltb-true c (constructors-of t) q)) k (λ e. true≢false (sym (rw (q, e, eqb-self k)) ∙ h))
+      go false q = no-constructor g k c (omega (arith, g .decoded .constructor-count, ltb-false c (constructors-of t) q)) (rw (leb-no level-base c (omega arith)))
+
+  none-due : (f : Form) (k : ℕ) → k < kinds-of t → head-small f → may-begin t f k ≡ false → due (g .sig) f k ≡ none
+  none-due (is-head c) k l m h = no-head c k m l h
+  none-due (is-var x) k l m h = true≢false h
+  none-due is-and k l m h = true≢false h
+  none-due is-or k l m h = true≢false h
+  none-due is-wild k l m h = true≢false h
+  none-due is-absurd k l m h = true≢false h
+  none-due is-not k l m h = true≢false h
+  none-due is-range k l m h = rw (number-kind k l, h)
+  none-due is-other k l m h = refl
+
+  -- the kind of a part exists
+  pub kind-there : (f : Form) (k j : ℕ) → k < kinds-of t → may-begin t f k ≡ true → j < part-count t f → kind-behind t f k j < kinds-of t
+  kind-there (is-head c) k j l h m =
+      let i = in-signature c k h in
+      let n : j < length (arguments (g .sig) c) = omega (arith, arity-is g c i) in
+      omega (arith, g .decoded .kind-count, argument-is g c i j n, all-at (arguments-below g k c (arguments (g .sig) c) (head-arguments k c l h)) j (getD (arguments (g .sig) c) j 0) (at-getD (arguments (g .sig) c) j n))
+  kind-there (is-var x) k j l h m = l
+  kind-there is-and k j l h m = l
+  kind-there is-or k j l h m = l
+  kind-there is-wild k j l h m = l
+  kind-there is-absurd k j l h m = l
+  kind-there is-not k j l h m = l
+  kind-there is-range k j l h m = l
+  kind-there is-other k j l h m = l
 
 pub begins-yes : (t : List ℕ) (c k n r : ℕ) → n ≡ constructors-of t → c < n → r ≡ kind-of t c → eqb r k ≡ may-begin t (is-head c) k
 begins-yes t c k n r e l q = rw (ltb-yes c (constructors-of t) (omega (arith, e)), q)
@@ -122,16 +138,28 @@ empty t k ws h g zero l = refl
 empty t k [] h g (suc d) l = refl
 empty t k (w ∷ ws) h g (suc d) l = absurd (omega arith)
 
-first-skips : (sig : Signature) (d k : ℕ) (ws : List ℕ) (f : Form) → 0 < length ws → f ≡ form (getD ws 0 0) → part-skips sig (suc d) k ws ≡ (due sig f k >>= λ ks. skip-each (part-skips sig d) ks (drop 1 ws))
-first-skips sig d k [] f l e = absurd (omega arith)
-first-skips sig d k (w ∷ ws) f l e = rw e (form-skips (λ j us. read-one sig d j us) sig (form w) k ws)
+first-skips : (sig : Signature) (d k : ℕ) (ws : List ℕ) (f : Form) → 0 < length ws → f ≡ form (getD ws 0 0) → own-words f ≤ length ws → part-skips sig (suc d) k ws ≡ (due sig f k >>= λ ks. skip-each (part-skips sig d) ks (drop (own-words f) ws))
+first-skips sig d k [] f l e o = absurd (omega arith)
+first-skips sig d k (w ∷ ws) f l e o = subst (λ (x : Form). own-words x ≤ suc (length ws) → rest-of (read-by-form sig (λ j us. read-one sig d j us) (form w) k ws) ≡ (due sig x k >>= λ ks. skip-each (part-skips sig d) ks (drop (own-words x) (w ∷ ws)))) (sym e) (form-skips (λ j us. read-one sig d j us) sig (form w) k w ws) o
 
-pub refused : (t : List ℕ) (k : ℕ) (ws : List ℕ) (f : Form) → 0 < length ws → f ≡ form (getD ws 0 0) → may-begin t f k ≡ false → Gave t k ws Bad
-refused t k ws f l e h g zero m = absurd (omega arith)
-refused t k ws f l e h g (suc d) m = ends-bad ws (read-one (g .sig) (suc d) k ws) (first-skips (g .sig) d k ws f l e ∙ (rw (none-due t g f k h)))
+first-cut : (sig : Signature) (d k : ℕ) (ws : List ℕ) (f : Form) → 0 < length ws → f ≡ form (getD ws 0 0) → length ws < own-words f → part-skips sig (suc d) k ws ≡ none
+first-cut sig d k [] f l e o = absurd (omega arith)
+first-cut sig d k (w ∷ ws) f l e o = form-cut (λ j us. read-one sig d j us) sig (form w) k ws (subst (λ (x : Form). suc (length ws) < own-words x) e o)
 
-pub start : (t : List ℕ) (k : ℕ) (ws : List ℕ) (f : Form) → 0 < length ws → f ≡ form (getD ws 0 0) → Left t k f ws 1 0
-start t k ws f l e g u d m = first-skips (g .sig) d k ws f l e ∙ (rw (u .are))
+pub refused : (t : List ℕ) (k : ℕ) (ws : List ℕ) (f : Form) → k < kinds-of t → 0 < length ws → f ≡ form (getD ws 0 0) → may-begin t f k ≡ false → Gave t k ws Bad
+refused t k ws f kl l e h g zero m = absurd (omega arith)
+refused t k ws f kl l e h g (suc d) m = go (decLe (own-words f) (length ws))
+  where
+    go : Dec (own-words f ≤ length ws) → Bad ≡ end-of ws (read-one (g .sig) (suc d) k ws)
+    go (yes o) = ends-bad ws (read-one (g .sig) (suc d) k ws) (first-skips (g .sig) d k ws f l e o ∙ (rw (none-due t g f k kl (small (getD ws 0 0) f e) h)))
+    go (no o) = ends-bad ws (read-one (g .sig) (suc d) k ws) (first-cut (g .sig) d k ws f l e (omega arith))
+
+pub cut-short : (t : List ℕ) (k : ℕ) (ws : List ℕ) (f : Form) → 0 < length ws → f ≡ form (getD ws 0 0) → length ws < own-words f → Gave t k ws Bad
+cut-short t k ws f l e o g zero m = absurd (omega arith)
+cut-short t k ws f l e o g (suc d) m = ends-bad ws (read-one (g .sig) (suc d) k ws) (first-cut (g .sig) d k ws f l e o)
+
+pub start : (t : List ℕ) (k : ℕ) (ws : List ℕ) (f : Form) → 0 < length ws → f ≡ form (getD ws 0 0) → own-words f ≤ length ws → Left t k f ws (own-words f) 0
+start t k ws f l e o g u d m = first-skips (g .sig) d k ws f l e o ∙ (rw (u .are))
 
 one-due : (one : ℕ → List ℕ → Option (List ℕ)) (ks ws : List ℕ) (j k : ℕ) → j < length ks → getD ks j 0 ≡ k → skip-each one (drop j ks) ws ≡ (one k ws >>= λ us. skip-each one (drop (j + 1) ks) us)
 one-due one ks ws j k l e = rw (drop-cons ks j 0 l, e, add-one j)
@@ -155,22 +183,22 @@ module _ (t : List ℕ) (k : ℕ) (f : Form) (ws : List ℕ) (i j n : ℕ) (n-is
       let y : part-skips (g .sig) d kj (drop i ws) ≡ some (drop (i + m) ws) = rw (to-end ws i, drop-drop m i ws) at (x .0) in
       left g u d ld ∙ one-due (part-skips (g .sig) d) (u .kinds) (drop i ws) j kj b (u .each j b ∙ sym q) ∙ (rw y)
 
-  pub next-bad : (kj : ℕ) (r : End) → j < n → 0 < length ws → 1 ≤ i → i ≤ length ws → kj ≡ kind-behind t f k j → Gave t kj (part ws i) r → r ≡ Bad → Left t k f ws i j → may-begin t f k ≡ true → Gave t k ws Bad
-  next-bad kj r lj lw li l q h e left s g zero ld = absurd (omega arith)
-  next-bad kj r lj lw li l q h e left s g (suc d) ld =
-      let u = due-of t g f k s in
+  pub next-bad : (kj : ℕ) (r : End) → j < n → 0 < length ws → 1 ≤ i → i ≤ length ws → kj ≡ kind-behind t f k j → Gave t kj (part ws i) r → r ≡ Bad → Left t k f ws i j → k < kinds-of t → may-begin t f k ≡ true → Gave t k ws Bad
+  next-bad kj r lj lw li l q h e left kl s g zero ld = absurd (omega arith)
+  next-bad kj r lj lw li l q h e left kl s g (suc d) ld =
+      let u = due-of t g f k kl s in
       let b : j < length (u .kinds) = omega (arith, u .long) in
       let x : part-skips (g .sig) d kj (drop i ws) ≡ none = rw (to-end ws i) at (bad-ended (g .sig) d kj (part ws i) (sym e ∙ h g d (simp (to-end, length-drop) (omega arith)))) in
       ends-bad ws (read-one (g .sig) (suc d) k ws) (left g u d ld ∙ one-due (part-skips (g .sig) d) (u .kinds) (drop i ws) j kj b (u .each j b ∙ sym q) ∙ (rw x))
 
-  pub turns-end : n ≤ j → 0 < length ws → i ≤ length ws → Left t k f ws i j → may-begin t f k ≡ true → Gave t k ws (At i)
-  turns-end lj lw l left s g zero ld = absurd (omega arith)
-  turns-end lj lw l left s g (suc d) ld =
-      let u = due-of t g f k s in
+  pub turns-end : n ≤ j → 0 < length ws → i ≤ length ws → Left t k f ws i j → k < kinds-of t → may-begin t f k ≡ true → Gave t k ws (At i)
+  turns-end lj lw l left kl s g zero ld = absurd (omega arith)
+  turns-end lj lw l left kl s g (suc d) ld =
+      let u = due-of t g f k kl s in
       ends i ws (read-one (g .sig) (suc d) k ws) (left g u d ld ∙ none-left (part-skips (g .sig) d) (u .kinds) (drop i ws) j (omega (arith, u .long))) l
 
-pub few-parts : (t : List ℕ) (g : Known t) (f : Form) (k : ℕ) → may-begin t f k ≡ true → part-count t f ≤ argument-limit
-few-parts t g f k h = let u = due-of t g f k h in omega (arith, u .long, u .short)
+pub few-parts : (t : List ℕ) (g : Known t) (f : Form) (k : ℕ) → k < kinds-of t → may-begin t f k ≡ true → part-count t f ≤ argument-limit
+few-parts t g f k l h = let u = due-of t g f k l h in omega (arith, u .long, u .short)
 
 -- the whole: at most so many words, and nothing left over
 whole-ended : (ws : List ℕ) (n : ℕ) (o : Option (Pattern × List ℕ)) → rest-of o ≡ some (drop n ws) → n ≤ length ws → is-some (o >>= whole) ≡ eqb n (length ws)

@@ -5,9 +5,10 @@ use mathlib.Core.Bool.{Bool, true, false, _&&_}
 use Prim.Native.Nat.{ℕ, _-_}
 use lib.Dec.{ltb, eqb}
 use lib.ListN.{length}
-use Rattle.signature.specs.Decoded.{kind-of, argument-of, constructors-of}
+use Rattle.signature.specs.Decoded.{kind-of, argument-of, first-of, constructors-of}
+use Rattle.signature.specs.Limits.{level-base}
 use Rattle.pattern.specs.Pattern.{Pattern}
-use Rattle.pattern.specs.Read.{Form, is-head, is-var, is-and, is-or, is-wild, is-absurd, is-not, is-other}
+use Rattle.pattern.specs.Read.{Form, is-head, is-var, is-and, is-or, is-wild, is-absurd, is-not, is-range, is-other}
 use Rattle.reading.specs.declared.read.End.{End}
 use Rattle.reading.specs.declared.read.End.the-variants.{At, Bad}
 
@@ -25,6 +26,7 @@ may-begin t is-or k = true
 may-begin t is-wild k = true
 may-begin t is-absurd k = true
 may-begin t is-not k = true
+may-begin t is-range k = eqb (first-of t k) level-base
 may-begin t is-other k = false
 
 -- the kind of the j-th pattern behind a word that begins a pattern of kind k
@@ -36,4 +38,5 @@ kind-behind t is-or k j = k
 kind-behind t is-wild k j = k
 kind-behind t is-absurd k j = k
 kind-behind t is-not k j = k
+kind-behind t is-range k j = k
 kind-behind t is-other k j = k

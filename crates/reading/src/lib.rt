@@ -1,2 +1,3 @@
-// The reader of patterns.
+// Whether words are a pattern, and whether its ranges are right.
+pub mod ranges;
 pub mod read;

@@ -4,14 +4,16 @@ use pattern::token::Word;
 use pattern::token::classify;
 use pattern::token::own_words;
 use pattern::token::parts;
+use signature::decoded::LEVEL_BASE;
 use signature::decoded::argument_of;
 use signature::decoded::constructors_of;
+use signature::decoded::first_of;
 use signature::decoded::kind_of;
 ghost use mathlib.Core.Path.{_≡_};
 ghost use Prim.Native.Nat.{ℕ, _≤_, _<_};
 ghost use lib.ListN.{length};
-ghost use Rattle.signature.specs.Decoded.{decoded-length, Known};
-ghost use Rattle.signature.specs.Limits.{argument-limit};
+ghost use Rattle.signature.specs.Decoded.{decoded-length, kinds-of, Known};
+ghost use Rattle.signature.specs.Limits.{argument-limit, kind-limit};
 ghost use Rattle.signature.specs.Lists.{is-some};
 ghost use Rattle.reading.specs.End.{end-of, may-begin, kind-behind};
 ghost use Rattle.pattern.specs.Read.{read-one, read-pattern};
@@ -25,7 +27,7 @@ pub enum End {
 
 // Whether a word can begin a pattern of kind `k`.
 fn may_begin(t: &[u16], w: Word, k: u16) -> bool
-    requires { ⌜ (length (now t) ≡ decoded-length) × head-small (form-of w) ⌝ }
+    requires { ⌜ (length (now t) ≡ decoded-length) × head-small (form-of w) × (k < kind-limit) ⌝ }
     ensures { λ r. ⌜ r ≡ may-begin (now (t .entry)) (form-of w) k ⌝ }
 {
     match w {
@@ -41,6 +43,7 @@ fn may_begin(t: &[u16], w: Word, k: u16) -> bool
         Word::Absurd => true,
         Word::Not => true,
         Word::Var(_x) => true,
+        Word::Range => first_of(t, k as usize) == LEVEL_BASE,
         Word::Other => false,
     }
 }
@@ -58,13 +61,14 @@ fn part_kind(t: &[u16], w: Word, k: u16, j: usize) -> u16
         Word::Absurd => k,
         Word::Not => k,
         Word::Var(_x) => k,
+        Word::Range => k,
         Word::Other => k,
     }
 }
 
 // The end of the pattern of kind `k` that begins `p`.
 fn read_one(t: &[u16], p: &[u16], k: u16) -> End
-    requires { ⌜ Known (now t) ⌝ }
+    requires { ⌜ Known (now t) × (k < kinds-of (now t)) ⌝ }
     ensures { λ r. ⌜ ((g : Known (now (t .entry))) (d : ℕ) → length (now (p .entry)) ≤ d → r ≡ end-of (now (p .entry)) (read-one (g .sig) d k (now (p .entry)))) ⌝ }
 {
     if p.len() == 0 {
@@ -76,6 +80,9 @@ fn read_one(t: &[u16], p: &[u16], k: u16) -> End
     }
     let n = parts(t, w) as usize;
     let mut at = own_words(w);
+    if p.len() < at {
+        return End::Bad;
+    }
     let mut j = 0;
     while j < n {
         let End::At(m) = read_one(t, &p[at..], part_kind(t, w, k, j)) else {

@@ -25,7 +25,7 @@ use Rattle.pattern.specs.Decide.{is-fit, decide}
 use Rattle.pattern.specs.Limits.{pattern-limit}
 use Rattle.pattern.specs.Linear.{E, O}
 use Rattle.pattern.specs.Match.{Binds, Fits, Fails}
-use Rattle.pattern.specs.Pattern.{Pattern, pattern-code, var, wild, absurd-pat, neg, and, or, head, Patterns, pnil, pcons}
+use Rattle.pattern.specs.Pattern.{Pattern, pattern-code, var, wild, absurd-pat, neg, and, or, head, range, Patterns, pnil, pcons}
 use Rattle.pattern.specs.Read.{read-pattern}
 use Rattle.pattern.specs.WellFormed.{WellFormed, PatternWords, well-not, well-and, well-or, well-head, AllWellFormed, well-cons}
 use Rattle.pattern.proofs.Decided.{fits-decide, fails-decide, decide-fits, decide-fails}
@@ -85,6 +85,7 @@ module _ (sig : Signature) where
       ambiguous-exists (var x) m s e = true≢false (sym e)
       ambiguous-exists wild m s e = true≢false (sym e)
       ambiguous-exists absurd-pat m s e = true≢false (sym e)
+      ambiguous-exists (range low high) m s e = true≢false (sym e)
       ambiguous-exists (neg p) m (well-not s) e = under-not (ambiguous-exists′ p m s e)
       ambiguous-exists (and p q) {k} m (well-and s t) e = go (either (ambiguous-plus sig k p) (ambiguous-plus sig k q) e) (λ y. ambiguous-exists p m s y) (λ y. ambiguous-exists q m t y)
         where
@@ -113,6 +114,7 @@ module _ (sig : Signature) where
       ambiguous-exists′ (var x) m s e = true≢false (sym e)
       ambiguous-exists′ wild m s e = true≢false (sym e)
       ambiguous-exists′ absurd-pat m s e = true≢false (sym e)
+      ambiguous-exists′ (range low high) m s e = true≢false (sym e)
       ambiguous-exists′ (neg p) m (well-not s) e = under-not (ambiguous-exists p m s e)
       ambiguous-exists′ (or p q) {k} m (well-or s t) e = go (either (ambiguous-minus sig k p) (ambiguous-minus sig k q) e) (λ y. ambiguous-exists′ p m s y) (λ y. ambiguous-exists′ q m t y)
         where
@@ -160,6 +162,7 @@ module _ (sig : Signature) where
     ambiguous-parts (var x) s itself a = elim a [ ]
     ambiguous-parts wild s itself a = elim a [ ]
     ambiguous-parts absurd-pat s itself a = elim a [ ]
+    ambiguous-parts (range low high) s itself a = elim a [ ]
     ambiguous-parts (neg p) (well-not s) (in-not h) a = ambiguous-parts′ p s h a
     ambiguous-parts (and p q) {k} (well-and s t) (in-and-left h) a = or-true-left (ambiguous-plus sig k p) (ambiguous-plus sig k q) (ambiguous-parts p s h a)
     ambiguous-parts (and p q) {k} (well-and s t) (in-and-right h) a = or-true-right (ambiguous-plus sig k p) (ambiguous-plus sig k q) (ambiguous-parts q t h a)
@@ -172,6 +175,7 @@ module _ (sig : Signature) where
     ambiguous-parts′ (var x) s itself a = elim a [ ]
     ambiguous-parts′ wild s itself a = elim a [ ]
     ambiguous-parts′ absurd-pat s itself a = elim a [ ]
+    ambiguous-parts′ (range low high) s itself a = elim a [ ]
     ambiguous-parts′ (neg p) (well-not s) (in-not h) a = ambiguous-parts p s h a
     ambiguous-parts′ (or p q) {k} (well-or s t) (in-or-left h) a = or-true-left (ambiguous-minus sig k p) (ambiguous-minus sig k q) (ambiguous-parts′ p s h a)
     ambiguous-parts′ (or p q) {k} (well-or s t) (in-or-right h) a = or-true-right (ambiguous-minus sig k p) (ambiguous-minus sig k q) (ambiguous-parts′ q t h a)

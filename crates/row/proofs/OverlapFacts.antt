@@ -2,11 +2,11 @@
 use mathlib.Core.Path.{_≡_, refl, _∙_, sym, ap}
 use mathlib.Core.List.{List, [], _∷_, _++_}
 use mathlib.Core.Option.{some}
-use mathlib.Core.Bool.{true, not, Bool, false, cond, _&&_, _||_}
+use mathlib.Core.Bool.{true, not, Bool, false, _&&_, _||_}
 use Prim.Native.Nat.{ℕ, _≤_, _*_, _+_, suc}
 use native.Mathlib.Omega.{arith}
 use lib.Dec.{eqb}
-use lib.ListN.{length, getElem?}
+use lib.ListN.{length}
 use Rattle.signature.specs.Lawful.{OfKind, OfKinds, of-kind, of-kinds-nil, of-kinds-cons}
 use Rattle.signature.specs.Limits.{small-size, argument-limit}
 use Rattle.signature.specs.Lists.{is-empty, somes, All, memb, require, _>>=_, keep, none-left, also}
@@ -18,11 +18,12 @@ use Rattle.signature.proofs.ListFacts.{Kept, dropped, kept, kept-bind, kept-if,
 use Rattle.signature.proofs.Members.{all-of}
 use Rattle.signature.proofs.Tests.{eqb-eq, true≢false, eqb-self}
 use Rattle.pattern.specs.Decide.{is-fit, decide}
-use Rattle.pattern.specs.Pattern.{Pattern, var, wild, absurd-pat, neg, and, or, head, Patterns, pnil, pcons, pattern-code}
+use Rattle.pattern.specs.Pattern.{Pattern, var, wild, absurd-pat, neg, and, or, head, range, Patterns, pnil, pcons, pattern-code}
+use Rattle.pattern.specs.Range.{within}
 use Rattle.pattern.specs.WellFormed.{WellFormed, well-not, well-and, well-or, well-head, AllWellFormed, well-nil, well-cons}
 use Rattle.row.specs.Limits.{place-words}
 use Rattle.row.specs.Overlap.{overlap}
-use Rattle.row.specs.Row.{Row, each, combine, rows-plus, Rows, named, free, rnil, rcons, combines, open-rows, other-than, open-row, rows-minus, args-plus, args-minus}
+use Rattle.row.specs.Row.{Row, each, combine, rows-plus, Rows, named, free, rnil, rcons, combines, open-rows, allowing, open-row, rows-minus, args-plus, args-minus}
 use Rattle.row.specs.RowFits.{fits-some, row-fits, place-count, rows-fit, places-count}
 pub use Rattle.row.specs.RowFits.{Good, good-named, good-free, Goods, goods-nil, goods-cons}
 use Rattle.row.proofs.Places.{all-each, product-places, plus-places}
@@ -43,13 +44,13 @@ module _ (sig : Signature) where
 
   mutual
     pub combine-good : {k : ℕ} (r s : Row) → Good sig k r → Good sig k s → Kept (Good sig k) (combine r s)
-    combine-good {k} (named xs c rs) (named ys d ss) (good-named {js = js} e g) (good-named {js = is} e′ h) = go (eqb c d) refl (λ h′. combines-good rs ss g h′)
+    combine-good {k} (named xs c rs) (named ys d ss) (good-named {js = js} l e g) (good-named {js = is} l′ e′ h) = go (eqb c d) refl (λ h′. combines-good rs ss g h′)
       where
         go : (b : Bool) → eqb c d ≡ b → (Goods sig js ss → Kept (Goods sig js) (combines rs ss)) → Kept (Good sig k) (combine (named xs c rs) (named ys d ss))
-        go true q f = rw q (kept-bind _ (λ ts w. kept (named (xs ++ ys) c ts) (good-named e w)) (f (rw (same-args sig k c d e e′ (eqb-eq c d q)) at h)))
+        go true q f = rw q (kept-bind _ (λ ts w. kept (named (xs ++ ys) c ts) (good-named l e w)) (f (rw (same-args sig k c d e e′ (eqb-eq c d q)) at h)))
         go false q f = rw q dropped
-    combine-good (named xs c rs) (free ys (d ∷ ds)) (good-named e g) (good-free h) = kept-if (memb c (d ∷ ds)) (named (xs ++ ys) c rs) (λ q. good-named e g)
-    combine-good (free xs (c ∷ cs)) (named ys d ss) (good-free h) (good-named e g) = kept-if (memb d (c ∷ cs)) (named (xs ++ ys) d ss) (λ q. good-named e g)
+    combine-good (named xs c rs) (free ys (d ∷ ds)) (good-named l e g) (good-free h) = kept-if (memb c (d ∷ ds)) (named (xs ++ ys) c rs) (λ q. good-named l e g)
+    combine-good (free xs (c ∷ cs)) (named ys d ss) (good-free h) (good-named l e g) = kept-if (memb d (c ∷ cs)) (named (xs ++ ys) d ss) (λ q. good-named l e g)
     combine-good (free xs (c ∷ cs)) (free ys (d ∷ ds)) (good-free h) (good-free g) = free-good (xs ++ ys) (keep (λ e. memb e (d ∷ ds)) (c ∷ cs)) (keep-all (λ e. memb e (d ∷ ds)) h)
 
     pub combines-good : {ks : List ℕ} (rs ss : Rows) → Goods sig ks rs → Goods sig ks ss → Kept (Goods sig ks) (combines rs ss)
@@ -69,10 +70,10 @@ module _ (sig : Signature) where
   opens-good none-left = goods-nil
   opens-good (also k s p) = goods-cons (all-good [] s) (opens-good p)
 
-  other-good : (k c : ℕ) → All (Good sig k) (other-than sig k c)
-  other-good k c = go (keep (λ d. not (eqb c d)) (heads sig k)) (keep-all (λ d. not (eqb c d)) (all-of (heads sig k) (λ d m. m)))
+  kept-good : (f : ℕ → Bool) (k : ℕ) → All (Good sig k) (allowing (keep f (heads sig k)))
+  kept-good f k = go (keep f (heads sig k)) (keep-all f (all-of (heads sig k) (λ d m. m)))
     where
-      go : (cs : List ℕ) → All (λ d. memb d (heads sig k) ≡ true) cs → All (Good sig k) (cond (is-empty cs) [] (free [] cs ∷ []))
+      go : (cs : List ℕ) → All (λ d. memb d (heads sig k) ≡ true) cs → All (Good sig k) (allowing cs)
       go [] h = none-left
       go (d ∷ ds) h = also (free [] (d ∷ ds)) (good-free h) none-left
 
@@ -86,7 +87,8 @@ module _ (sig : Signature) where
       plus-good (neg p) m (well-not s) = minus-good p m s
       plus-good (and p q) m (well-and s t) = all-somes (all-each combine (λ a b g h. combine-good sig a b g h) (plus-good p m s) (plus-good q m t))
       plus-good (or p q) m (well-or s t) = all-append (plus-good p m s) (plus-good q m t)
-      plus-good {k} (head c ps) m (well-head {ks = ks} l e s) = rw (args-same sig k c ks e) (all-map (named [] c) (λ rs g. good-named e g) (args-plus-good ps (args-small k c ks e) s))
+      plus-good {k} (head c ps) m (well-head {ks = ks} l e s) = rw (args-same sig k c ks e) (all-map (named [] c) (λ rs g. good-named l e g) (args-plus-good ps (args-small k c ks e) s))
+      plus-good {k} (range low high) m s = kept-good sig (λ d. within low high d) k
 
       pub minus-good : {k : ℕ} (p : Pattern) → Small sig k → WellFormed sig k p → All (Good sig k) (rows-minus sig k p)
       minus-good (var x) m s = none-left
@@ -95,7 +97,8 @@ module _ (sig : Signature) where
       minus-good (neg p) m (well-not s) = plus-good p m s
       minus-good (and p q) m (well-and s t) = all-append (minus-good p m s) (minus-good q m t)
       minus-good (or p q) m (well-or s t) = all-somes (all-each combine (λ a b g h. combine-good sig a b g h) (minus-good p m s) (minus-good q m t))
-      minus-good {k} (head c ps) m (well-head {ks = ks} l e s) = rw (args-same sig k c ks e) (all-append (other-good sig k c) (all-map (named [] c) (λ rs g. good-named e g) (args-minus-good ps (args-small k c ks e) s)))
+      minus-good {k} (head c ps) m (well-head {ks = ks} l e s) = rw (args-same sig k c ks e) (all-append (kept-good sig (λ d. not (eqb c d)) k) (all-map (named [] c) (λ rs g. good-named l e g) (args-minus-good ps (args-small k c ks e) s)))
+      minus-good {k} (range low high) m s = kept-good sig (λ d. not (within low high d)) k
 
       pub args-plus-good : {ks : List ℕ} (ps : Patterns) → All (Small sig) ks → AllWellFormed sig ks ps → All (Goods sig ks) (args-plus sig ks ps)
       args-plus-good pnil m well-nil = also rnil goods-nil none-left
@@ -119,7 +122,7 @@ module _ (sig : Signature) where
 
     mutual
       pub fill : {k : ℕ} (r : Row) → Good sig k r → Filled k r
-      fill {k} (named xs c rs) (good-named e g) =
+      fill {k} (named xs c rs) (good-named l e g) =
           let (vs, h, f, l, m) = fills rs g in
           (con c vs, of-kind e h, rw (eqb-self c) f, omega arith, omega arith)
       fill {k} (free xs (c ∷ cs)) (good-free (also d h p)) = free-filled k d xs cs (kind-of-head sig k d h)

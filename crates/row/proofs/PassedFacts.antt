@@ -1,4 +1,4 @@
--- The refusals 7 to 10 against the patterns that pass them.
+-- The refusals 7, 18 and 8 to 10 against the patterns that pass them.
 use mathlib.Core.Path.{_≡_, refl, sym, _∙_, subst, ap}
 use mathlib.Core.List.{List}
 use mathlib.Core.Option.{Option, none, some}
@@ -20,6 +20,7 @@ use Rattle.pattern.specs.Linear.{linear-plus}
 use Rattle.pattern.specs.Match.{Binds, Fits, Fails}
 use Rattle.pattern.specs.Pattern.{Pattern}
 use Rattle.pattern.specs.Places.{Same, bind-all, unbound}
+use Rattle.pattern.specs.Ranged.{ranged}
 use Rattle.pattern.specs.Read.{read-pattern}
 use Rattle.pattern.specs.Takes.{Takes, TakesNot}
 use Rattle.pattern.specs.Weight.{light-plus}
@@ -46,13 +47,14 @@ module _ (sig : Signature) where
       go : (o : Option Pattern) → read-pattern sig ws ≡ o → refusal-by sig o ≡ 0 → Passed sig ws
       go none q h = absurd (let z : _≡_ {A = ℕ} 7 0 = h in omega arith)
       go (some p) q h =
-          let (a, e₁) = pass (not (linear-plus p)) 8 _ (λ z. omega arith) h in
+          let (r, e₀) = pass (not (ranged p)) 18 _ (λ z. omega arith) h in
+          let (a, e₁) = pass (not (linear-plus p)) 8 _ (λ z. omega arith) e₀ in
           let (b, e₂) = pass (not (light-plus p)) 9 _ (λ z. omega arith) e₁ in
           let (c, e₃) = pass (ambiguous-plus sig 0 p) 10 0 (λ z. omega arith) e₂ in
-          record { pat = p; read = q; linear = not-false (linear-plus p) a; light = not-false (light-plus p) b; plain = λ a′. true≢false (sym (ambiguous-decided sig p (pattern-words sig ws p q .well-formed) a′) ∙ c) }
+          record { pat = p; read = q; ranges = not-false (ranged p) r; linear = not-false (linear-plus p) a; light = not-false (light-plus p) b; plain = λ a′. true≢false (sym (ambiguous-decided sig p (pattern-words sig ws p q .well-formed) a′) ∙ c) }
 
   pub of-passed : Signed sig → (ws : List ℕ) → Passed sig ws → refusal-of-pattern sig ws ≡ 0
-  of-passed signed ws h = rw (h .read, h .linear, h .light, plain (ambiguous-plus sig 0 (h .pat)) refl)
+  of-passed signed ws h = rw (h .read, h .ranges, h .linear, h .light, plain (ambiguous-plus sig 0 (h .pat)) refl)
     where
       plain : (b : Bool) → ambiguous-plus sig 0 (h .pat) ≡ b → ambiguous-plus sig 0 (h .pat) ≡ false
       plain true e =

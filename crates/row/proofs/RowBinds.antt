@@ -2,21 +2,22 @@
 use mathlib.Core.Path.{_≡_, ap, _∙_, ap₂, refl, sym}
 use mathlib.Core.List.{List, _++_, [], _∷_}
 use mathlib.Core.Option.{some, Option, none}
-use mathlib.Core.Bool.{_&&_, Bool, true, false, not, cond, _||_}
+use mathlib.Core.Bool.{_&&_, Bool, true, false, not, _||_}
 use Prim.Native.Nat.{ℕ, suc, _+_}
 use lib.Dec.{eqb}
 use Rattle.signature.specs.Lists.{memb, require, _>>=_, is-empty, keep, All, none-left, also}
 use Rattle.signature.specs.Signature.{Signature, heads, arguments}
 use Rattle.signature.specs.Value.{Value, Values, con, vnil, vcons, size}
-use Rattle.signature.proofs.Booleans.{or-last, or-assoc, or-mix, and-left, and-right, or-false, and-or-false}
+use Rattle.signature.proofs.Booleans.{or-last, or-assoc, or-mix, and-left, and-right, or-false, and-or-false, not-true}
 use Rattle.signature.proofs.ListFacts.{Kept, kept-bind, kept, dropped, kept-when, all-imp, all-somes, all-append, all-map}
 use Rattle.signature.proofs.Members.{vars-join, memb-keep}
 use Rattle.signature.proofs.Tests.{eqb-eq, true≢false, eqb-ne}
-use Rattle.pattern.specs.Match.{Binds, AllFit, Fits, fits-con, SomeFails, Fails, fails-arg, all-cons, all-nil, some-here, some-there, fails-head, fits-var, fits-wild, fits-not, fits-and, fits-left, fits-right, fails-absurd, fails-not, fails-or, fails-left, fails-right}
-use Rattle.pattern.specs.Pattern.{Patterns, head, Pattern, pcons, pnil, var, wild, absurd-pat, neg, and, or}
+use Rattle.pattern.specs.Match.{Binds, AllFit, Fits, fits-con, SomeFails, Fails, fails-arg, all-cons, all-nil, some-here, some-there, fails-head, fits-var, fits-wild, fits-not, fits-and, fits-left, fits-right, fails-absurd, fails-not, fails-or, fails-left, fails-right, fits-range, fails-range}
+use Rattle.pattern.specs.Pattern.{Patterns, head, Pattern, pcons, pnil, var, wild, absurd-pat, neg, and, or, range}
 use Rattle.pattern.specs.Places.{binds}
+use Rattle.pattern.specs.Range.{within}
 use Rattle.pattern.proofs.Unique.{binds-append}
-use Rattle.row.specs.Row.{Row, Rows, named, free, rcons, combine, combines, rnil, open-rows, open-row, other-than, rows-plus, rows-minus, args-plus, args-minus}
+use Rattle.row.specs.Row.{Row, Rows, named, free, rcons, combine, combines, rnil, open-rows, open-row, allowing, rows-plus, rows-minus, args-plus, args-minus}
 use Rattle.row.specs.RowFits.{row-binds, rows-bind, row-fits, rows-fit}
 use Rattle.row.proofs.Kept.{kept-fits}
 use Rattle.row.proofs.Places.{all-each}
@@ -129,19 +130,16 @@ module _ (sig : Signature) where
       let (σ, q, a) = f vs (i + size v) (and-right (row-fits (open-row sig k) v) (rows-fit rs vs) e) in
       (σ, some-there q, a)
 
-  other-means : (k c : ℕ) (ps : Patterns) → All (Means (Fails (head c ps))) (other-than sig k c)
-  other-means k c ps = go (is-empty (keep (λ d. not (eqb c d)) (heads sig k)))
+  -- the heads of a kind that pass a test
+  kept-means : {P : Value → ℕ → Binds → Type 0} (f : ℕ → Bool) (k : ℕ) → ((d i : ℕ) (vs : Values) → f d ≡ true → P (con d vs) i []) → All (Means P) (allowing (keep f (heads sig k)))
+  kept-means {P} f k h = go (keep f (heads sig k)) (λ d e. and-right (memb d (heads sig k)) (f d) (sym (memb-keep f d (heads sig k)) ∙ e))
     where
-      not-true : (b : Bool) → not b ≡ true → b ≡ false
-      not-true true e = sym e
-      not-true false e = refl
-
-      means : Means (Fails (head c ps)) (free [] (keep (λ d. not (eqb c d)) (heads sig k)))
-      means (con d vs) i e = ([], fails-head (eqb-ne c d (not-true (eqb c d) (and-right (memb d (heads sig k)) (not (eqb c d)) (sym (memb-keep (λ d. not (eqb c d)) d (heads sig k)) ∙ e)))), λ x j. refl)
-
-      go : (b : Bool) → All (Means (Fails (head c ps))) (cond b [] (free [] (keep (λ d. not (eqb c d)) (heads sig k)) ∷ []))
-      go true = none-left
-      go false = also (free [] (keep (λ d. not (eqb c d)) (heads sig k))) means none-left
+      go : (cs : List ℕ) → ((d : ℕ) → memb d cs ≡ true → f d ≡ true) → All (Means P) (allowing cs)
+      go [] g = none-left
+      go (c ∷ cs) g = also (free [] (c ∷ cs)) means none-left
+        where
+          means : Means P (free [] (c ∷ cs))
+          means (con d vs) i e = ([], h d i vs (g d e), λ x j. refl)
 
   mutual
     pub plus-means : (k : ℕ) (p : Pattern) → All (Means (Fits p)) (rows-plus sig k p)
@@ -152,6 +150,7 @@ module _ (sig : Signature) where
     plus-means k (and p q) = all-somes (all-each combine (λ r s f g. product-means r s f g (λ v i σ τ a b. fits-and a b)) (plus-means k p) (plus-means k q))
     plus-means k (or p q) = all-append (all-imp (λ r h. weaken (λ v i σ f. fits-left f) r h) (plus-means k p)) (all-imp (λ r h. weaken (λ v i σ f. fits-right f) r h) (plus-means k q))
     plus-means k (head c ps) = all-map (named [] c) (λ rs h. named-means c ps rs h) (args-plus-mean (arguments sig c) ps)
+    plus-means k (range low high) = kept-means (λ d. within low high d) k (λ d i vs e. fits-range e)
 
     pub minus-means : (k : ℕ) (p : Pattern) → All (Means (Fails p)) (rows-minus sig k p)
     minus-means k (var y) = none-left
@@ -160,7 +159,8 @@ module _ (sig : Signature) where
     minus-means k (neg p) = all-imp (λ r h. weaken (λ v i σ f. fails-not f) r h) (plus-means k p)
     minus-means k (or p q) = all-somes (all-each combine (λ r s f g. product-means r s f g (λ v i σ τ a b. fails-or a b)) (minus-means k p) (minus-means k q))
     minus-means k (and p q) = all-append (all-imp (λ r h. weaken (λ v i σ f. fails-left f) r h) (minus-means k p)) (all-imp (λ r h. weaken (λ v i σ f. fails-right f) r h) (minus-means k q))
-    minus-means k (head c ps) = all-append (other-means k c ps) (all-map (named [] c) (λ rs h. named-fails c ps rs h) (args-minus-mean (arguments sig c) ps))
+    minus-means k (head c ps) = all-append (kept-means (λ d. not (eqb c d)) k (λ d i vs e. fails-head (eqb-ne c d (not-true (eqb c d) e)))) (all-map (named [] c) (λ rs h. named-fails c ps rs h) (args-minus-mean (arguments sig c) ps))
+    minus-means k (range low high) = kept-means (λ d. not (within low high d)) k (λ d i vs e. fails-range (not-true (within low high d) e))
 
     pub args-plus-mean : (ks : List ℕ) (ps : Patterns) → All (Means-all (AllFit ps)) (args-plus sig ks ps)
     args-plus-mean ks pnil = also rnil nil-means none-left

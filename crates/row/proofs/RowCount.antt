@@ -2,7 +2,7 @@
 use mathlib.Core.Path.{_≡_, sym, refl}
 use mathlib.Core.List.{List, [], _∷_, map, _++_}
 use mathlib.Core.Option.{some}
-use mathlib.Core.Bool.{not, Bool, cond, true, false, _&&_}
+use mathlib.Core.Bool.{not, Bool, true, false, _&&_}
 use Prim.Native.Nat.{_*_, ℕ, _≤_, _+_}
 use native.Mathlib.Nat.{zero-mul, suc-mul}
 use native.Mathlib.Omega.{arith}
@@ -14,23 +14,21 @@ use Rattle.signature.proofs.Booleans.{and-left, and-right}
 use Rattle.signature.proofs.ListFacts.{length-somes, Kept, kept-bind, kept, dropped, kept-when, all-somes, kept-map, all-imp, all-append, all-map}
 use Rattle.signature.proofs.Tests.{times-less}
 use Rattle.pattern.specs.Linear.{disjoint, linear-plus, E, same-set, E-all, linear-minus, O, O-all, all-plus, all-minus}
-use Rattle.pattern.specs.Pattern.{Pattern, var, wild, absurd-pat, neg, and, or, head, Patterns, pnil, pcons}
+use Rattle.pattern.specs.Pattern.{Pattern, var, wild, absurd-pat, neg, and, or, head, range, Patterns, pnil, pcons}
 use Rattle.pattern.specs.Places.{tick}
+use Rattle.pattern.specs.Range.{within}
 use Rattle.pattern.specs.Weight.{weight-plus, weight-minus, product-plus, sum-minus}
 use Rattle.pattern.proofs.Once.{disjoint-tick, left-tick, right-tick, one-tick}
-use Rattle.row.specs.Row.{each, other-than, free, rows-plus, combine, args-plus, named, rows-minus, args-minus, rcons, open-rows, open-row, Row, Rows, rnil, combines}
+use Rattle.row.specs.Row.{each, other-than, allowing, free, rows-plus, combine, args-plus, named, rows-minus, args-minus, rcons, open-rows, open-row, Row, Rows, rnil, combines}
 use Rattle.row.proofs.Places.{all-each}
 
 length-each : {A B C : Type 0} (f : A → B → C) (xs : List A) (ys : List B) → length (each f xs ys) ≡ length xs * length ys
 length-each f [] ys = sym (zero-mul (length ys))
 length-each f (x ∷ xs) ys = rw (length-append (map (f x) ys) (each f xs ys), length-map ys (f x), length-each f xs ys, suc-mul (length xs) (length ys)) (omega arith)
 
-length-other : (sig : Signature) (k c : ℕ) → length (other-than sig k c) ≤ 1
-length-other sig k c = go (is-empty (keep (λ d. not (eqb c d)) (heads sig k)))
-  where
-    go : (b : Bool) → length (cond b [] (free [] (keep (λ d. not (eqb c d)) (heads sig k)) ∷ [])) ≤ 1
-    go true = omega arith
-    go false = omega arith
+length-allowing : (cs : List ℕ) → length (allowing cs) ≤ 1
+length-allowing [] = omega arith
+length-allowing (c ∷ cs) = omega arith
 
 module _ (sig : Signature) where
   mutual
@@ -42,6 +40,7 @@ module _ (sig : Signature) where
     plus-count (and p q) k = omega (arith, length-somes (each combine (rows-plus sig k p) (rows-plus sig k q)), length-each combine (rows-plus sig k p) (rows-plus sig k q), times-less (length (rows-plus sig k p)) (weight-plus p) (length (rows-plus sig k q)) (weight-plus q) (plus-count p k) (plus-count q k))
     plus-count (or p q) k = omega (arith, length-append (rows-plus sig k p) (rows-plus sig k q), plus-count p k, plus-count q k)
     plus-count (head c ps) k = omega (arith, length-map (args-plus sig (arguments sig c) ps) (named [] c), args-plus-count ps (arguments sig c))
+    plus-count (range low high) k = length-allowing (keep (λ d. within low high d) (heads sig k))
 
     pub minus-count : (p : Pattern) (k : ℕ) → length (rows-minus sig k p) ≤ weight-minus p
     minus-count (var x) k = omega arith
@@ -50,7 +49,8 @@ module _ (sig : Signature) where
     minus-count (neg p) k = plus-count p k
     minus-count (or p q) k = omega (arith, length-somes (each combine (rows-minus sig k p) (rows-minus sig k q)), length-each combine (rows-minus sig k p) (rows-minus sig k q), times-less (length (rows-minus sig k p)) (weight-minus p) (length (rows-minus sig k q)) (weight-minus q) (minus-count p k) (minus-count q k))
     minus-count (and p q) k = omega (arith, length-append (rows-minus sig k p) (rows-minus sig k q), minus-count p k, minus-count q k)
-    minus-count (head c ps) k = omega (arith, length-append (other-than sig k c) (map (named [] c) (args-minus sig (arguments sig c) ps)), length-other sig k c, length-map (args-minus sig (arguments sig c) ps) (named [] c), args-minus-count ps (arguments sig c))
+    minus-count (head c ps) k = omega (arith, length-append (other-than sig k c) (map (named [] c) (args-minus sig (arguments sig c) ps)), length-allowing (keep (λ d. not (eqb c d)) (heads sig k)), length-map (args-minus sig (arguments sig c) ps) (named [] c), args-minus-count ps (arguments sig c))
+    minus-count (range low high) k = length-allowing (keep (λ d. not (within low high d)) (heads sig k))
 
     pub args-plus-count : (ps : Patterns) (ks : List ℕ) → length (args-plus sig ks ps) ≤ product-plus ps
     args-plus-count pnil ks = omega arith
@@ -114,6 +114,10 @@ pub opens-none : (sig : Signature) (ks : List ℕ) (x : ℕ) → occurs-all x (o
 opens-none sig [] x = refl
 opens-none sig (k ∷ ks) x = omega (arith, opens-none sig ks x)
 
+allowing-once : (xs cs : List ℕ) → All (OnceIn xs) (allowing cs)
+allowing-once xs [] = none-left
+allowing-once xs (c ∷ cs) = also (free [] (c ∷ cs)) (λ x. omega arith) none-left
+
 product-once : (xs ys : List ℕ) {rs ss : List Row} → disjoint xs ys ≡ true → All (OnceIn xs) rs → All (OnceIn ys) ss → All (OnceIn (xs ++ ys)) (somes (each combine rs ss))
 product-once xs ys d a b = all-somes (all-each combine (λ r s (f : OnceIn xs r) (g : OnceIn ys s). kept-map (λ t (h : Adds r s t) x. omega (arith, h x, f x, g x, disjoint-tick x xs ys d)) (combine-adds r s)) a b)
 
@@ -124,13 +128,6 @@ to-right : (xs ys : List ℕ) {rs : List Row} → All (OnceIn ys) rs → All (On
 to-right xs ys h = all-imp (λ r (f : OnceIn ys r) x. omega (arith, f x, right-tick x xs ys)) h
 
 module _ (sig : Signature) where
-  other-once : (k c : ℕ) (xs : List ℕ) → All (OnceIn xs) (other-than sig k c)
-  other-once k c xs = go (is-empty (keep (λ d. not (eqb c d)) (heads sig k)))
-    where
-      go : (b : Bool) → All (OnceIn xs) (cond b [] (free [] (keep (λ d. not (eqb c d)) (heads sig k)) ∷ []))
-      go true = none-left
-      go false = also (free [] (keep (λ d. not (eqb c d)) (heads sig k))) (λ x. omega arith) none-left
-
   mutual
     pub plus-once : (p : Pattern) (k : ℕ) → linear-plus p ≡ true → All (OnceIn (E p)) (rows-plus sig k p)
     plus-once (var y) k l = also (free (y ∷ []) (heads sig k)) (λ x. one-tick (eqb x y)) none-left
@@ -144,6 +141,7 @@ module _ (sig : Signature) where
         let a : (linear-plus p && linear-plus q) ≡ true = and-left (linear-plus p && linear-plus q) (same-set (E p) (E q)) l in
         all-append (to-left (E p) (E q) (plus-once p k (and-left (linear-plus p) (linear-plus q) a))) (to-right (E p) (E q) (plus-once q k (and-right (linear-plus p) (linear-plus q) a)))
     plus-once (head c ps) k l = all-map (named [] c) (λ rs (f : OncesIn (E-all ps) rs) x. omega (arith, f x)) (args-plus-once ps (arguments sig c) l)
+    plus-once (range low high) k l = allowing-once [] (keep (λ d. within low high d) (heads sig k))
 
     pub minus-once : (p : Pattern) (k : ℕ) → linear-minus p ≡ true → All (OnceIn (O p)) (rows-minus sig k p)
     minus-once (var y) k l = none-left
@@ -156,7 +154,8 @@ module _ (sig : Signature) where
     minus-once (and p q) k l =
         let a : (linear-minus p && linear-minus q) ≡ true = and-left (linear-minus p && linear-minus q) (same-set (O p) (O q)) l in
         all-append (to-left (O p) (O q) (minus-once p k (and-left (linear-minus p) (linear-minus q) a))) (to-right (O p) (O q) (minus-once q k (and-right (linear-minus p) (linear-minus q) a)))
-    minus-once (head c ps) k l = all-append (other-once k c (O-all ps)) (all-map (named [] c) (λ rs (f : OncesIn (O-all ps) rs) x. omega (arith, f x)) (args-minus-once ps (arguments sig c) l))
+    minus-once (head c ps) k l = all-append (allowing-once (O-all ps) (keep (λ d. not (eqb c d)) (heads sig k))) (all-map (named [] c) (λ rs (f : OncesIn (O-all ps) rs) x. omega (arith, f x)) (args-minus-once ps (arguments sig c) l))
+    minus-once (range low high) k l = allowing-once [] (keep (λ d. not (within low high d)) (heads sig k))
 
     args-plus-once : (ps : Patterns) (ks : List ℕ) → all-plus ps ≡ true → All (OncesIn (E-all ps)) (args-plus sig ks ps)
     args-plus-once pnil ks l = also rnil (λ x. omega arith) none-left

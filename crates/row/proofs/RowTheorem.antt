@@ -1,5 +1,4 @@
 -- Some row of a pattern fits exactly where the pattern does.
-use lib.ListN.{getElem?}
 use mathlib.Core.Path.{_≡_, refl, ap, _∙_, sym, ap₂}
 use mathlib.Core.List.{List, _∷_, _++_, [], map}
 use mathlib.Core.Option.{Option, none, some}
@@ -7,18 +6,19 @@ use mathlib.Core.Bool.{_&&_, true, not, Bool, false, _||_}
 use Prim.Native.Nat.{ℕ, suc, _+_}
 use lib.Dec.{eqb}
 use Rattle.signature.specs.Lawful.{OfKind, of-kind, OfKinds, of-kinds-nil, of-kinds-cons}
-use Rattle.signature.specs.Lists.{somes, memb, is-empty, keep}
+use Rattle.signature.specs.Lists.{somes, memb, keep}
 use Rattle.signature.specs.Signature.{heads, Signature, arguments}
 use Rattle.signature.specs.Value.{Value, Values, con, vcons, vnil, size}
 use Rattle.signature.proofs.Booleans.{or-assoc, and-false, or-and, and-or, and-true, or-false}
 use Rattle.signature.proofs.Heads.{has-kind, args-same, same-args}
-use Rattle.signature.proofs.Members.{any-append, memb-keep, memb-empty}
+use Rattle.signature.proofs.Members.{any-append, memb-keep}
 use Rattle.signature.proofs.Tests.{eqb-eq}
 use Rattle.pattern.specs.Decide.{is-fit, decides, decide}
-use Rattle.pattern.specs.Pattern.{Patterns, head, Pattern, var, wild, absurd-pat, neg, and, or, pnil, pcons}
+use Rattle.pattern.specs.Pattern.{Patterns, head, Pattern, var, wild, absurd-pat, neg, and, or, range, pnil, pcons}
+use Rattle.pattern.specs.Range.{within}
 use Rattle.pattern.specs.WellFormed.{WellFormed, well-not, well-and, well-or, well-head, AllWellFormed, well-nil, well-cons}
-use Rattle.pattern.proofs.Decided.{fit-swap, fit-both, fit-or, fit-back, not-both, not-either}
-use Rattle.row.specs.Row.{Row, combine, each, Rows, named, rcons, free, open-rows, other-than, args-plus, rows-plus, args-minus, rows-minus, open-row}
+use Rattle.pattern.proofs.Decided.{fit-swap, fit-when, fit-both, fit-or, fit-back, not-both, not-either}
+use Rattle.row.specs.Row.{Row, combine, each, Rows, named, rcons, free, open-rows, other-than, allowing, args-plus, rows-plus, args-minus, rows-minus, open-row}
 use Rattle.row.specs.RowFits.{fits-some, row-fits, rows-fit}
 use Rattle.row.proofs.Kept.{kept-fits, fits-somes}
 use Rattle.row.proofs.RowMeet.{combine-fits}
@@ -66,16 +66,14 @@ module _ (sig : Signature) where
   opens-fit of-kinds-nil = refl
   opens-fit (of-kinds-cons {k = k} {v = v} h g) = rw (open-fits h []) (opens-fit g)
 
-module _ (sig : Signature) where
-  other-fits : (k c d : ℕ) (vs : Values) → memb d (heads sig k) ≡ true → fits-some (other-than sig k c) (con d vs) ≡ not (eqb c d)
-  other-fits k c d vs e = go (is-empty (keep (λ x. not (eqb c x)) (heads sig k))) refl
-    where
-      kept : memb d (keep (λ x. not (eqb c x)) (heads sig k)) ≡ not (eqb c d)
-      kept = memb-keep (λ x. not (eqb c x)) d (heads sig k) ∙ ap (λ b. b && not (eqb c d)) e
+allowing-fits : (cs : List ℕ) (d : ℕ) (vs : Values) → fits-some (allowing cs) (con d vs) ≡ memb d cs
+allowing-fits [] d vs = refl
+allowing-fits (c ∷ cs) d vs = or-false (memb d (c ∷ cs))
 
-      go : (b : Bool) → is-empty (keep (λ x. not (eqb c x)) (heads sig k)) ≡ b → fits-some (other-than sig k c) (con d vs) ≡ not (eqb c d)
-      go true q = rw q (sym (memb-empty d (keep (λ x. not (eqb c x)) (heads sig k)) q) ∙ kept)
-      go false q = rw q (or-false (memb d (keep (λ x. not (eqb c x)) (heads sig k))) ∙ kept)
+module _ (sig : Signature) where
+  -- the heads of a kind that pass a test
+  kept-fits-so : (f : ℕ → Bool) (k d : ℕ) (vs : Values) → memb d (heads sig k) ≡ true → fits-some (allowing (keep f (heads sig k))) (con d vs) ≡ f d
+  kept-fits-so f k d vs e = allowing-fits (keep f (heads sig k)) d vs ∙ memb-keep f d (heads sig k) ∙ ap (λ b. b && f d) e
 
   head-plus : (k c d : ℕ) (ks : List ℕ) (ps : Patterns) (vs : Values) (i : ℕ) → arguments sig c ≡ ks → (c ≡ d → fits-somes (args-plus sig ks ps) vs ≡ is-fit (decides ps vs (suc i))) → fits-some (rows-plus sig k (head c ps)) (con d vs) ≡ is-fit (decide (head c ps) (con d vs) i)
   head-plus k c d ks ps vs i a f = rw a (named-fits c d (args-plus sig ks ps) vs ∙ go (eqb c d) refl)
@@ -85,7 +83,7 @@ module _ (sig : Signature) where
       go false q = rw q
 
   head-minus : (k c d : ℕ) (ks : List ℕ) (ps : Patterns) (vs : Values) (i : ℕ) → arguments sig c ≡ ks → memb d (heads sig k) ≡ true → (c ≡ d → fits-somes (args-minus sig ks ps) vs ≡ not (is-fit (decides ps vs (suc i)))) → fits-some (rows-minus sig k (head c ps)) (con d vs) ≡ not (is-fit (decide (head c ps) (con d vs) i))
-  head-minus k c d ks ps vs i a m f = rw a (any-append (λ r. row-fits r (con d vs)) (other-than sig k c) (map (named [] c) (args-minus sig ks ps)) ∙ ap₂ _||_ (other-fits k c d vs m) (named-fits c d (args-minus sig ks ps) vs) ∙ go (eqb c d) refl)
+  head-minus k c d ks ps vs i a m f = rw a (any-append (λ r. row-fits r (con d vs)) (other-than sig k c) (map (named [] c) (args-minus sig ks ps)) ∙ ap₂ _||_ (kept-fits-so (λ x. not (eqb c x)) k d vs m) (named-fits c d (args-minus sig ks ps) vs) ∙ go (eqb c d) refl)
     where
       go : (b : Bool) → eqb c d ≡ b → (not (eqb c d) || (eqb c d && fits-somes (args-minus sig ks ps) vs)) ≡ not (is-fit (decide (head c ps) (con d vs) i))
       go true q = rw q (f (eqb-eq c d q))
@@ -101,6 +99,7 @@ module _ (sig : Signature) where
     plus-fits {k} (or p q) (well-or s t) v h i = any-append (λ r. row-fits r v) (rows-plus sig k p) (rows-plus sig k q) ∙ ap₂ _||_ (plus-fits p s v h i) (plus-fits q t v h i) ∙ sym (fit-or (decide p v i) (decide q v i))
     plus-fits {k} (head c ps) (well-head {ks = ks} l e s) (con d vs) (of-kind {ks = js} e′ h) i =
         head-plus k c d ks ps vs i (args-same sig k c ks e) (λ q. args-plus-fit ps s vs (rw (same-args sig k c d e e′ q) at h) (suc i))
+    plus-fits {k} (range low high) s (con d vs) (of-kind {ks = js} e h) i = kept-fits-so (λ x. within low high x) k d vs (has-kind sig k d js e) ∙ sym (fit-when (within low high d))
 
     pub minus-fits : {k : ℕ} (p : Pattern) → WellFormed sig k p → (v : Value) → OfKind sig k v → (i : ℕ) → fits-some (rows-minus sig k p) v ≡ not (is-fit (decide p v i))
     minus-fits (var x) s v h i = refl
@@ -111,6 +110,7 @@ module _ (sig : Signature) where
     minus-fits {k} (or p q) (well-or s t) v h i = products-fit (rows-minus sig k p) (rows-minus sig k q) v ∙ ap₂ _&&_ (minus-fits p s v h i) (minus-fits q t v h i) ∙ not-either (decide p v i) (decide q v i)
     minus-fits {k} (head c ps) (well-head {ks = ks} l e s) (con d vs) (of-kind {ks = js} e′ h) i =
         head-minus k c d ks ps vs i (args-same sig k c ks e) (has-kind sig k d js e′) (λ q. args-minus-fit ps s vs (rw (same-args sig k c d e e′ q) at h) (suc i))
+    minus-fits {k} (range low high) s (con d vs) (of-kind {ks = js} e h) i = kept-fits-so (λ x. not (within low high x)) k d vs (has-kind sig k d js e) ∙ ap not (sym (fit-when (within low high d)))
 
     pub args-plus-fit : {ks : List ℕ} (ps : Patterns) → AllWellFormed sig ks ps → (vs : Values) → OfKinds sig ks vs → (i : ℕ) → fits-somes (args-plus sig ks ps) vs ≡ is-fit (decides ps vs i)
     args-plus-fit pnil well-nil vnil of-kinds-nil i = refl

@@ -1,13 +1,13 @@
--- What Case T and "Where a reader of the paper slips" say of rows and of refusals 7 to 10. The function `cases` promises them.
+-- What Case T and "Where a reader of the paper slips" say of rows and of refusals 7 to 10, and ranges. The function `cases` promises them.
 use mathlib.Core.Path.{_≡_}
 use mathlib.Core.List.{[], _∷_, _++_}
 use mathlib.Core.Bool.{true, false}
-use Rattle.signature.specs.Cases.{T}
+use Rattle.signature.specs.Cases.{T, L}
 use Rattle.pattern.specs.Cases.{ors-words}
-use Rattle.pattern.specs.Pattern.{head, wild, neg, var, pnil, pcons}
+use Rattle.pattern.specs.Pattern.{head, wild, neg, var, range, pnil, pcons}
 use Rattle.row.specs.Admitted.{refusal-of-pattern}
 use Rattle.row.specs.Overlap.{overlap, shares}
-use Rattle.row.specs.Row.{rows-plus, named, free, rnil, rcons}
+use Rattle.row.specs.Row.{rows-plus, open-row, named, free, rnil, rcons}
 
 pub record Cases : Type 0 where
   -- "Calling two exclusions overlapping when together they exclude the whole kind": kind 2 has the constructors 4 and 5
@@ -39,3 +39,19 @@ pub record Cases : Type 0 where
   -- the first that applies: 7 before 8 before 9
   pub malformed : refusal-of-pattern T (256 ∷ 261 ∷ []) ≡ 7
   pub heavy-and-unequal : refusal-of-pattern T (257 ∷ 261 ∷ 256 ∷ (ors-words 7 ++ ors-words 8)) ≡ 8
+  -- 02, job 1: rows of ranges, at the number kind 2 of L. "Not" of a range is the complement, in two stretches if need be; all 101 levels refine nothing, and without them there is no row
+  pub range-row : rows-plus L 2 (range 20 22) ≡ free [] (1020 ∷ 1021 ∷ 1022 ∷ []) ∷ []
+  pub not-range-row : rows-plus L 2 (neg (range 2 98)) ≡ free [] (1000 ∷ 1001 ∷ 1099 ∷ 1100 ∷ []) ∷ []
+  pub all-levels : rows-plus L 2 (range 0 100) ≡ open-row L 2 ∷ []
+  pub no-levels : rows-plus L 2 (neg (range 0 100)) ≡ []
+  -- ranges that meet in one level, and ranges that do not
+  pub ranges-meet : overlap L 2 (range 0 50) (range 50 100) ≡ true
+  pub ranges-apart : overlap L 2 (range 0 49) (range 50 100) ≡ false
+  pub range-and-not : overlap L 2 (range 20 80) (neg (range 20 80)) ≡ false
+  -- an "or" of ranges with a variable beside each: admitted; with the level 5 in common ambiguous
+  pub or-ranges : refusal-of-pattern L (0 ∷ 258 ∷ 257 ∷ 256 ∷ 261 ∷ 280 ∷ 0 ∷ 5 ∷ 256 ∷ 261 ∷ 280 ∷ 6 ∷ 9 ∷ []) ≡ 0
+  pub or-ranges-meet : refusal-of-pattern L (0 ∷ 258 ∷ 257 ∷ 256 ∷ 261 ∷ 280 ∷ 0 ∷ 5 ∷ 256 ∷ 261 ∷ 280 ∷ 5 ∷ 9 ∷ []) ≡ 10
+  -- 18 "stands directly after 7": before 8, and 7 is decided over the whole pattern first
+  pub wrong-range : refusal-of-pattern L (0 ∷ 258 ∷ 260 ∷ 280 ∷ 6 ∷ 5 ∷ []) ≡ 18
+  pub wrong-and-twice : refusal-of-pattern L (256 ∷ 261 ∷ 256 ∷ 261 ∷ 0 ∷ 258 ∷ 280 ∷ 0 ∷ 101 ∷ []) ≡ 18
+  pub wrong-and-left-over : refusal-of-pattern L (0 ∷ 258 ∷ 280 ∷ 6 ∷ 5 ∷ 258 ∷ []) ≡ 7

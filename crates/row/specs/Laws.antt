@@ -42,5 +42,5 @@ pub record Laws : Type 0 where
   pub shares-either-way : (sig : Signature) (us ws : List ℕ) → shares sig us ws ≡ shares sig ws us
   -- 10: the decision finds exactly the ambiguous patterns
   pub ambiguous : (sig : Signature) → Signed sig → (p : Pattern) → WellFormed sig 0 p → ((ambiguous-plus sig 0 p ≡ true) ↔ (Ambiguous sig 0 p))
-  -- 7 to 10: none applies exactly to the patterns that pass
+  -- 7, 18 and 8 to 10: none applies exactly to the patterns that pass
   pub passed : (sig : Signature) → Signed sig → (ws : List ℕ) → ((refusal-of-pattern sig ws ≡ 0) ↔ (Passed sig ws))

@@ -9,7 +9,7 @@ use Rattle.signature.specs.Signature.{Signature, arguments}
 use Rattle.signature.specs.Value.{Value}
 use Rattle.pattern.specs.Linear.{E, O}
 use Rattle.pattern.specs.Match.{Binds, Fits}
-use Rattle.pattern.specs.Pattern.{Pattern, var, wild, absurd-pat, neg, and, or, head, Patterns, pnil, pcons}
+use Rattle.pattern.specs.Pattern.{Pattern, var, wild, absurd-pat, neg, and, or, head, range, Patterns, pnil, pcons}
 use Rattle.pattern.specs.Read.{read-pattern}
 use Rattle.pattern.specs.Takes.{Takes}
 use Rattle.row.specs.Row.{each, combine, rows-plus, rows-minus}
@@ -32,6 +32,7 @@ abbrev mutual
   ambiguous-plus sig k (and p q) = ambiguous-plus sig k p || ambiguous-plus sig k q
   ambiguous-plus sig k (or p q) = (not (is-empty (E (or p q))) && overlap sig k p q) || ambiguous-plus sig k p || ambiguous-plus sig k q
   ambiguous-plus sig k (head c ps) = any-plus sig (arguments sig c) ps
+  ambiguous-plus sig k (range low high) = false
 
   pub ambiguous-minus : Signature → ℕ → Pattern → Bool
   ambiguous-minus sig k (var x) = false
@@ -41,6 +42,7 @@ abbrev mutual
   ambiguous-minus sig k (and p q) = (not (is-empty (O (and p q))) && overlap-minus sig k p q) || ambiguous-minus sig k p || ambiguous-minus sig k q
   ambiguous-minus sig k (or p q) = ambiguous-minus sig k p || ambiguous-minus sig k q
   ambiguous-minus sig k (head c ps) = any-minus sig (arguments sig c) ps
+  ambiguous-minus sig k (range low high) = false
 
   pub any-plus : Signature → List ℕ → Patterns → Bool
   any-plus sig ks pnil = false

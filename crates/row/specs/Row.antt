@@ -6,9 +6,10 @@ use Prim.Native.Nat.{ℕ}
 use lib.Dec.{eqb}
 use Rattle.signature.specs.Lists.{_>>=_, require, memb, keep, is-empty, somes}
 use Rattle.signature.specs.Signature.{Signature, heads, arguments}
-use Rattle.pattern.specs.Pattern.{Pattern, var, wild, absurd-pat, neg, and, or, head, Patterns, pnil, pcons}
+use Rattle.pattern.specs.Range.{within}
+use Rattle.pattern.specs.Pattern.{Pattern, var, wild, absurd-pat, neg, and, or, head, range, Patterns, pnil, pcons}
 
--- "at each place .. a set of variables, and one constructor with its arguments or a set of excluded constructors": named has the one, free those that are still allowed
+-- "at each place .. a set of variables, and one constructor with its arguments or a set of excluded constructors": named has the one, free the heads that are still allowed; 02, job 1: "a place then holds a set of levels"
 mutual
   pub data Row : Type 0 where
     named : List ℕ → ℕ → Rows → Row
@@ -59,11 +60,13 @@ abbrev pub open-rows : Signature → List ℕ → Rows
 open-rows sig [] = rnil
 open-rows sig (k ∷ ks) = rcons (open-row sig k) (open-rows sig ks)
 
+-- the row that allows these heads; 02, job 1: "an empty set drops its row"
+abbrev pub allowing : List ℕ → List Row
+allowing cs = cond (is-empty cs) [] (free [] cs ∷ [])
+
 -- "not C": every head of kind k but c; no row where no other is left
 abbrev pub other-than : Signature → ℕ → ℕ → List Row
-other-than sig k c =
-    let cs = keep (λ d. not (eqb c d)) (heads sig k) in
-    cond (is-empty cs) [] (free [] cs ∷ [])
+other-than sig k c = allowing (keep (λ d. not (eqb c d)) (heads sig k))
 
 -- "Push nots inward (not C(p1..pn) is: not C, or C with one argument negated and wildcards elsewhere;
 -- not variable and not wildcard are absurd, not absurd is wildcard) and multiply out. Each product is a row":
@@ -77,6 +80,7 @@ abbrev mutual
   rows-plus sig k (and p q) = somes (each combine (rows-plus sig k p) (rows-plus sig k q))
   rows-plus sig k (or p q) = rows-plus sig k p ++ rows-plus sig k q
   rows-plus sig k (head c ps) = map (named [] c) (args-plus sig (arguments sig c) ps)
+  rows-plus sig k (range low high) = allowing (keep (λ d. within low high d) (heads sig k))
 
   pub rows-minus : Signature → ℕ → Pattern → List Row
   rows-minus sig k (var x) = []
@@ -86,6 +90,7 @@ abbrev mutual
   rows-minus sig k (and p q) = rows-minus sig k p ++ rows-minus sig k q
   rows-minus sig k (or p q) = somes (each combine (rows-minus sig k p) (rows-minus sig k q))
   rows-minus sig k (head c ps) = other-than sig k c ++ map (named [] c) (args-minus sig (arguments sig c) ps)
+  rows-minus sig k (range low high) = allowing (keep (λ d. not (within low high d)) (heads sig k))
 
   pub args-plus : Signature → List ℕ → Patterns → List Rows
   args-plus sig ks pnil = rnil ∷ []

@@ -3,8 +3,9 @@ use mathlib.Core.Path.{_≡_}
 use mathlib.Core.List.{List, [], _∷_}
 use mathlib.Core.Option.{Option, none, some}
 use mathlib.Core.Bool.{Bool, _&&_, true, false, _||_}
-use Prim.Native.Nat.{ℕ, suc, _+_}
+use Prim.Native.Nat.{ℕ, suc, _+_, _<_}
 use lib.Dec.{eqb}
+use Rattle.signature.specs.Limits.{constructor-limit}
 use Rattle.signature.specs.Lists.{All, memb, any}
 use Rattle.signature.specs.Signature.{Signature, arguments-at, heads}
 use Rattle.signature.specs.Value.{Value, con, Values, vnil, vcons, size}
@@ -51,7 +52,7 @@ module _ (sig : Signature) where
   -- a row of kind k: its constructors are of the kinds of their places, and each place has one that is allowed
   mutual
     pub data Good : ℕ → Row → Type 0 where
-      good-named : {k c : ℕ} {xs js : List ℕ} {rs : Rows} → arguments-at sig k c ≡ some js → Goods js rs → Good k (named xs c rs)
+      good-named : {k c : ℕ} {xs js : List ℕ} {rs : Rows} → c < constructor-limit → arguments-at sig k c ≡ some js → Goods js rs → Good k (named xs c rs)
       good-free : {k c : ℕ} {xs cs : List ℕ} → All (λ d. memb d (heads sig k) ≡ true) (c ∷ cs) → Good k (free xs (c ∷ cs))
 
     pub data Goods : List ℕ → Rows → Type 0 where

@@ -10,12 +10,14 @@ use native.Mathlib.Omega.{arith}
 use lib.Dec.{eqb, ltb}
 use lib.ListN.{length}
 use Rattle.signature.specs.Decoded.{Known, count-of}
+use Rattle.signature.specs.Limits.{heads-limit, level-base}
 use Rattle.signature.specs.Lawful.{KindsRise, rise-end, rise-same, rise-next, KindsStart, start-0}
 use Rattle.signature.specs.Lists.{memb, is-empty, first}
 use Rattle.sets.specs.Set.{bit, set-of, Within, members}
 use Rattle.signature.specs.Signature.{Signature, heads, arguments-at}
-use Rattle.signature.proofs.Heads.{Consecutive, consecutive-nil, consecutive-cons, consecutive-of, has-head, has-kind, constructor-of}
-use Rattle.signature.proofs.KnownFacts.{words-of, arity-is, is-constructor, few-constructors, long}
+use Rattle.signature.proofs.Heads.{Consecutive, consecutive-nil, consecutive-cons, consecutive-of, has-head, has-kind, row-of}
+use Rattle.signature.proofs.KnownFacts.{words-of, arity-is, is-constructor, few-constructors, long, plain}
+use Rattle.signature.proofs.KnownFacts as known
 use Rattle.signature.proofs.LawfulFacts.{kinds-kind}
 use Rattle.signature.proofs.SignatureBack.{is-kinds}
 use Rattle.signature.proofs.Tests.{some-inj, eqb-self, eqb-no, eqb-eq, true≢false, ltb-yes, ltb-no}
@@ -36,7 +38,7 @@ run-bounds c (consecutive-cons {f = f} {xs = xs} r) e = go (eqb c f) refl (run-b
     go true q h = let z = eqb-eq c f q in (omega (arith, z), omega (arith, z))
     go false q h = let y = h (rw q at e) in (omega (arith, y .0), omega (arith, y .1))
 
-within-run : {f : ℕ} {xs : List ℕ} (a : ℕ) → Consecutive f xs → a ≤ f → f + length xs ≤ a + 64 → Within a xs
+within-run : {f : ℕ} {xs : List ℕ} (a : ℕ) → Consecutive f xs → a ≤ f → f + length xs ≤ a + heads-limit → Within a xs
 within-run a consecutive-nil l h = tt
 within-run a (consecutive-cons r) l h = (l, omega arith, within-run a r (omega arith) (omega arith))
 
@@ -80,8 +82,8 @@ module _ {t : List ℕ} (g : Known t) where
         let q = consecutive-of (g .sig) k (g .decoded .n) (g .decoded .kinds-are) in
         subst (λ (f : ℕ). Consecutive f (heads (g .sig) k)) (sym (first-run (q .1) some-head)) (q .1)
 
-    pub few-heads : length (heads (g .sig) k) ≤ 64
-    few-heads = words-of g .few-heads k (omega (arith, kinds-same))
+    pub few-heads : length (heads (g .sig) k) ≤ heads-limit
+    few-heads = known.few-heads g k (omega (arith, kinds-same))
 
     pub within-kind : Within (first (heads (g .sig) k)) (heads (g .sig) k)
     within-kind = within-run (first (heads (g .sig) k)) run-of (omega arith) (omega (arith, few-heads))
@@ -117,15 +119,16 @@ module _ {t : List ℕ} (g : Known t) where
 
   pub kind-there : (k c : ℕ) (ks : List ℕ) → arguments-at (g .sig) k c ≡ some ks → k < g .decoded .n
   kind-there k c ks e =
-      let q = constructor-of (g .sig) k c ks e in
-      let z = kinds-kind (g .sig) (g .decoded .n) c (q .0) (g .decoded .kinds-are) (q .1) in
-      omega (arith, z, eqb-eq (q .0 .kind) k (q .2))
+      let q = row-of (g .sig) (plain g) k c ks e in
+      let z = kinds-kind (g .sig) (g .decoded .n) (q .0) (q .1) (g .decoded .kinds-are) (q .2) in
+      omega (arith, z, eqb-eq (q .1 .kind) k (q .3))
 
-  pub known-head : (k c : ℕ) (ks : List ℕ) → arguments-at (g .sig) k c ≡ some ks → HeadOfKind (kinds-of (g .sig)) t k c
-  known-head k c ks e =
+  -- a head that is no level is a constructor
+  pub known-head : (k c : ℕ) (ks : List ℕ) → c < level-base → arguments-at (g .sig) k c ≡ some ks → HeadOfKind (kinds-of (g .sig)) t k c
+  known-head k c ks h e =
       let l = kind-there k c ks e in
       let b = run-bounds c (run-of k l) (has-kind (g .sig) k c ks e) in
-      let i = is-constructor g k c ks e in
+      let i = is-constructor g k c ks h e in
       record {
         low = b .0;
         high = omega (arith, b .1, few-heads k l);

@@ -12,6 +12,7 @@ use Rattle.signature.proofs.Tests.{times-less, true≢false}
 use Rattle.rowlist.specs.Next.{GivenNext, GivenNextMinus, GivenNextAt, next-made, next-rows, Short}
 use Rattle.rowlist.specs.Grow.{words-list, ListFirst, GivenGrow, GivenAppends, Filled, grown, appends, grown-room, appends-room}
 use Rattle.rowlist.specs.Product.{Product}
+use Rattle.cell.specs.Cell.{cell-code}
 use Rattle.cell.specs.RowList.{from, WrittenFirst}
 use Rattle.rowlist.proofs.Products.{no-list}
 use Rattle.rowlist.proofs.Growing.{appends-small}
@@ -62,31 +63,32 @@ list-row {lists} f v vs e = (
   subst Filled e (f .filled) .0,
 )
 
-module _ {lists : List ℕ} {at : ℕ} (tag full : ℕ) (o : List ℕ) (g : GivenNextMinus lists at (length o)) where
-  abbrev wild-list : ListFirst (3 ∷ (tag ∷ (0 ∷ (full ∷ (0 ∷ [])))))
-  wild-list = record { rows = (tag ∷ (0 ∷ (full ∷ []))) ∷ []; rest = []; code-is = refl; filled = (omega arith, tt) }
+-- the list of the wildcard is wl
+module _ {lists : List ℕ} {at : ℕ} (tag full : ℕ) (wl : List ℕ) (we : wl ≡ 3 ∷ (cell-code tag 0 full ++ (0 ∷ []))) (o : List ℕ) (g : GivenNextMinus lists at (length o)) where
+  abbrev wild-list : ListFirst wl
+  wild-list = record { rows = (cell-code tag 0 full) ∷ []; rest = []; code-is = we; filled = (omega arith, tt) }
 
-  wild-room : grown-room (g .next .left .rows) ((tag ∷ (0 ∷ (full ∷ []))) ∷ []) ≤ length (g .next .left .rows) * (1 + (g .next .a + g .next .j))
-  wild-room = grown-le (g .next .left .rows) ((tag ∷ (0 ∷ (full ∷ []))) ∷ []) (g .next .a) (g .next .j) (length (g .next .left .rows)) (g .next .left-short) (g .cell, tt) (omega arith)
+  wild-room : grown-room (g .next .left .rows) ((cell-code tag 0 full) ∷ []) ≤ length (g .next .left .rows) * (1 + (g .next .a + g .next .j))
+  wild-room = grown-le (g .next .left .rows) ((cell-code tag 0 full) ∷ []) (g .next .a) (g .next .j) (length (g .next .left .rows)) (g .next .left-short) (g .cell, tt) (omega arith)
 
   few-rooms : length (g .next .left .rows) * (1 + (g .next .a + g .next .j)) + length (g .next .right .rows) * (1 + (g .next .a + g .next .j)) ≤ 64 * (1 + (g .next .a + g .next .j))
   few-rooms = rw (sym (add-mul (length (g .next .left .rows)) (length (g .next .right .rows)) (1 + (g .next .a + g .next .j)))) (times-less (length (g .next .left .rows) + length (g .next .right .rows)) 64 (1 + (g .next .a + g .next .j)) (1 + (g .next .a + g .next .j)) (g .few) (omega arith))
 
-  pub wild-given : GivenGrow lists (3 ∷ (tag ∷ (0 ∷ (full ∷ (0 ∷ []))))) (length o)
+  pub wild-given : GivenGrow lists wl (length o)
   wild-given = record { left = g .next .left; right = wild-list; room = omega (arith, wild-room, few-rooms, g .next .room) }
 
   pub first-word : (getD lists 0 0 ≡ length (g .v)) × (1 ≤ length lists)
   first-word = let e = list-row (g .next .left) (g .v) (g .vs) (g .first) .0 in (ap (λ (l : List ℕ). getD l 0 0) e, omega (arith, ap length e))
 
-  module _ (n : ℕ) (o₁ : List ℕ) (same : length o₁ ≡ length o) (f : (q : GivenGrow lists (3 ∷ (tag ∷ (0 ∷ (full ∷ (0 ∷ []))))) (length o)) → Product (words-list (grown (q .left .rows) (q .right .rows))) n o₁) where
-    made-wild : Product (words-list (grown (g .next .left .rows) ((tag ∷ (0 ∷ (full ∷ []))) ∷ []))) n o₁
+  module _ (n : ℕ) (o₁ : List ℕ) (same : length o₁ ≡ length o) (f : (q : GivenGrow lists wl (length o)) → Product (words-list (grown (q .left .rows) (q .right .rows))) n o₁) where
+    made-wild : Product (words-list (grown (g .next .left .rows) ((cell-code tag 0 full) ∷ []))) n o₁
     unfolding wild-given
     made-wild = f wild-given
 
     pub first-given : (k : ℕ) → k ≡ length (from o₁ n) → (n ≤ length o₁) × GivenAppends (from lists 1) (getD lists 0 0) (from lists at) k
     first-given k e =
         let q = list-row (g .next .left) (g .v) (g .vs) (g .first) in
-        let s = grown-small (g .next .left .rows) ((tag ∷ (0 ∷ (full ∷ []))) ∷ []) in
+        let s = grown-small (g .next .left .rows) ((cell-code tag 0 full) ∷ []) in
         let h : length (g .v) ≤ g .next .a = subst (Short (g .next .a)) (g .first) (g .next .left-short) .0 in
         let z : length (from o₁ n) ≡ length o₁ - n = ap length (from-is o₁ n) ∙ length-drop n o₁ in (
           omega (arith, made-wild .size, s, wild-room, few-rooms, g .next .room, same),
@@ -106,11 +108,11 @@ module _ {lists : List ℕ} {at : ℕ} (tag full : ℕ) (o : List ℕ) (g : Give
       pub minus-end : n + m + 1 ≤ length (back o₁ n ys)
       minus-end =
           let h : length (g .v) ≤ g .next .a = subst (Short (g .next .a)) (g .first) (g .next .left-short) .0 in
-          omega (arith, back-length o₁ ys n (first-given k e .0) l, same, made-wild .size, grown-small (g .next .left .rows) ((tag ∷ (0 ∷ (full ∷ []))) ∷ []), wild-room, few-rooms, g .next .room, made-first .0, appends-small (g .v) (g .next .right .rows), appends-le (g .v) (g .next .right .rows) (g .next .a) (g .next .j) h (g .next .right-short))
+          omega (arith, back-length o₁ ys n (first-given k e .0) l, same, made-wild .size, grown-small (g .next .left .rows) ((cell-code tag 0 full) ∷ []), wild-room, few-rooms, g .next .room, made-first .0, appends-small (g .v) (g .next .right .rows), appends-le (g .v) (g .next .right .rows) (g .next .a) (g .next .j) h (g .next .right-short))
 
-      pub minus-made : Product (words-list (next-rows false (tag ∷ (0 ∷ (full ∷ []))) (g .next .left .rows) (g .next .right .rows))) (n + m) (set (back o₁ n ys) (n + m) 0)
+      pub minus-made : Product (words-list (next-rows false (cell-code tag 0 full) (g .next .left .rows) (g .next .right .rows))) (n + m) (set (back o₁ n ys) (n + m) 0)
       minus-made =
-          let W = tag ∷ (0 ∷ (full ∷ [])) in
+          let W = cell-code tag 0 full in
           let A = words-list (grown (g .next .left .rows) (W ∷ [])) in
           let B = words-list (appends (g .v) (g .next .right .rows)) in
           let t : take n o₁ ≡ A = sym (take-take n (n + 1) o₁ (omega arith)) ∙ ap (take n) (made-wild .list) ∙ take-at A (0 ∷ []) n (sym (made-wild .size)) in
@@ -135,6 +137,6 @@ module _ (lists : List ℕ) (at k : ℕ) where
   made-plus true tag full r o e f g = f g
   made-plus false tag full r o e f g = true≢false (sym e)
 
-  pub made-minus : (b : Bool) (tag full r : ℕ) (o : List ℕ) → b ≡ false → ((q : GivenNextMinus lists at k) → Product (words-list (next-rows false (tag ∷ (0 ∷ (full ∷ []))) (q .next .left .rows) (q .next .right .rows))) r o) → (g : GivenNextAt b lists at k) → Product (next-made b tag full lists at k g) r o
+  pub made-minus : (b : Bool) (tag full r : ℕ) (o : List ℕ) → b ≡ false → ((q : GivenNextMinus lists at k) → Product (words-list (next-rows false (cell-code tag 0 full) (q .next .left .rows) (q .next .right .rows))) r o) → (g : GivenNextAt b lists at k) → Product (next-made b tag full lists at k g) r o
   made-minus true tag full r o e f g = true≢false e
   made-minus false tag full r o e f g = f g

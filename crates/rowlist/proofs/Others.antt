@@ -13,13 +13,17 @@ use lib.Seq.{drop-at, take-at}
 use Rattle.rowlist.specs.Grow.{words-list}
 use Rattle.rowlist.specs.Next.{GivenOthers, others-code}
 use Rattle.rowlist.specs.Product.{Product}
+use Rattle.sets.specs.Heads.{number-of}
+use Rattle.sets.specs.declared.heads.Heads.{Heads}
+use Rattle.cell.specs.Cell.{cell-code}
+use Rattle.cell.specs.Cursor.{put-cell}
 use Rattle.cell.specs.RowList.{from, WrittenFirst}
 use Rattle.cell.proofs.Walk.{from-is}
 
 code-short : (tag rest : ℕ) → length (others-code tag rest) ≤ 4
 code-short tag rest = go (eqb rest 0)
   where
-    go : (b : Bool) → length (cond b [] (3 ∷ (tag ∷ (0 ∷ (rest ∷ []))))) ≤ 4
+    go : (b : Bool) → length (cond b [] (3 ∷ cell-code tag 0 rest)) ≤ 4
     go true = omega arith
     go false = omega arith
 
@@ -27,10 +31,10 @@ code-short tag rest = go (eqb rest 0)
 pub no-other : (tag rest : ℕ) (o : List ℕ) → rest ≡ 0 → WrittenFirst (others-code tag rest) 0 o
 no-other tag rest o z = rw z (refl, refl)
 
-pub some-other : (tag rest : ℕ) (o : List ℕ) → ¬ (rest ≡ 0) → 4 ≤ length o → WrittenFirst (others-code tag rest) 4 (set (set (set (set o 0 3) 1 tag) 2 0) 3 rest)
-some-other tag rest o z h = rw (ne-eqb rest 0 z) (refl, four o h)
+pub some-other : (tag : ℕ) (rest : Heads) (o : List ℕ) → ¬ (number-of rest ≡ 0) → 4 ≤ length o → WrittenFirst (others-code tag (number-of rest)) 4 (put-cell (set o 0 3) 1 (record { tag = tag; vars = 0; allowed = rest }))
+some-other tag rest o z h = rw (ne-eqb (number-of rest) 0 z) (refl, four o h)
   where
-    four : (o : List ℕ) → 4 ≤ length o → take 4 (set (set (set (set o 0 3) 1 tag) 2 0) 3 rest) ≡ 3 ∷ (tag ∷ (0 ∷ (rest ∷ [])))
+    four : (o : List ℕ) → 4 ≤ length o → take 4 (put-cell (set o 0 3) 1 (record { tag = tag; vars = 0; allowed = rest })) ≡ 3 ∷ cell-code tag 0 (number-of rest)
     four [] h = absurd (omega arith)
     four (a ∷ []) h = absurd (omega arith)
     four (a ∷ (b ∷ [])) h = absurd (omega arith)

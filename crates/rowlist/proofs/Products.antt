@@ -6,12 +6,12 @@ use mathlib.Core.Bool.{Bool, cond, true, false}
 use Prim.Native.Nat.{ℕ, _≤_, _+_, _<_}
 use native.Mathlib.Numerals.{add-one}
 use native.Mathlib.Omega.{arith}
-use lib.Bits.{bitAnd}
+use lib.Bits.{bitAnd, bitOr}
 use lib.Dec.{eqb}
 use lib.ListN.{length, length-append, getD, set}
 use lib.Seq.{take-suc-set}
 use Rattle.signature.specs.Lists.{somes}
-use Rattle.cell.specs.Cell.{RowCells, words, named-cells, all-words, free-cell, RowsCells, no-cells, more-cells, Kinds}
+use Rattle.cell.specs.Cell.{RowCells, words, named-cells, all-words, free-cell, RowsCells, no-cells, more-cells, Kinds, cell-code}
 use Rattle.cell.specs.Coded.{row-code-of, row-code, Typed, cells}
 use Rattle.rowlist.specs.Product.{GivenEach, with-each, room-for, each-entry, AllTyped, GivenProduct, Product, products}
 use Rattle.row.specs.Row.{Row, combine, each}
@@ -44,8 +44,8 @@ small-more (some t) m n h l = omega arith
 mutual
   small-both : (r s : RowCells) → Small (both r s) (length (words r) + length (words s))
   small-both (named-cells c v m rs) (named-cells d w n ss) =
-      small-gate (bitAnd m n) _ _ (small-more (then (some (c ∷ (_ ∷ (_ ∷ [])))) (boths rs ss)) (3 + (length (all-words rs) + length (all-words ss))) _
-      (small-then (some (c ∷ (_ ∷ (_ ∷ [])))) (boths rs ss) 3 (length (all-words rs) + length (all-words ss)) (omega arith) (small-boths rs ss)) (omega arith))
+      small-gate (bitAnd m n) _ _ (small-more (then (some (cell-code c (bitOr v w) (bitAnd m n))) (boths rs ss)) (3 + (length (all-words rs) + length (all-words ss))) _
+      (small-then (some (cell-code c (bitOr v w) (bitAnd m n))) (boths rs ss) 3 (length (all-words rs) + length (all-words ss)) (omega arith) (small-boths rs ss)) (omega arith))
   small-both (named-cells c v m rs) (free-cell t w n) = small-gate (bitAnd m n) _ _ (omega arith)
   small-both (free-cell t v m) (named-cells d w n ss) = small-gate (bitAnd m n) _ _ (omega arith)
   small-both (free-cell t v m) (free-cell u w n) = small-gate (bitAnd m n) _ _ (omega arith)

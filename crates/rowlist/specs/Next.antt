@@ -8,7 +8,7 @@ use lib.ListN.{length}
 use Rattle.pattern.specs.Limits.{part-weight-limit}
 use Rattle.rowlist.specs.Grow.{appends, grown, ListFirst, words-list}
 use Rattle.rowlist.specs.Product.{Product}
-use Rattle.cell.specs.Cell.{cell-width}
+use Rattle.cell.specs.Cell.{cell-width, cell-code}
 use Rattle.cell.specs.RowList.{Every, from}
 
 -- one argument: more rows than a part may weigh are none, since an argument that is still to come has none
@@ -49,11 +49,11 @@ GivenNextAt false lists at k = GivenNextMinus lists at k
 
 abbrev pub next-made : (b : Bool) → ℕ → ℕ → (lists : List ℕ) (at k : ℕ) → GivenNextAt b lists at k → List ℕ
 next-made true tag full lists at k g = words-list (next-rows true [] (g .left .rows) (g .right .rows))
-next-made false tag full lists at k g = words-list (next-rows false (tag ∷ (0 ∷ (full ∷ []))) (g .next .left .rows) (g .next .right .rows))
+next-made false tag full lists at k g = words-list (next-rows false (cell-code tag 0 full) (g .next .left .rows) (g .next .right .rows))
 
 -- "not C": the row of the other heads, if there are any
 abbrev pub others-code : ℕ → ℕ → List ℕ
-others-code tag rest = cond (eqb rest 0) [] (cell-width ∷ (tag ∷ (0 ∷ (rest ∷ []))))
+others-code tag rest = cond (eqb rest 0) [] (cell-width ∷ cell-code tag 0 rest)
 
 -- a list whose first row, of a cell or more, goes
 pub record GivenOthers (used : ℕ) (o : List ℕ) (m : ℕ) : Type 0 where

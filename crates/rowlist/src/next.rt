@@ -4,12 +4,17 @@ use crate::grow::append_each;
 use crate::grow::copy;
 use crate::grow::count;
 use cell::cell::CELL;
+use cell::cell::Cell;
+use cell::cell::put;
 use pattern::limits::PART_WEIGHT;
-use sets::set::size;
-ghost use mathlib.Core.List.{[], _∷_, _++_};
+use sets::heads::Heads;
+use sets::heads::is_empty;
+ghost use mathlib.Core.List.{[], _++_};
 ghost use mathlib.Core.Bool.{true, false};
 ghost use Prim.Native.Nat.{_≤_};
 ghost use lib.ListN.{length};
+ghost use Rattle.sets.specs.Heads.{number-of};
+ghost use Rattle.cell.specs.Cell.{cell-code};
 ghost use Rattle.cell.specs.RowList.{WrittenFirst};
 ghost use Rattle.rowlist.specs.Next.{GivenNext, GivenNextMinus, GivenNextAt, next-made, next-rows, GivenOthers, others-code};
 ghost use Rattle.rowlist.specs.Grow.{words-list};
@@ -30,11 +35,18 @@ fn next_plus(lists: &[u64], at: usize, out: &mut [u64]) -> usize
 }
 
 // Each row with a wildcard behind it, then the first with each row of the argument.
-fn next_minus(tag: u64, full: u64, lists: &[u64], at: usize, out: &mut [u64]) -> usize
+fn next_minus(tag: u64, full: Heads, lists: &[u64], at: usize, out: &mut [u64]) -> usize
     requires { ⌜ GivenNextMinus (now lists) at (length (now out)) ⌝ }
-    ensures { λ r. ⌜ ((g : GivenNextMinus (now (lists .entry)) at (length (now (out .entry)))) → Product (words-list (next-rows false (tag ∷ (0 ∷ (full ∷ []))) (g .next .left .rows) (g .next .right .rows))) r (now (out .exit))) ⌝ }
+    ensures { λ r. ⌜ ((g : GivenNextMinus (now (lists .entry)) at (length (now (out .entry)))) → Product (words-list (next-rows false (cell-code tag 0 (number-of full)) (g .next .left .rows) (g .next .right .rows))) r (now (out .exit))) ⌝ }
 {
-    let wild: [u64; 5] = [CELL as u64, tag, 0, full, 0];
+    let mut wild = [0u64; 5];
+    wild[0] = CELL as u64;
+    let cell = Cell {
+        tag,
+        vars: 0,
+        allowed: full,
+    };
+    put(&mut wild, 1, cell);
     let n = append_each(lists, &wild, out);
     let first = lists[0] as usize;
     let m = append_all(&lists[1..], first, &lists[at..], &mut out[n..]);
@@ -47,13 +59,13 @@ fn next_minus(tag: u64, full: u64, lists: &[u64], at: usize, out: &mut [u64]) ->
 pub fn next_rows(
     plus: bool,
     tag: u64,
-    full: u64,
+    full: Heads,
     lists: &[u64],
     at: usize,
     out: &mut [u64],
 ) -> usize
     requires { ⌜ GivenNextAt plus (now lists) at (length (now out)) ⌝ }
-    ensures { λ r. ⌜ ((g : GivenNextAt plus (now (lists .entry)) at (length (now (out .entry)))) → Product (next-made plus tag full (now (lists .entry)) at (length (now (out .entry))) g) r (now (out .exit))) ⌝ }
+    ensures { λ r. ⌜ ((g : GivenNextAt plus (now (lists .entry)) at (length (now (out .entry)))) → Product (next-made plus tag (number-of full) (now (lists .entry)) at (length (now (out .entry))) g) r (now (out .exit))) ⌝ }
 {
     if plus {
         return next_plus(lists, at, out);
@@ -62,24 +74,27 @@ pub fn next_rows(
 }
 
 // The row of the other heads first in out, if there are any; how many words.
-fn other_row(tag: u64, rest: u64, out: &mut [u64]) -> usize
+fn other_row(tag: u64, rest: Heads, out: &mut [u64]) -> usize
     requires { ⌜ 4 ≤ length (now out) ⌝ }
-    ensures { λ r. ⌜ WrittenFirst (others-code tag rest) r (now (out .exit)) ⌝ }
+    ensures { λ r. ⌜ WrittenFirst (others-code tag (number-of rest)) r (now (out .exit)) ⌝ }
 {
-    if size(rest) == 0 {
+    if is_empty(rest) {
         return 0;
     }
     out[0] = CELL as u64;
-    out[1] = tag;
-    out[2] = 0;
-    out[3] = rest;
+    let cell = Cell {
+        tag,
+        vars: 0,
+        allowed: rest,
+    };
+    put(out, 1, cell);
     4
 }
 
 // The list without its first row, behind the row of the other heads, if there are any.
-pub fn others(tag: u64, rest: u64, used: usize, out: &mut [u64], work: &mut [u64]) -> usize
+pub fn others(tag: u64, rest: Heads, used: usize, out: &mut [u64], work: &mut [u64]) -> usize
     requires { ⌜ GivenOthers used (now out) (length (now work)) ⌝ }
-    ensures { λ r. ⌜ ((g : GivenOthers used (now (out .entry)) (length (now (work .entry)))) → Product (others-code tag rest ++ words-list (g .vs)) r (now (out .exit))) ⌝ }
+    ensures { λ r. ⌜ ((g : GivenOthers used (now (out .entry)) (length (now (work .entry)))) → Product (others-code tag (number-of rest) ++ words-list (g .vs)) r (now (out .exit))) ⌝ }
 {
     let at = used + 1;
     copy(out, at, work, 0);

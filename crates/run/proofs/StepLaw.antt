@@ -11,18 +11,19 @@ use lib.Dec.{eqb, leb, ltb}
 use lib.ListN.{length, drop, length-drop, length-append, getElem?}
 use lib.Seq.{drop-drop}
 use Rattle.signature.specs.Lawful.{OfKinds, of-kinds-cons, of-kind}
-use Rattle.signature.specs.Lists.{_>>=_, require, first}
-use Rattle.signature.specs.Signature.{Signature, heads}
+use Rattle.signature.specs.Limits.{last-level}
+use Rattle.signature.specs.Lists.{_>>=_, require, first, split}
+use Rattle.signature.specs.Signature.{Signature, heads, is-level, level-of}
 use Rattle.signature.specs.Value.{Values, vnil, vcons, con, size, code, codes}
 use Rattle.signature.proofs.KnownFacts.{at-below}
 use Rattle.signature.proofs.ListFacts.{at-drop, at-out, drop-exact}
 use Rattle.signature.proofs.Tests.{le-of, lt-of-not}
 use Rattle.signature.proofs.Values.{length-code, some-size}
 use Rattle.tree.specs.Answer.{Answer, no-rule}
-use Rattle.tree.specs.Run.{run, vjoin, at-hit, at-test, at-skip}
+use Rattle.tree.specs.Run.{run, vjoin, at-hit, at-test, at-split, at-skip, rise-to, place-of}
 use Rattle.tree.proofs.RunFuel.{run-enough}
 use Rattle.tree.proofs.TreeFacts.{kindeds-join}
-use Rattle.nodes.specs.Step.{link-step, hit-step, test-step, skip-step, word-step, step-at}
+use Rattle.nodes.specs.Step.{link-at, link-step, hit-step, test-step, split-step, skip-step, word-step, step-at}
 use Rattle.nodes.specs.declared.node.Step.{Step}
 use Rattle.nodes.specs.declared.node.Step.the-variants.{Default, Hit, On, Broken}
 use Rattle.run.specs.Hit.{hit-at}
@@ -95,19 +96,13 @@ module _ (dft : ℕ) (sig : Signature) (tree : List ℕ) where
     goes = rw (add-one i);
   }
 
-  test-law : (i : ℕ) (vs : Values) (j : ℕ) (visits : List ℕ) {ks : List ℕ} → OfKinds sig ks vs → i ≤ length tree → Leads i vs j visits (at-test sig tree run-from i vs j visits) (test-step sig (drop i tree) i vs)
-  test-law i vnil j visits k l = refl
-  test-law i (vcons (con c us) rest) j visits (of-kinds-cons {ks = ks} (of-kind {ks = js} e p) k) l =
-      leads-bind i (vcons (con c us) rest) j visits (getElem? sig c) (getElem? sig c) _ _ refl
-      (λ d. leads-bind i (vcons (con c us) rest) j visits (getElem? tree (i + 1)) (getElem? (drop i tree) 1) _ _ (at-drop tree i 1)
-      (λ f. leads-bind i (vcons (con c us) rest) j visits (getElem? tree (i + 2)) (getElem? (drop i tree) 2) _ _ (at-drop tree i 2)
-      (λ n. leads-when i (vcons (con c us) rest) j visits (eqb f (first (heads sig (d .kind))) && eqb n (length (heads sig (d .kind)))) _ _
-      (λ u. leads-bind i (vcons (con c us) rest) j visits (getElem? tree (i + 3 + (c - f))) (getElem? (drop i tree) (3 + (c - f))) _ _ (there f)
-      (λ link. leads-when i (vcons (con c us) rest) j visits (ltb i link) _ _ (λ q. on link (le-of (suc i) link q) (leb (link - i) (length (drop i tree))) refl))))))
+  -- the link at m words behind the node, for a first part that has the head c
+  link-law : (i c m : ℕ) (us rest : Values) (j : ℕ) (visits : List ℕ) {js ks : List ℕ} → OfKinds sig js us → OfKinds sig ks rest → i ≤ length tree → (n : ℕ) → n ≡ i + m
+      → Leads i (vcons (con c us) rest) j visits (getElem? tree n >>= λ link. require (ltb i link) >>= λ u. run-from link (vjoin us rest) (suc j) (visits ++ (j ∷ []))) (link-step (link-at (drop i tree) i m))
+  link-law i c m us rest j visits {js} {ks} p k l n e =
+      leads-bind i (vcons (con c us) rest) j visits (getElem? tree n) (getElem? (drop i tree) m) _ _ (ap (getElem? tree) e ∙ at-drop tree i m)
+      (λ link. leads-when i (vcons (con c us) rest) j visits (ltb i link) _ _ (λ q. on link (le-of (suc i) link q) (leb (link - i) (length (drop i tree))) refl))
     where
-      there : (f : ℕ) → getElem? tree (i + 3 + (c - f)) ≡ getElem? (drop i tree) (3 + (c - f))
-      there f = let m : i + 3 + (c - f) ≡ i + (3 + (c - f)) = omega arith in ap (getElem? tree) m ∙ at-drop tree i (3 + (c - f))
-
       on : (link : ℕ) → i < link → (b : Bool) → leb (link - i) (length (drop i tree)) ≡ b → Leads i (vcons (con c us) rest) j visits (run-from link (vjoin us rest) (suc j) (visits ++ (j ∷ []))) (link-step (require b >>= λ u. some (link - i)))
       on link m false q = outside link (vjoin us rest) (suc j) (visits ++ (j ∷ [])) (omega (arith, lt-of-not (link - i) (length (drop i tree)) q, length-drop i tree))
       on link m true q =
@@ -124,9 +119,27 @@ module _ (dft : ℕ) (sig : Signature) (tree : List ℕ) where
             goes = rw (w, add-one j);
           }
 
+  test-law : (i : ℕ) (vs : Values) (j : ℕ) (visits : List ℕ) {ks : List ℕ} → OfKinds sig ks vs → i ≤ length tree → Leads i vs j visits (at-test sig tree run-from i vs j visits) (test-step sig (drop i tree) i vs)
+  test-law i vnil j visits k l = refl
+  test-law i (vcons (con c us) rest) j visits (of-kinds-cons (of-kind e p) k) l =
+      leads-bind i (vcons (con c us) rest) j visits (getElem? sig c) (getElem? sig c) _ _ refl
+      (λ d. leads-bind i (vcons (con c us) rest) j visits (getElem? tree (i + 1)) (getElem? (drop i tree) 1) _ _ (at-drop tree i 1)
+      (λ f. leads-bind i (vcons (con c us) rest) j visits (getElem? tree (i + 2)) (getElem? (drop i tree) 2) _ _ (at-drop tree i 2)
+      (λ n. leads-when i (vcons (con c us) rest) j visits (eqb f (first (heads sig (d .kind))) && eqb n (length (heads sig (d .kind)))) _ _
+      (λ u. link-law i c (3 + (c - f)) us rest j visits p k l (i + 3 + (c - f)) (omega arith)))))
+
+  split-law : (i : ℕ) (vs : Values) (j : ℕ) (visits : List ℕ) {ks : List ℕ} → OfKinds sig ks vs → i ≤ length tree → Leads i vs j visits (at-split tree run-from i vs j visits) (split-step (drop i tree) i vs)
+  split-law i vnil j visits k l = refl
+  split-law i (vcons (con c us) rest) j visits (of-kinds-cons (of-kind e p) k) l =
+      leads-when i (vcons (con c us) rest) j visits (is-level c) _ _
+      (λ v. leads-bind i (vcons (con c us) rest) j visits (getElem? tree (i + 1)) (getElem? (drop i tree) 1) _ _ (at-drop tree i 1)
+      (λ n. leads-bind i (vcons (con c us) rest) j visits (split n (drop (i + 2) tree)) (split n (drop 2 (drop i tree))) _ _ (ap (split n) (sym (drop-drop 2 i tree)))
+      (λ r. leads-when i (vcons (con c us) rest) j visits (rise-to last-level 0 (r .0)) _ _
+      (λ u. link-law i c (2 + n + place-of (level-of c) (r .0)) us rest j visits p k l (i + 2 + n + place-of (level-of c) (r .0)) (omega arith)))))
+
   pub step-law : (i : ℕ) (vs : Values) (j : ℕ) (visits : List ℕ) {ks : List ℕ} → OfKinds sig ks vs → i ≤ length tree → Leads i vs j visits (run-from i vs j visits) (step-at sig (drop i tree) i vs)
   step-law i vs j visits k l = subst (λ r. Leads i vs j visits r (step-at sig (drop i tree) i vs)) (sym (unrolled i vs j visits)) (go (getElem? (drop i tree) 0) (ap (getElem? tree) (sym (add-zero i)) ∙ at-drop tree i 0))
     where
       go : (o : Option ℕ) → getElem? tree i ≡ o → Leads i vs j visits (run dft (suc (length tree)) sig tree i vs j visits) (word-step sig (drop i tree) i vs o)
       go none e = rw e
-      go (some w) e = rw e (leads-cond i vs j visits (eqb w 0) _ _ _ _ refl (leads-cond i vs j visits (eqb w 1) _ _ _ _ (hit-law i vs j visits) (leads-cond i vs j visits (eqb w 2) _ _ _ _ (test-law i vs j visits k l) (leads-cond i vs j visits (eqb w 3) _ _ _ _ (skip-law i vs j visits k (at-below tree i w e)) refl))))
+      go (some w) e = rw e (leads-cond i vs j visits (eqb w 0) _ _ _ _ refl (leads-cond i vs j visits (eqb w 1) _ _ _ _ (hit-law i vs j visits) (leads-cond i vs j visits (eqb w 2) _ _ _ _ (test-law i vs j visits k l) (leads-cond i vs j visits (eqb w 3) _ _ _ _ (skip-law i vs j visits k (at-below tree i w e)) (leads-cond i vs j visits (eqb w 4) _ _ _ _ (split-law i vs j visits k l) refl)))))

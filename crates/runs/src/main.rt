@@ -7,7 +7,7 @@ use shown::print::answer;
 ghost use Prim.Native.Nat.{_≤_};
 ghost use lib.ListN.{length};
 
-const WORDS: usize = 65536;
+const WORDS: usize = 131072;
 
 fn show(r: Ran) {
     let places = r.places;

@@ -1,2 +1,3 @@
+pub mod HeadSets
 pub mod ListSets
 pub mod SetLaws

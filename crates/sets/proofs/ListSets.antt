@@ -14,8 +14,8 @@ use Rattle.signature.specs.Limits.{heads-limit}
 use Rattle.signature.specs.Lists.{memb, keep}
 use Rattle.signature.proofs.Members.{memb-keep}
 use Rattle.signature.proofs.Tests.{eqb-eq, eqb-ne, eqb-self, true≢false}
-use Rattle.sets.specs.Set.{bit, members, all-set, union, intersection, set-of, Within}
-use Rattle.sets.proofs.SetLaws.{size-some, bit-zero, bit-and, bit-or, bit-one-same, bit-one-other, bit-ext}
+use Rattle.sets.specs.Set.{heads-width, bit, members, all-set, union, intersection, set-of, Within}
+use Rattle.sets.proofs.SetLaws.{heads-wide, size-some, bit-zero, bit-and, bit-or, bit-one-same, bit-one-other, bit-ext}
 
 abbrev pub one-if : Bool → ℕ
 one-if true = 1
@@ -101,14 +101,16 @@ min-one true false = refl
 min-one false true = refl
 min-one false false = refl
 
+-- the set of the heads that pass a test
+pub set-keep : (f : ℕ) (g : ℕ → Bool) (hs : List ℕ) (r : ℕ) → Within f hs → ((i : ℕ) → bit r i ≡ one-if (memb (f + i) hs && g (f + i))) → r ≡ set-of f (keep g hs)
+set-keep f g hs r w h = same-bits _ _ (λ i. h i ∙ ap one-if (sym (memb-keep g (f + i) hs)) ∙ sym (bit-set-of f i (keep g hs) (within-keep f g hs w)))
+
 -- the members of both
 pub set-meet : (f : ℕ) (cs ds : List ℕ) → Within f cs → Within f ds → intersection (set-of f cs) (set-of f ds) ≡ set-of f (keep (λ c. memb c ds) cs)
-set-meet f cs ds w z = same-bits _ _ (λ i.
+set-meet f cs ds w z = set-keep f (λ c. memb c ds) cs _ w (λ i.
     bit-and (set-of f cs) (set-of f ds) i
     ∙ ap₂ min (bit-set-of f i cs w) (bit-set-of f i ds z)
-    ∙ min-one (memb (f + i) cs) (memb (f + i) ds)
-    ∙ ap one-if (sym (memb-keep (λ c. memb c ds) (f + i) cs))
-    ∙ sym (bit-set-of f i (keep (λ c. memb c ds) cs) (within-keep f (λ c. memb c ds) cs w)))
+    ∙ min-one (memb (f + i) cs) (memb (f + i) ds))
 
 -- no set of a member is empty
 pub set-some : (f c : ℕ) (cs : List ℕ) → Within f (c ∷ cs) → ¬ (set-of f (c ∷ cs) ≡ 0)
@@ -141,13 +143,11 @@ not-here f c i l b = go (eqb c (f + i)) refl
     go false e = rw (ne-eqb i (c - f) (λ z. eqb-ne c (f + i) e (omega (arith, z, l)))) (keeps b)
 
 pub all-but : (f c : ℕ) (hs : List ℕ) (full rest : ℕ) → Within f hs → f ≤ c → full ≡ set-of f hs → ((i : ℕ) → bit rest i ≡ cond (eqb i (c - f)) 0 (bit full i)) → rest ≡ set-of f (keep (λ d. not (eqb c d)) hs)
-all-but f c hs full rest w l e h = same-bits _ _ (λ i.
+all-but f c hs full rest w l e h = set-keep f (λ d. not (eqb c d)) hs rest w (λ i.
     h i
     ∙ ap (λ (n : ℕ). cond (eqb i (c - f)) 0 (bit n i)) e
     ∙ ap (λ (n : ℕ). cond (eqb i (c - f)) 0 n) (bit-set-of f i hs w)
-    ∙ not-here f c i l (memb (f + i) hs)
-    ∙ ap one-if (sym (memb-keep (λ d. not (eqb c d)) (f + i) hs))
-    ∙ sym (bit-set-of f i (keep (λ d. not (eqb c d)) hs) (within-keep f (λ d. not (eqb c d)) hs w)))
+    ∙ not-here f c i l (memb (f + i) hs))
 
 -- the set of one head
 pub only-one : (f c i r : ℕ) → i ≡ c - f → ((j : ℕ) → bit r j ≡ cond (eqb j i) 1 0) → r ≡ set-of f (c ∷ [])
@@ -159,7 +159,7 @@ only-one f c i r q h = same-bits _ _ (λ j. h j ∙ go j (eqb j i) refl ∙ ap (
 
 -- the members of a set among all
 pub among-all : (m : ℕ) → m < 2 ^ heads-limit → intersection m all-set ≡ m
-among-all m h = and-mask m heads-limit ∙ mod-eq-of-lt h
+among-all m h = and-mask m heads-width ∙ mod-eq-of-lt (heads-wide m h)
 
 -- sets of one member that share it
 powers-apart : (i j : ℕ) → i < j → intersection (2 ^ j) (2 ^ i) ≡ 0

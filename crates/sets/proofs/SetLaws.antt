@@ -1,9 +1,9 @@
--- Sets of numbers below 64.
+-- Sets of numbers, by their bits.
 use mathlib.Core.Path.{_≡_, refl, sym, ap, _∙_}
 use mathlib.Core.Bool.{Bool, true, false, cond, _||_}
 use mathlib.Core.List.{_∷_}
 use Prim.Native.Nat.{ℕ, zero, suc, _+_, _-_, _*_, _/_, _%_, _^_, _≤_, _<_, min, max, suc-le-suc}
-use native.Mathlib.Nat.{pow-suc, add-zero, zero-add, add-suc, suc-add, one-mul}
+use native.Mathlib.Nat.{pow-suc, add-zero, zero-add, add-suc, suc-add, one-mul, le-trans, lt-trans}
 use native.Mathlib.Numerals.{one-add}
 use native.Mathlib.Omega.{arith}
 use lib.Arith.{digits-mod, bin-ind}
@@ -14,7 +14,8 @@ use lib.Dec.{eqb, ltb}
 use lib.ListN.{length}
 use borrow.Author.Tests.{eq-eqb, ne-eqb, eqb-true, eqb-false, ltb-true, ltb-false}
 use Rattle.signature.specs.Lists.{keep, count-up, memb}
-use Rattle.sets.specs.Set.{bit, members, set-limit}
+use Rattle.signature.specs.Limits.{heads-limit}
+use Rattle.sets.specs.Set.{bit, members, set-limit, heads-width}
 use Rattle.signature.proofs.Members.{memb-keep}
 
 -- a bit is 0 or 1
@@ -161,6 +162,18 @@ bit-without s i j l h = rw (one-shl i h, bit-and) (go (ltb j 64) refl (eqb j i) 
     go false f true e = rw (bit-high 64 s j l (ltb-false j 64 f)) (omega arith)
     go false f false e = rw (bit-high 64 s j l (ltb-false j 64 f)) (omega arith)
 
+-- the members of a that are not in b, as the code writes them
+pub bit-minus : (a b j : ℕ) → a < 2 ^ 64 → b < 2 ^ 64 → bit (bitAnd a (2 ^ 64 - 1 - b)) j ≡ cond (eqb (bit b j) 1) 0 (bit a j)
+bit-minus a b j l m = rw bit-and (go (ltb j 64) refl (eqb (bit b j) 1) refl)
+  where
+    go : (u : Bool) → ltb j 64 ≡ u → (t : Bool) → eqb (bit b j) 1 ≡ t → min (bit a j) (bit (2 ^ 64 - 1 - b) j) ≡ cond t 0 (bit a j)
+    go true f true e = rw (bit-not 64 b j m (ltb-true j 64 f), eqb-true (bit b j) 1 e) (omega arith)
+    go true f false e =
+        let z : bit b j ≡ 0 = let n : bit b j ≡ 1 → ⊥ = eqb-false (bit b j) 1 e in omega (arith, bit-lt b j) in
+        rw (bit-not 64 b j m (ltb-true j 64 f), z) (omega (arith, bit-lt a j))
+    go false f true e = rw (bit-high 64 a j l (ltb-false j 64 f)) (omega arith)
+    go false f false e = rw (bit-high 64 a j l (ltb-false j 64 f)) (omega arith)
+
 -- b is a without its member i: one less
 pub ones-less : (k i a b : ℕ) → a < 2 ^ k → b < 2 ^ k → bit a i ≡ 1 → bit b i ≡ 0 → ((j : ℕ) → (j ≡ i → ⊥) → bit b j ≡ bit a j) → ones a ≡ 1 + ones b
 unfolding bit
@@ -199,9 +212,16 @@ ones-from (suc k) s h f i g =
     go false q low rest = let n : f i ≡ 1 → ⊥ = eqb-false (f i) 1 q in rw (ones-step s) (omega arith)
 
 -- the count of ones is the number of members
-pub size-members : (s : ℕ) → s < 2 ^ 64 → ones s ≡ length (members s)
+pub size-members : (s : ℕ) → s < 2 ^ heads-width → ones s ≡ length (members s)
 unfolding members
-size-members s h = sym (ones-from 64 s h (bit s) 0 (λ j. ap (bit s) (sym (zero-add j))))
+size-members s h = sym (ones-from heads-width s h (bit s) 0 (λ j. ap (bit s) (sym (zero-add j))))
+
+-- a set in one word, or of heads, is below this
+pub word-wide : (s : ℕ) → s < 2 ^ set-limit → s < 2 ^ heads-width
+word-wide s h = lt-trans h (pow-lt {i = set-limit} {j = heads-width} (omega arith))
+
+pub heads-wide : (s : ℕ) → s < 2 ^ heads-limit → s < 2 ^ heads-width
+heads-wide s h = lt-trans h (pow-lt {i = heads-limit} {j = heads-width} (omega arith))
 
 -- a member is one of the list
 counted : (i n c : ℕ) → i ≤ c → c < i + n → memb c (count-up i n) ≡ true
@@ -212,9 +232,9 @@ counted i (suc n) c l h = go (eqb c i) refl (λ m. counted (suc i) n c m (omega 
     go true e f = refl
     go false e f = let d : c ≡ i → ⊥ = eqb-false c i e in f (omega arith)
 
-pub members-has : (s i : ℕ) → i < set-limit → memb i (members s) ≡ eqb (bit s i) 1
+pub members-has : (s i : ℕ) → i < heads-width → memb i (members s) ≡ eqb (bit s i) 1
 unfolding members
-members-has s i h = memb-keep (λ j. eqb (bit s j) 1) i (count-up 0 set-limit) ∙ rw (counted 0 64 i (omega arith) (omega arith))
+members-has s i h = memb-keep (λ j. eqb (bit s j) 1) i (count-up 0 heads-width) ∙ rw (counted 0 heads-width i (omega arith) (omega arith))
 
 -- the numbers below n
 
@@ -250,7 +270,7 @@ pub size-none : (s : ℕ) → ones s ≡ 0 → (i : ℕ) → bit s i ≡ 0
 size-none s e i = ap (λ (n : ℕ). bit n i) (ones-empty s e) ∙ bit-zero i
 
 size-empty : length (members 0) ≡ 0
-size-empty = sym (size-members 0 (pow-pos 64)) ∙ ones-zero
+size-empty = sym (size-members 0 (pow-pos heads-width)) ∙ ones-zero
 
 pub size-some : (s n : ℕ) → n ≡ length (members s) → (n ≡ 0 → ⊥) → s ≡ 0 → ⊥
 size-some s n e f z = f (e ∙ ap (λ (m : ℕ). length (members m)) z ∙ size-empty)
@@ -272,8 +292,8 @@ ones-among (suc k) a b h g f =
       λ e. let z : a / 2 ≡ b / 2 = rest .1 (omega (arith, rest .0)) in omega (arith, rest .0, z, ap ones z),
     )
 
-pub size-among : (a b : ℕ) → a < 2 ^ 64 → b < 2 ^ 64 → ((i : ℕ) → bit a i ≤ bit b i) → length (members a) ≡ length (members b) → a ≡ b
-size-among a b h g f e = ones-among 64 a b h g f .1 (size-members a h ∙ e ∙ sym (size-members b g))
+pub size-among : (a b : ℕ) → a < 2 ^ heads-limit → b < 2 ^ heads-limit → ((i : ℕ) → bit a i ≤ bit b i) → length (members a) ≡ length (members b) → a ≡ b
+size-among a b h g f e = ones-among heads-limit a b h g f .1 (size-members a (heads-wide a h) ∙ e ∙ sym (size-members b (heads-wide b g)))
 
 -- there are n numbers below n
 ones-below : (n : ℕ) → ones (2 ^ n - 1) ≡ n
@@ -284,5 +304,8 @@ ones-below (suc n) =
     let low : (2 ^ suc n - 1) % 2 ≡ 1 = omega (arith, pow-pos n) in
     ones-step (2 ^ suc n - 1) ∙ rw (half, low, ones-below n) (omega arith)
 
-pub size-below : (n : ℕ) → n ≤ set-limit → length (members (2 ^ n - 1)) ≡ n
-size-below n h = sym (size-members (2 ^ n - 1) (omega (arith, pow-pos n, pow-mono {i = n} {j = 64} h))) ∙ ones-below n
+pub size-below : (n : ℕ) → n ≤ heads-width → length (members (2 ^ n - 1)) ≡ n
+size-below n h = sym (size-members (2 ^ n - 1) (le-trans (less-one (2 ^ n) (pow-pos n)) (pow-mono {i = n} {j = heads-width} h))) ∙ ones-below n
+  where
+    less-one : (m : ℕ) → 0 < m → m - 1 < m
+    less-one m p = omega arith

@@ -1,1 +1,3 @@
+-- Sets. Read: Set, Heads.
 pub mod Set
+pub mod Heads

@@ -1,6 +1,5 @@
--- A set of numbers below 64, in one number: i is a member of s where bit i of s is 1.
+-- A set of numbers, in one number: i is a member of s where bit i of s is 1.
 use mathlib.Core.Path.{_≡_}
-use mathlib.Core.Bool.{Bool, true, false}
 use mathlib.Core.List.{List, [], _∷_}
 use Prim.Native.Nat.{ℕ, zero, suc, _+_, _-_, _/_, _%_, _^_, _<_, _≤_}
 use lib.Bits.{bitAnd, bitOr}
@@ -8,18 +7,22 @@ use lib.Dec.{eqb}
 use Rattle.signature.specs.Limits.{heads-limit}
 use Rattle.signature.specs.Lists.{keep, count-up}
 
--- the members are below this
+-- the members of a set in one word are below this
 abbrev pub set-limit : ℕ
 set-limit = 64
+
+-- and those of a set of heads, in two words, below this
+abbrev pub heads-width : ℕ
+heads-width = 128
 
 -- bit i of s: 0 or 1
 unfoldable pub bit : ℕ → ℕ → ℕ
 bit s zero = s % 2
 bit s (suc i) = bit (s / 2) i
 
--- the set of all numbers below 64
+-- the set of all numbers below 128
 abbrev pub all-set : ℕ
-all-set = 18446744073709551615
+all-set = 340282366920938463463374607431768211455
 
 -- the members of either; of both
 abbrev pub union : ℕ → ℕ → ℕ
@@ -30,11 +33,11 @@ intersection a b = bitAnd a b
 
 -- the members, rising
 unfoldable pub members : ℕ → List ℕ
-members s = keep (λ i. eqb (bit s i) 1) (count-up 0 set-limit)
+members s = keep (λ i. eqb (bit s i) 1) (count-up 0 heads-width)
 
--- r is the lowest member of s
-pub record Lowest (s r : ℕ) : Type 0 where
-  pub small : r < set-limit
+-- r is the lowest member of s, and below n
+pub record Lowest (n s r : ℕ) : Type 0 where
+  pub small : r < n
   pub member : bit s r ≡ 1
   pub none-below : (j : ℕ) → j < r → bit s j ≡ 0
 

@@ -1,2 +1,3 @@
-// Sets of at most 64 numbers.
+// Sets of at most 64 numbers, and sets of heads.
+pub mod heads;
 pub mod set;

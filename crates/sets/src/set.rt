@@ -60,7 +60,7 @@ pub fn size(s: u64) -> u32
 
 pub fn lowest(s: u64) -> u32
     requires { ⌜ 0 < s ⌝ }
-    ensures { λ r. ⌜ Lowest s r ⌝ }
+    ensures { λ r. ⌜ Lowest set-limit s r ⌝ }
 {
     u64::trailing_zeros(s)
 }

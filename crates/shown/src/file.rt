@@ -4,7 +4,7 @@ ghost use Prim.Native.Nat.{_≤_};
 ghost use lib.ListN.{length};
 ghost use Rattle.io.specs.Counts.{Counts};
 
-const BYTES: usize = 131072;
+const BYTES: usize = 196608;
 
 fn wide(x: u8) -> u16
     ensures { λ r. ⌜ r ≤ 255 ⌝ }

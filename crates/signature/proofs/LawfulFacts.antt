@@ -7,15 +7,15 @@ use Prim.Native.Nat.{ℕ, _≤_, _<_, suc, zero}
 use native.Mathlib.Omega.{arith}
 use lib.Dec.{ltb, leb, eqb, leb→le}
 use lib.ListN.{length, getElem?}
-use Rattle.signature.specs.Limits.{constructor-limit, kind-limit, heads-limit, small-size, argument-limit}
+use Rattle.signature.specs.Limits.{constructor-limit, kind-limit, row-limit, small-size, argument-limit}
 use Rattle.signature.specs.Lists.{all, All, count-up, require, _>>=_, none-left, also}
-use Rattle.signature.specs.Read.{count-kinds, least, Signed, read-constructors, lawful-kinds, lawful, kinds-from}
-use Rattle.signature.specs.Signature.{Signature, heads, Constructor, arguments-at}
+use Rattle.signature.specs.Read.{count-kinds, least, Signed, read-constructors, stands-alone, lawful-kinds, lawful, kinds-from}
+use Rattle.signature.specs.Signature.{Signature, numbers, Constructor, arguments-at}
 use Rattle.signature.proofs.Booleans.{and-right, and-left}
-use Rattle.signature.proofs.Heads.{Small, Dense, dense-of, constructor-of}
-use Rattle.signature.proofs.Least.{few-args, kinds-small}
+use Rattle.signature.proofs.Heads.{Small, Plain, Dense, dense-of, row-of}
+use Rattle.signature.proofs.Least.{few-args, bare-rows, kinds-small}
 use Rattle.signature.proofs.ListFacts.{all-at, test-at}
-use Rattle.signature.proofs.Tests.{none≢some, bind-some, true≢false, some-inj, require-some, eqb-eq, T-of}
+use Rattle.signature.proofs.Tests.{none≢some, bind-some, true≢false, some-inj, require-some, eqb-eq, T-of, le-of}
 
 pub record SigFacts (sig : Signature) : Type 0 where
   pub n : ℕ
@@ -23,24 +23,30 @@ pub record SigFacts (sig : Signature) : Type 0 where
   pub args-exist : all (λ c. all (λ k. ltb k n) (c .args)) sig ≡ true
   pub least-six : all (λ m. leb m small-size) (least small-size sig n) ≡ true
   pub few-arguments : All (λ c. length (c .args) ≤ argument-limit) sig
+  pub plain : Plain sig
 
 pub sig-facts : (sig : Signature) → Signed sig → SigFacts sig
 sig-facts sig ([], e) = none≢some e
 sig-facts sig (n ∷ ws, e) = go₀ (bind-some (read-constructors n ws) _ sig e)
   where
-    go : (o : Option ℕ) → count-kinds sig ≡ o → lawful-kinds sig o ≡ true → All (λ c. length (c .args) ≤ argument-limit) sig → SigFacts sig
-    go none q h f = true≢false (sym h)
-    go (some m) q h f =
-        let a = leb 1 (length sig) && leb (length sig) constructor-limit && leb m kind-limit && all (λ k. leb (length (heads sig k)) heads-limit) (count-up 0 m) in
+    go : (o : Option ℕ) → count-kinds sig ≡ o → lawful-kinds sig o ≡ true → All (λ c. length (c .args) ≤ argument-limit) sig → All (λ c. c .number ≡ true → c .args ≡ []) sig → SigFacts sig
+    go none q h f g = true≢false (sym h)
+    go (some m) q h f g =
+        let a₁ = leb 1 (length sig) in
+        let a₂ = leb (length sig) constructor-limit in
+        let a₃ = leb m kind-limit in
+        let a₄ = all (λ k. leb (length (numbers sig k)) row-limit) (count-up 0 m) in
+        let a₅ = all (stands-alone sig) sig in
+        let a = a₁ && a₂ && a₃ && a₄ && a₅ in
         let b = all (λ c. all (λ k. ltb k m) (c .args)) sig in
         let c = all (λ j. leb j small-size) (least small-size sig m) in
-        record { n = m; kinds-are = q; args-exist = and-right a b (and-left (a && b) c h); least-six = and-right (a && b) c h; few-arguments = f }
+        record { n = m; kinds-are = q; args-exist = and-right a b (and-left (a && b) c h); least-six = and-right (a && b) c h; few-arguments = f; plain = record { short = omega (arith, le-of (length sig) constructor-limit (and-right a₁ a₂ (and-left (a₁ && a₂) a₃ (and-left (a₁ && a₂ && a₃) a₄ (and-left (a₁ && a₂ && a₃ && a₄) a₅ (and-left a b (and-left (a && b) c h))))))); bare = g } }
 
     go₀ : (s : Signature) × (read-constructors n ws ≡ some s) × ((require (lawful s) >>= λ u. some s) ≡ some sig) → SigFacts sig
     go₀ (s, e₁, f₁) =
         let (u, e₂, f₂) = bind-some (require (lawful s)) _ sig f₁ in
         let q : s ≡ sig = some-inj s sig f₂ in
-        go (count-kinds sig) refl (ap lawful (sym q) ∙ require-some (lawful s) u e₂) (subst (All (λ c. length (c .args) ≤ argument-limit)) q (few-args n ws s e₁))
+        go (count-kinds sig) refl (ap lawful (sym q) ∙ require-some (lawful s) u e₂) (subst (All (λ c. length (c .args) ≤ argument-limit)) q (few-args n ws s e₁)) (subst (All (λ c. c .number ≡ true → c .args ≡ [])) q (bare-rows n ws s e₁))
 
 rising-above : (k m : ℕ) (cs : Signature) → kinds-from k cs ≡ some m → k < m
 rising-above k m [] e = omega (arith, some-inj (suc k) m e)
@@ -81,16 +87,16 @@ kinds-kind (c ∷ cs) m i d e a = go i a (bind-some (require (eqb (c .kind) 0)) 
 module _ (sig : Signature) (f : SigFacts sig) where
   small-kinds : (ks : List ℕ) → all (λ k. ltb k (f .n)) ks ≡ true → All (Small sig) ks
   small-kinds [] e = none-left
-  small-kinds (k ∷ ks) e = also k (kinds-small sig (f .n) (f .least-six) k (leb→le (suc k) (f .n) (T-of (ltb k (f .n)) (and-left (ltb k (f .n)) (all (λ j. ltb j (f .n)) ks) e)))) (small-kinds ks (and-right (ltb k (f .n)) (all (λ j. ltb j (f .n)) ks) e))
+  small-kinds (k ∷ ks) e = also k (kinds-small sig (f .plain) (f .n) (f .least-six) k (leb→le (suc k) (f .n) (T-of (ltb k (f .n)) (and-left (ltb k (f .n)) (all (λ j. ltb j (f .n)) ks) e)))) (small-kinds ks (and-right (ltb k (f .n)) (all (λ j. ltb j (f .n)) ks) e))
 
   pub dense : Dense sig
   dense = dense-of sig (f .n) (f .kinds-are)
 
   pub few : (k c : ℕ) (js : List ℕ) → arguments-at sig k c ≡ some js → length js ≤ argument-limit
-  few k c js e = let (d, e₁, q, a) = constructor-of sig k c js e in subst (λ x. length x ≤ argument-limit) a (all-at (f .few-arguments) c d e₁)
+  few k c js e = let (i, d, e₁, q, a) = row-of sig (f .plain) k c js e in subst (λ x. length x ≤ argument-limit) a (all-at (f .few-arguments) i d e₁)
 
   pub args-small : (k c : ℕ) (js : List ℕ) → arguments-at sig k c ≡ some js → All (Small sig) js
-  args-small k c js e = let (d, e₁, q, a) = constructor-of sig k c js e in subst (All (Small sig)) a (small-kinds (d .args) (test-at (λ x. all (λ j. ltb j (f .n)) (x .args)) sig c d (f .args-exist) e₁))
+  args-small k c js e = let (i, d, e₁, q, a) = row-of sig (f .plain) k c js e in subst (All (Small sig)) a (small-kinds (d .args) (test-at (λ x. all (λ j. ltb j (f .n)) (x .args)) sig i d (f .args-exist) e₁))
 
   pub small-0 : Small sig 0
-  small-0 = kinds-small sig (f .n) (f .least-six) 0 (kinds-above sig (f .n) (f .kinds-are))
+  small-0 = kinds-small sig (f .plain) (f .n) (f .least-six) 0 (kinds-above sig (f .n) (f .kinds-are))

@@ -1,8 +1,8 @@
 -- The least size of a kind, as it is reckoned, against its existence.
 use mathlib.Core.Path.{_≡_, subst, refl, sym, _∙_, ap}
-use mathlib.Core.List.{List, [], _∷_}
+use mathlib.Core.List.{List, [], _∷_, _++_}
 use mathlib.Core.Option.{some, Option, none}
-use mathlib.Core.Bool.{true, Bool, false}
+use mathlib.Core.Bool.{true, Bool, false, cond}
 use Prim.Native.Nat.{ℕ, _≤_, zero, suc, _+_, min, _<_, _-_}
 use native.Mathlib.Decide.{decLe}
 use native.Mathlib.Nat.{suc-add, add-suc, add-zero, zero-add}
@@ -10,31 +10,59 @@ use native.Mathlib.Omega.{arith}
 use lib.Dec.{leb, leb→le, eqb}
 use lib.ListN.{length, getElem?}
 use Rattle.signature.specs.Lawful.{OfKind, OfKinds, of-kinds-nil, of-kinds-cons, of-kind, EveryKindSmall}
-use Rattle.signature.specs.Limits.{small-size, over-small, argument-limit}
-use Rattle.signature.specs.Lists.{All, none-left, require, split, also, all}
-use Rattle.signature.specs.Read.{read-constructors, total, best, least}
-use Rattle.signature.specs.Signature.{Signature, Constructor, arguments-at}
+use Rattle.signature.specs.Limits.{small-size, over-small, argument-limit, number-count, level-base}
+use Rattle.signature.specs.Lists.{All, none-left, require, also, all}
+use Rattle.signature.specs.Read.{read-arguments, read-constructors, total, best, least}
+use Rattle.signature.specs.Signature.{Signature, Constructor, arguments-at, is-number-kind}
 use Rattle.signature.specs.Value.{Value, size, Values, sizes, vnil, vcons, con, depth, depths}
-use Rattle.signature.proofs.Heads.{Small, constructor-of}
-use Rattle.signature.proofs.ListFacts.{length-split, at-count-is, at-count, test-at, all-first, all-count-map}
-use Rattle.signature.proofs.Tests.{some-inj, none≢some, bind-some, T-of, require-some, true≢false, leb-yes}
+use Rattle.signature.proofs.Heads.{Small, Plain, row-of, level-arguments, constructor-arguments}
+use Rattle.signature.proofs.ListFacts.{split-was, all-imp, at-count-is, at-count, test-at, all-first, all-count-map}
+use Rattle.signature.proofs.Tests.{some-inj, none≢some, bind-some, T-of, require-some, true≢false, leb-yes, le-of, eqb-eq, eqb-ne}
 use Rattle.signature.proofs.Values.{depth-size}
 
-pub few-args : (n : ℕ) (ws : List ℕ) (sig : Signature) → read-constructors n ws ≡ some sig → All (λ c. length (c .args) ≤ argument-limit) sig
-few-args zero [] sig e = subst (λ z. All (λ c. length (c .args) ≤ argument-limit) z) (some-inj [] sig e) none-left
-few-args zero (w ∷ ws) sig e = none≢some e
-few-args (suc n) [] sig e = none≢some e
-few-args (suc n) (k ∷ []) sig e = none≢some e
-few-args (suc n) (k ∷ (m ∷ ws)) sig e =
-    let (u, e₁, f₁) = bind-some (require (leb m argument-limit)) _ sig e in
-    let (r, e₂, f₂) = bind-some (split m ws) _ sig f₁ in
-    let (cs, e₃, f₃) = bind-some (read-constructors n (r .1)) _ sig f₂ in
-    let l : m ≤ argument-limit = leb→le m argument-limit (T-of (leb m argument-limit) (require-some (leb m argument-limit) u e₁)) in
-    let q : length (r .0) ≡ m = length-split m ws r e₂ in
-    let g : length (r .0) ≤ argument-limit = omega arith in
-    subst (λ z. All (λ c. length (c .args) ≤ argument-limit) z) (some-inj (record { kind = k; args = r .0 } ∷ cs) sig f₃) (also (record { kind = k; args = r .0 }) g (few-args n (r .1) cs e₃))
+-- what a row has that was read
+abbrev RowRight : Constructor → Type 0
+RowRight c = (length (c .args) ≤ argument-limit) × (c .number ≡ true → c .args ≡ [])
 
-module _ (sig : Signature) where
+no-words : (xs : List ℕ) → length xs ≡ 0 → xs ≡ []
+no-words [] e = refl
+no-words (x ∷ xs) e = absurd (omega arith)
+
+-- the argument kinds behind a second word m
+pub arguments-read : (m : ℕ) (ws : List ℕ) (r : List ℕ × List ℕ) → read-arguments m ws ≡ some r → (length (r .0) ≤ argument-limit) × (eqb m number-count ≡ true → r .0 ≡ []) × (cond (eqb m number-count) number-count (length (r .0)) ≡ m) × (ws ≡ r .0 ++ r .1)
+arguments-read m ws r e =
+    let (u, e₁, e₂) = bind-some (require (leb m number-count)) _ r e in
+    let l : m ≤ number-count = le-of m number-count (require-some (leb m number-count) u e₁) in
+    let (p, q) = split-was (cond (eqb m number-count) 0 m) ws r e₂ in
+    go (eqb m number-count) refl l p q
+  where
+    go : (b : Bool) → eqb m number-count ≡ b → m ≤ number-count → length (r .0) ≡ cond (eqb m number-count) 0 m → ws ≡ r .0 ++ r .1 → (length (r .0) ≤ argument-limit) × (eqb m number-count ≡ true → r .0 ≡ []) × (cond (eqb m number-count) number-count (length (r .0)) ≡ m) × (ws ≡ r .0 ++ r .1)
+    go true z l p q =
+        let p′ : length (r .0) ≡ 0 = rw z at p in
+        (omega arith, λ h. no-words (r .0) p′, rw z (sym (eqb-eq m number-count z)), q)
+    go false z l p q =
+        let p′ : length (r .0) ≡ m = rw z at p in
+        let n : ¬ (m ≡ number-count) = eqb-ne m number-count z in
+        (omega arith, λ h. true≢false (sym h ∙ z), rw z p′, q)
+
+rows-right : (n : ℕ) (ws : List ℕ) (sig : Signature) → read-constructors n ws ≡ some sig → All RowRight sig
+rows-right zero [] sig e = subst (All RowRight) (some-inj [] sig e) none-left
+rows-right zero (w ∷ ws) sig e = none≢some e
+rows-right (suc n) [] sig e = none≢some e
+rows-right (suc n) (k ∷ []) sig e = none≢some e
+rows-right (suc n) (k ∷ (m ∷ ws)) sig e =
+    let (r, e₁, f₁) = bind-some (read-arguments m ws) _ sig e in
+    let (cs, e₂, f₂) = bind-some (read-constructors n (r .1)) _ sig f₁ in
+    let (l, b, c, q) = arguments-read m ws r e₁ in
+    subst (All RowRight) (some-inj (record { kind = k; args = r .0; number = eqb m number-count } ∷ cs) sig f₂) (also (record { kind = k; args = r .0; number = eqb m number-count }) (l, b) (rows-right n (r .1) cs e₂))
+
+pub few-args : (n : ℕ) (ws : List ℕ) (sig : Signature) → read-constructors n ws ≡ some sig → All (λ c. length (c .args) ≤ argument-limit) sig
+few-args n ws sig e = all-imp (λ c h. h .0) (rows-right n ws sig e)
+
+pub bare-rows : (n : ℕ) (ws : List ℕ) (sig : Signature) → read-constructors n ws ≡ some sig → All (λ c. c .number ≡ true → c .args ≡ []) sig
+bare-rows n ws sig e = all-imp (λ c h. h .1) (rows-right n ws sig e)
+
+module _ (sig : Signature) (plain : Plain sig) where
   abbrev Value≤ : ℕ → ℕ → Type 0
   Value≤ k m = (v : Value) × OfKind sig k v × (size v ≤ m)
 
@@ -73,10 +101,13 @@ module _ (sig : Signature) where
       go false z q g = rw q (g (rw q at l))
 
   value-by : (table : List ℕ) → Least≤ table → (k m : ℕ) → m ≤ small-size → By table k m → Value≤ k m
-  value-by table f k m l (i, c, e, q, a) =
-      let (vs, h, b) = total-small table f (c .args) (omega arith) in
-      let w : arguments-at sig k i ≡ some (c .args) = rw (e, q) in
-      (con i vs, of-kind w h, omega arith)
+  value-by table f k m l (i, c, e, q, a) = go (is-number-kind sig k) refl
+    where
+      go : (b : Bool) → is-number-kind sig k ≡ b → Value≤ k m
+      go true r = (con level-base vnil, of-kind (level-arguments sig plain k level-base r refl) of-kinds-nil, omega arith)
+      go false r =
+          let (vs, h, b) = total-small table f (c .args) (omega arith) in
+          (con i vs, of-kind (constructor-arguments sig k i c r e q) h, omega arith)
 
   pub least-small : (n d : ℕ) → Least≤ (least d sig n)
   least-small n zero k m e l = absurd (let z : over-small ≡ m = at-count-is (λ j. over-small) 0 n k m e in omega arith)
@@ -111,16 +142,16 @@ module _ (sig : Signature) (n : ℕ) where
   at-least zero k l = (over-small, at-count (λ j. over-small) 0 n k l)
   at-least (suc d) k l = (min over-small (best sig (least d sig n) (0 + k)), at-count (λ j. min over-small (best sig (least d sig n) j)) 0 n k l)
 
-module _ (sig : Signature) (n : ℕ) where
+module _ (sig : Signature) (plain : Plain sig) (n : ℕ) where
   module _ (exist : (k c : ℕ) (js : List ℕ) → arguments-at sig k c ≡ some js → All (λ j. j < n) js) where
     mutual
       least-most : {k : ℕ} {v : Value} → OfKind sig k v → (d : ℕ) → k < n → depth v ≤ d → (m : ℕ) → getElem? (least d sig n) k ≡ some m → m ≤ size v
       least-most (of-kind e h) zero l g m a = absurd (omega arith)
       least-most (of-kind {k = k} {c = c} {ks = js} {vs = vs} e h) (suc d) l g m a =
-          let (b, e₁, q, z) = constructor-of sig k c js e in
+          let (i, b, e₁, q, z) = row-of sig plain k c js e in
           let r : getElem? (least (suc d) sig n) k ≡ some (min over-small (best sig (least d sig n) (0 + k))) = at-count (λ j. min over-small (best sig (least d sig n) j)) 0 n k l in
           let w : min over-small (best sig (least d sig n) k) ≡ m = rw (zero-add k) at (some-inj (min over-small (best sig (least d sig n) (0 + k))) m (sym r ∙ a)) in
-          let x : best sig (least d sig n) k ≤ suc (total (least d sig n) (b .args)) = best-most (least d sig n) k c sig b e₁ q in
+          let x : best sig (least d sig n) k ≤ suc (total (least d sig n) (b .args)) = best-most (least d sig n) k i sig b e₁ q in
           let y : total (least d sig n) js ≤ sizes vs = total-most h d (exist k c js e) (omega arith) in
           let y′ : total (least d sig n) (b .args) ≤ sizes vs = rw z y in
           omega arith
@@ -144,6 +175,6 @@ module _ (sig : Signature) (n : ℕ) where
             leb-yes (min over-small (best sig (least (small-size - 1) sig n) (0 + j))) small-size (omega arith)
 
 -- 01, Signature: every kind has a value of at most 6 words, said as existence, and as it is decided
-module _ (sig : Signature) (n : ℕ) where
+module _ (sig : Signature) (plain : Plain sig) (n : ℕ) where
   pub least-exists : all (λ m. leb m small-size) (least small-size sig n) ≡ true → EveryKindSmall sig n
-  least-exists h k l = kinds-small sig n h k l
+  least-exists h k l = kinds-small sig plain n h k l

@@ -2,7 +2,7 @@
 use mathlib.Core.Path.{_≡_, refl, sym, ap, _∙_, subst}
 use mathlib.Core.List.{List, [], _∷_}
 use mathlib.Core.Option.{some}
-use mathlib.Core.Bool.{Bool, true, false, _&&_}
+use mathlib.Core.Bool.{Bool, true, false, cond, _&&_}
 use Prim.Native.Nat.{ℕ, zero, suc, _≤_, _<_, min}
 use native.Mathlib.Nat.{zero-add}
 use native.Mathlib.Decide.{decLe}
@@ -10,10 +10,10 @@ use native.Mathlib.Omega.{arith}
 use lib.ListN.{length, getD, getElem?}
 use lib.Dec.{eqb, leb, ltb}
 use Rattle.signature.specs.Lawful.{OfKind, of-kind, OfKinds, of-kinds-nil, of-kinds-cons}
-use Rattle.signature.specs.Limits.{small-size, over-small}
-use Rattle.signature.specs.Lists.{All, none-left, also, all, memb, first, keep}
+use Rattle.signature.specs.Limits.{small-size, over-small, level-base, last-level}
+use Rattle.signature.specs.Lists.{All, none-left, also, all, memb, first, keep, count-up}
 use Rattle.signature.specs.Read.{best, least, total, count-kinds, Signed}
-use Rattle.signature.specs.Signature.{Signature, Constructor, arguments-at, arguments, heads}
+use Rattle.signature.specs.Signature.{Signature, Constructor, arguments-at, arguments, heads, numbers, levels, is-number-kind}
 use Rattle.signature.specs.Value.{Value, Values, con, vnil, vcons, size, sizes, depth, depths}
 use Rattle.signature.specs.Decoded.{least-size, least-head}
 use Rattle.signature.proofs.Booleans.{and-left, and-right}
@@ -21,7 +21,7 @@ use Rattle.signature.proofs.Members.{memb-keep}
 use Rattle.signature.proofs.ListFacts.{all-first, all-is, test-at, at-getD}
 use Rattle.signature.proofs.Tests.{none≢some, some-inj, same-some, true≢false, eqb-self, eqb-eq, le-of}
 use Rattle.signature.proofs.Values.{depth-size}
-use Rattle.signature.proofs.Heads.{constructor-of, has-kind, args-same, kind-of-head}
+use Rattle.signature.proofs.Heads.{Plain, row-of, level-bare, level-arguments, has-kind, args-same, kind-of-head}
 use Rattle.signature.proofs.Least.{least-small}
 use Rattle.signature.proofs.LawfulFacts.{SigFacts, sig-facts}
 use Rattle.signature.proofs.Counting.{counted-length, getD-counted}
@@ -45,6 +45,9 @@ pub record HeadReaches (sig : Signature) (n k : ℕ) : Type 0 where
   pub has-args : arguments-at sig k (least-head sig n k) ≡ some args
   pub reaches : suc (total (least small-size sig n) args) ≡ least-size sig n k
 
+keeps-first : (f : ℕ → Bool) (x : ℕ) (xs : List ℕ) → f x ≡ true → first (keep f (x ∷ xs)) ≡ x
+keeps-first f x xs e = rw e
+
 first-kept : (f : ℕ → Bool) (c : ℕ) (cs : List ℕ) → memb c (keep f cs) ≡ true → memb (first (keep f cs)) (keep f cs) ≡ true
 first-kept f c cs e = go (keep f cs) e
   where
@@ -52,7 +55,7 @@ first-kept f c cs e = go (keep f cs) e
     go [] m = true≢false (sym m)
     go (d ∷ ds) m = rw (eqb-self d)
 
-module _ (sig : Signature) (n : ℕ) (exist : (k c : ℕ) (js : List ℕ) → arguments-at sig k c ≡ some js → All (λ j. j < n) js) where
+module _ (sig : Signature) (plain : Plain sig) (n : ℕ) (exist : (k c : ℕ) (js : List ℕ) → arguments-at sig k c ≡ some js → All (λ j. j < n) js) where
   size-at : (d k : ℕ) → k < n → getElem? (least d sig n) k ≡ some (getD (least d sig n) k 0)
   size-at d k l = at-getD (least d sig n) k (omega (arith, long d))
     where
@@ -65,9 +68,9 @@ module _ (sig : Signature) (n : ℕ) (exist : (k c : ℕ) (js : List ℕ) → ar
     value-most : {k : ℕ} {v : Value} → OfKind sig k v → (d : ℕ) → k < n → depth v ≤ d → getD (least d sig n) k 0 ≤ size v
     value-most (of-kind e h) zero l g = absurd (omega arith)
     value-most (of-kind {k = k} {c = c} {ks = js} {vs = vs} e h) (suc d) l g =
-        let (b, e₁, q, z) = constructor-of sig k c js e in
+        let (i, b, e₁, q, z) = row-of sig plain k c js e in
         let r : getD (least (suc d) sig n) k 0 ≡ min over-small (best sig (least d sig n) k) = getD-counted (λ j. min over-small (best sig (least d sig n) j)) 0 n k l ∙ ap (λ j. min over-small (best sig (least d sig n) j)) (zero-add k) in
-        let x : best sig (least d sig n) k ≤ suc (total (least d sig n) (b .args)) = best-below (least d sig n) k c sig b e₁ q in
+        let x : best sig (least d sig n) k ≤ suc (total (least d sig n) (b .args)) = best-below (least d sig n) k i sig b e₁ q in
         let y : total (least d sig n) (b .args) ≤ sizes vs = rw z (values-most h d (exist k c js e) (omega arith)) in
         omega arith
 
@@ -94,7 +97,7 @@ module _ (sig : Signature) (n : ℕ) (exist : (k c : ℕ) (js : List ℕ) → ar
     -- some value is as small
     pub smallest-value : (k : ℕ) → k < n → (v : Value) × OfKind sig k v × (size v ≡ least-size sig n k)
     smallest-value k l =
-        let (v, h, m) = least-small sig n small-size k (least-size sig n k) (size-at small-size k l) (size-small k l) in
+        let (v, h, m) = least-small sig plain n small-size k (least-size sig n k) (size-at small-size k l) (size-small k l) in
         (v, h, omega (arith, size-least l h))
 
     smallest-values : {js : List ℕ} → All (λ j. j < n) js → (vs : Values) × OfKinds sig js vs × (sizes vs ≡ total (least small-size sig n) js)
@@ -144,21 +147,38 @@ module _ (sig : Signature) (signed : Signed sig) (n : ℕ) (kinds : count-kinds 
 
   pub arguments-exist : (k c : ℕ) (js : List ℕ) → arguments-at sig k c ≡ some js → All (λ j. j < n) js
   arguments-exist k c js e =
-      let (d, e₁, q, a) = constructor-of sig k c js e in
+      let (i, d, e₁, q, a) = row-of sig (facts .plain) k c js e in
       let h : all (λ c. all (λ j. ltb j n) (c .args)) sig ≡ true = rw same at (facts .args-exist) in
-      subst (All (λ j. j < n)) a (all-is (λ j. ltb j n) (λ j t. le-of (suc j) n t) (d .args) (test-at (λ x. all (λ j. ltb j n) (x .args)) sig c d h e₁))
+      subst (All (λ j. j < n)) a (all-is (λ j. ltb j n) (λ j t. le-of (suc j) n t) (d .args) (test-at (λ x. all (λ j. ltb j n) (x .args)) sig i d h e₁))
 
   pub all-small : all (λ m. leb m small-size) (least small-size sig n) ≡ true
   all-small = rw same at (facts .least-six)
 
   pub least-exists : (k : ℕ) → k < n → (v : Value) × OfKind sig k v × (size v ≡ least-size sig n k)
-  least-exists = smallest-value sig n arguments-exist all-small
+  least-exists = smallest-value sig (facts .plain) n arguments-exist all-small
 
   pub least-below : {k : ℕ} {v : Value} → k < n → OfKind sig k v → least-size sig n k ≤ size v
-  least-below = size-least sig n arguments-exist all-small
+  least-below = size-least sig (facts .plain) n arguments-exist all-small
 
   pub least-at-most : (k : ℕ) → k < n → least-size sig n k ≤ small-size
-  least-at-most = size-small sig n arguments-exist all-small
+  least-at-most = size-small sig (facts .plain) n arguments-exist all-small
 
   pub least-head-reaches : (k : ℕ) → k < n → HeadReaches sig n k
-  least-head-reaches = head-reaches sig n arguments-exist all-small
+  least-head-reaches = head-reaches sig (facts .plain) n arguments-exist all-small
+
+  -- the least value of a number kind is the level 0
+  pub lowest-level : (k : ℕ) → k < n → is-number-kind sig k ≡ true → least-head sig n k ≡ level-base
+  lowest-level k l q = go (least-exists k l)
+    where
+      f : ℕ → Bool
+      f c = eqb (suc (total (least small-size sig n) (arguments sig c))) (least-size sig n k)
+
+      one : (v : Value) → size v ≡ least-size sig n k → least-size sig n k ≡ 1
+      one (con c vs) e =
+          let m : least-size sig n k ≤ 1 = least-below l (of-kind (level-arguments sig (facts .plain) k level-base q refl) of-kinds-nil) in
+          omega arith
+
+      go : (v : Value) × OfKind sig k v × (size v ≡ least-size sig n k) → least-head sig n k ≡ level-base
+      go (v, h, e) =
+          let z : f level-base ≡ true = rw (level-bare sig (facts .plain) level-base (omega arith), one v e) in
+          ap (λ b. first (keep f (cond b levels (numbers sig k)))) q ∙ keeps-first f level-base (count-up (suc level-base) last-level) z

@@ -2,6 +2,7 @@
 use mathlib.Core.Path.{_≡_}
 use mathlib.Core.List.{List, [], _∷_}
 use mathlib.Core.Option.{none, some}
+use mathlib.Core.Bool.{true, false}
 use Prim.Native.Nat.{ℕ}
 use Rattle.signature.specs.Part.{part-call}
 use Rattle.signature.specs.Read.{read-signature, read-booking}
@@ -13,7 +14,14 @@ abbrev pub words-T : List ℕ
 words-T = 6 ∷ 0 ∷ 2 ∷ 1 ∷ 2 ∷ 1 ∷ 0 ∷ 1 ∷ 0 ∷ 1 ∷ 0 ∷ 2 ∷ 0 ∷ 2 ∷ 0 ∷ []
 
 abbrev pub T : Signature
-T = record { kind = 0; args = 1 ∷ 2 ∷ [] } ∷ record { kind = 1; args = [] } ∷ record { kind = 1; args = [] } ∷ record { kind = 1; args = [] } ∷ record { kind = 2; args = [] } ∷ record { kind = 2; args = [] } ∷ []
+T = record { kind = 0; args = 1 ∷ 2 ∷ []; number = false } ∷ record { kind = 1; args = []; number = false } ∷ record { kind = 1; args = []; number = false } ∷ record { kind = 1; args = []; number = false } ∷ record { kind = 2; args = []; number = false } ∷ record { kind = 2; args = []; number = false } ∷ []
+
+-- 02, job 1: a booking is a bus and its state of charge; constructor 0 has the kinds 1 and 2, of which 2 is a number kind
+abbrev pub words-L : List ℕ
+words-L = 4 ∷ 0 ∷ 2 ∷ 1 ∷ 2 ∷ 1 ∷ 0 ∷ 1 ∷ 0 ∷ 2 ∷ 5 ∷ []
+
+abbrev pub L : Signature
+L = record { kind = 0; args = 1 ∷ 2 ∷ []; number = false } ∷ record { kind = 1; args = []; number = false } ∷ record { kind = 1; args = []; number = false } ∷ record { kind = 2; args = []; number = true } ∷ []
 
 pub record Cases : Type 0 where
   pub signature-T : read-signature words-T ≡ some T
@@ -33,3 +41,14 @@ pub record Cases : Type 0 where
   pub count-0 : read-signature (0 ∷ []) ≡ none
   pub no-kind : read-signature (1 ∷ 0 ∷ 1 ∷ 1 ∷ []) ≡ none
   pub no-value : read-signature (1 ∷ 0 ∷ 1 ∷ 0 ∷ []) ≡ none
+  -- 02, job 1: levels. 1,037 is level 37; the number row's constructor number, 3, and a level at another kind are unlawful, and so is 1,101
+  pub signature-L : read-signature words-L ≡ some L
+  pub booking-L : read-booking L (0 ∷ 1 ∷ 1037 ∷ []) ≡ some (con 0 (vcons (con 1 vnil) (vcons (con 1037 vnil) vnil)))
+  pub number-row : read-booking L (0 ∷ 1 ∷ 3 ∷ []) ≡ none
+  pub level-elsewhere : read-booking L (0 ∷ 1037 ∷ 1037 ∷ []) ≡ none
+  pub above-levels : read-booking L (0 ∷ 1 ∷ 1101 ∷ []) ≡ none
+  -- kind 0 may be a number kind; its row is the only one of its kind; an argument count of 6 is unlawful
+  pub kind-0-levels : read-booking (record { kind = 0; args = []; number = true } ∷ []) (1100 ∷ []) ≡ some (con 1100 vnil)
+  pub number-and-other : read-signature (2 ∷ 0 ∷ 5 ∷ 0 ∷ 0 ∷ []) ≡ none
+  pub two-numbers : read-signature (2 ∷ 0 ∷ 5 ∷ 0 ∷ 5 ∷ []) ≡ none
+  pub six-arguments : read-signature (1 ∷ 0 ∷ 6 ∷ []) ≡ none

@@ -2,10 +2,11 @@
 use mathlib.Core.Path.{_≡_}
 use mathlib.Core.List.{List, _++_}
 use mathlib.Core.Option.{some}
+use mathlib.Core.Bool.{cond}
 use Prim.Native.Nat.{ℕ, suc, _+_, _*_, _<_}
-use lib.Dec.{eqb}
+use lib.Dec.{eqb, leb}
 use lib.ListN.{length, getD, getElem?}
-use Rattle.signature.specs.Limits.{argument-limit, constructor-limit, kind-limit, small-size}
+use Rattle.signature.specs.Limits.{argument-limit, constructor-limit, kind-limit, level-base, small-size}
 use Rattle.signature.specs.Lawful.{OfKind}
 use Rattle.signature.specs.Lists.{first, keep}
 use Rattle.signature.specs.Read.{count-kinds, least, total, Signed}
@@ -20,9 +21,9 @@ least-size sig n k = getD (least small-size sig n) k 0
 abbrev pub least-head : Signature → ℕ → ℕ → ℕ
 least-head sig n k = first (keep (λ c. eqb (suc (total (least small-size sig n) (arguments sig c))) (least-size sig n k)) (heads sig k))
 
--- a constructor's row: its kind, its number of arguments, its argument kinds
+-- a constructor's row: its kind, its number of arguments, its argument kinds, and a word that only decoding uses: whether it declares a number kind
 abbrev pub stride : ℕ
-stride = 2 + argument-limit
+stride = 3 + argument-limit
 
 -- a kind's row: its first constructor, their count, its least constructor, its least size
 abbrev pub kind-stride : ℕ
@@ -45,6 +46,16 @@ kind-of t c = getD t (stride * c) 0
 abbrev pub arity-of : List ℕ → ℕ → ℕ
 arity-of t c = getD t (stride * c + 1) 0
 
+abbrev pub flag-at : ℕ
+flag-at = 2 + argument-limit
+
+abbrev pub flag-of : List ℕ → ℕ → ℕ
+flag-of t c = getD t (stride * c + flag-at) 0
+
+-- how many arguments a head of a booking or a row has: a level has none
+abbrev pub head-arity : List ℕ → ℕ → ℕ
+head-arity t c = cond (leb level-base c) 0 (arity-of t c)
+
 abbrev pub argument-of : List ℕ → ℕ → ℕ → ℕ
 argument-of t c j = getD t (stride * c + 2 + j) 0
 
@@ -66,6 +77,13 @@ kinds-of t = getD t counts-at 0
 abbrev pub constructors-of : List ℕ → ℕ
 constructors-of t = getD t (counts-at + 1) 0
 
+-- what stands in the table for the kind of a row that declares a number kind: no kind, since its number stands in no booking and no pattern
+abbrev pub no-kind : ℕ
+no-kind = kind-limit
+
+abbrev pub head-kind : Constructor → ℕ
+head-kind d = cond (d .number) no-kind (d .kind)
+
 -- t is the table of sig
 pub record Decoded (sig : Signature) (t : List ℕ) : Type 0 where
   pub n : ℕ
@@ -73,7 +91,7 @@ pub record Decoded (sig : Signature) (t : List ℕ) : Type 0 where
   pub long : length t ≡ decoded-length
   pub kind-count : kinds-of t ≡ n
   pub constructor-count : constructors-of t ≡ length sig
-  pub kind : (c : ℕ) (d : Constructor) → getElem? sig c ≡ some d → kind-of t c ≡ d .kind
+  pub kind : (c : ℕ) (d : Constructor) → getElem? sig c ≡ some d → kind-of t c ≡ head-kind d
   pub arity : (c : ℕ) (d : Constructor) → getElem? sig c ≡ some d → arity-of t c ≡ length (d .args)
   pub argument : (c j k : ℕ) (d : Constructor) → getElem? sig c ≡ some d → getElem? (d .args) j ≡ some k → argument-of t c j ≡ k
   pub first-head : (k : ℕ) → k < n → first-of t k ≡ first (heads sig k)

@@ -2,11 +2,12 @@
 use mathlib.Core.Path.{_≡_}
 use mathlib.Core.List.{List, [], _∷_, _++_}
 use mathlib.Core.Option.{some}
+use mathlib.Core.Bool.{true, cond}
 use Prim.Native.Nat.{ℕ, _≤_, _<_, suc}
 use lib.ListN.{length}
-use Rattle.signature.specs.Limits.{booking-limit, depth-limit, constructor-limit, kind-limit, heads-limit, small-size, argument-limit}
+use Rattle.signature.specs.Limits.{booking-limit, depth-limit, constructor-limit, kind-limit, row-limit, number-count, small-size, argument-limit}
 use Rattle.signature.specs.Lists.{All}
-use Rattle.signature.specs.Signature.{arguments-at, Signature, Constructor, heads}
+use Rattle.signature.specs.Signature.{arguments-at, Signature, Constructor, numbers}
 use Rattle.signature.specs.Value.{Value, Values, con, vnil, vcons, code, depth, size}
 
 module _ (sig : Signature) where
@@ -34,10 +35,14 @@ module _ (sig : Signature) (n : ℕ) where
   abbrev pub EveryKindSmall : Type 0
   EveryKindSmall = (k : ℕ) → k < n → (v : Value) × OfKind sig k v × (size v ≤ small-size)
 
+-- a row's second word: "its number of arguments", or 5 where it declares a number kind
+abbrev pub count-word : Constructor → ℕ
+count-word c = cond (c .number) number-count (length (c .args))
+
 -- "for each constructor its kind, its number of arguments (0 to 4) and the argument kinds"
 abbrev pub constructor-words : Signature → List ℕ
 constructor-words [] = []
-constructor-words (c ∷ cs) = c .kind ∷ (length (c .args) ∷ (c .args ++ constructor-words cs))
+constructor-words (c ∷ cs) = c .kind ∷ (count-word c ∷ (c .args ++ constructor-words cs))
 
 -- "Kinds start at 0, each equal to the previous or one more": from the last kind seen, n kinds in all
 pub data KindsRise : ℕ → Signature → ℕ → Type 0 where
@@ -58,11 +63,14 @@ pub record SignatureWords (ws : List ℕ) (sig : Signature) : Type 0 where
   pub at-most : length sig ≤ constructor-limit
   -- "(0 to 4)"
   pub few-arguments : All (λ c. length (c .args) ≤ argument-limit) sig
+  -- 02, job 1: "A constructor row with argument count 5 and no argument kinds declares a number kind; it is that kind's only row"
+  pub bare : All (λ c. c .number ≡ true → c .args ≡ []) sig
+  pub only-row : All (λ c. c .number ≡ true → length (numbers sig (c .kind)) ≡ 1) sig
   pub n : ℕ
   pub rises : KindsStart sig n
   -- "at most 32 kinds, at most 64 constructors a kind"
   pub few-kinds : n ≤ kind-limit
-  pub few-heads : (k : ℕ) → k < n → length (heads sig k) ≤ heads-limit
+  pub few-rows : (k : ℕ) → k < n → length (numbers sig k) ≤ row-limit
   -- "Argument kinds exist"
   pub args-exist : All (λ c. All (λ k. k < n) (c .args)) sig
   -- "Every kind has a value of at most 6 words"

@@ -14,8 +14,26 @@ abbrev pub kind-limit : ℕ
 kind-limit = 32
 
 -- "at most 64 constructors a kind"
+abbrev pub row-limit : ℕ
+row-limit = 64
+
+-- 02, job 1: "Its values are the single words 1,000 to 1,100. .. A level is the word less 1,000"
+abbrev pub level-base : ℕ
+level-base = 1000
+
+abbrev pub last-level : ℕ
+last-level = 100
+
+abbrev pub level-count : ℕ
+level-count = suc last-level
+
+-- how many heads a kind has at most: a number kind has its 101 levels, which are more than 64 constructors
 abbrev pub heads-limit : ℕ
-heads-limit = 64
+heads-limit = level-count
+
+-- 02, job 1: "A constructor row with argument count 5 and no argument kinds declares a number kind"
+abbrev pub number-count : ℕ
+number-count = suc argument-limit
 
 -- "Every kind has a value of at most 6 words"
 abbrev pub small-size : ℕ

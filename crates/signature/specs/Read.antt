@@ -2,14 +2,20 @@
 use mathlib.Core.Path.{_≡_}
 use mathlib.Core.List.{List, [], _∷_, map}
 use mathlib.Core.Option.{Option, some, none}
-use mathlib.Core.Bool.{cond, Bool, false, _&&_}
+use mathlib.Core.Bool.{cond, Bool, true, false, not, _&&_, _||_}
 use Prim.Native.Nat.{ℕ, zero, suc, _+_, min}
 use lib.Dec.{leb, eqb, ltb}
 use lib.ListN.{length, getElem?}
-use Rattle.signature.specs.Limits.{booking-limit, depth-limit, constructor-limit, kind-limit, heads-limit, small-size, over-small, argument-limit}
+use Rattle.signature.specs.Limits.{booking-limit, depth-limit, constructor-limit, kind-limit, row-limit, number-count, small-size, over-small, argument-limit}
 use Rattle.signature.specs.Lists.{_>>=_, require, split, count-up, all, whole}
-use Rattle.signature.specs.Signature.{Signature, heads, arguments-at}
+use Rattle.signature.specs.Signature.{Signature, Constructor, numbers, arguments-at}
 use Rattle.signature.specs.Value.{Value, Values, vnil, vcons, con}
+
+-- the argument kinds of a row whose second word is m, and the words behind them: "its number of arguments (0 to 4) and the argument kinds"; 02, job 1: "argument count 5 and no argument kinds"
+abbrev pub read-arguments : ℕ → List ℕ → Option (List ℕ × List ℕ)
+read-arguments m ws = do
+  _ ← require (leb m number-count)
+  split (cond (eqb m number-count) 0 m) ws
 
 -- n constructors, and nothing behind them: "The slice ends exactly there."
 abbrev pub read-constructors : ℕ → List ℕ → Option Signature
@@ -18,10 +24,9 @@ read-constructors zero (w ∷ ws) = none
 read-constructors (suc n) [] = none
 read-constructors (suc n) (k ∷ []) = none
 read-constructors (suc n) (k ∷ (m ∷ ws)) = do
-  _ ← require (leb m argument-limit)
-  r ← split m ws
+  r ← read-arguments m ws
   cs ← read-constructors n (r .1)
-  some (record { kind = k; args = r .0 } ∷ cs)
+  some (record { kind = k; args = r .0; number = eqb m number-count } ∷ cs)
 
 -- "each equal to the previous or one more": the count of kinds, from the last kind seen
 abbrev pub kinds-from : ℕ → Signature → Option ℕ
@@ -53,10 +58,14 @@ abbrev pub least : ℕ → Signature → ℕ → List ℕ
 least zero sig n = map (λ k. over-small) (count-up 0 n)
 least (suc d) sig n = let before = least d sig n in map (λ k. min over-small (best sig before k)) (count-up 0 n)
 
+-- 02, job 1: a row that declares a number kind "is that kind's only row"
+abbrev pub stands-alone : Signature → Constructor → Bool
+stands-alone sig c = not (c .number) || eqb (length (numbers sig (c .kind))) 1
+
 -- the limits, "Argument kinds exist", "Every kind has a value of at most 6 words"
 abbrev pub lawful-kinds : Signature → Option ℕ → Bool
 lawful-kinds sig none = false
-lawful-kinds sig (some n) = leb 1 (length sig) && leb (length sig) constructor-limit && leb n kind-limit && all (λ k. leb (length (heads sig k)) heads-limit) (count-up 0 n) && all (λ c. all (λ k. ltb k n) (c .args)) sig && all (λ m. leb m small-size) (least small-size sig n)
+lawful-kinds sig (some n) = leb 1 (length sig) && leb (length sig) constructor-limit && leb n kind-limit && all (λ k. leb (length (numbers sig k)) row-limit) (count-up 0 n) && all (stands-alone sig) sig && all (λ c. all (λ k. ltb k n) (c .args)) sig && all (λ m. leb m small-size) (least small-size sig n)
 
 -- a lawful signature
 abbrev pub lawful : Signature → Bool

@@ -32,3 +32,5 @@ pub const TREE_BROKEN: u16 = 15;
 pub const PLACE_OUTSIDE: u16 = 16;
 
 pub const FORMAT_BROKEN: u16 = 17;
+
+pub const RANGE_WRONG: u16 = 18;

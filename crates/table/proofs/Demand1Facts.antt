@@ -21,10 +21,12 @@ use Rattle.signature.proofs.Tests.{none≢some, some-inj, true≢false, eqb-eq,
 use Rattle.signature.proofs.Values.{booking-lawful, lawful-booking}
 use Rattle.pattern.specs.Linear.{linear-plus}
 use Rattle.pattern.specs.Pattern.{Pattern}
+use Rattle.pattern.specs.Ranged.{ranged}
 use Rattle.pattern.specs.Read.{read-pattern}
 use Rattle.pattern.specs.Weight.{light-plus, weight}
 use Rattle.pattern.specs.WellFormed.{PatternWords}
 use Rattle.pattern.proofs.PatternBack.{pattern-words, words-pattern}
+use Rattle.pattern.proofs.Laws.{laws as pattern-laws}
 use Rattle.pattern.proofs.StandsLaw.{heavy-is-some}
 use Rattle.row.specs.Admitted.{refusal-of-pattern, refusal-by}
 use Rattle.row.specs.Overlap.{ambiguous-plus, shares}
@@ -35,7 +37,7 @@ use Rattle.tree.specs.Limits.{last-number, tree-limit, default-plan}
 use Rattle.tree.specs.Run.{run, run-words}
 use Rattle.tree.specs.RunCall.{RunCall, run-signature, run-booking, run-at}
 use Rattle.table.specs.Calls.{Start, refused, begin, start, on-signature, on-sound, long-table, long-witness, enter-start, enter-number, enter-table, withdraw-number, withdraw-table, too-large, CompileFrom, decide-from, decide-booking, Entered, Empty, Enter, Withdraw, Compile, DecideCall}
-use Rattle.table.specs.Demand1.{FirstOf, Unlawful, Under, ShortTable, ShortWitness, Unsound, OfRulesInForce, NumberOutside, Held, NotHeld, Malformed, NotLinear, HeavyWords, AmbiguousWords, Full, UnlawfulBooking, TooLarge, Broken, zeros, part-refusals, empty-refusals, enter-refusals, withdraw-refusals, compile-refusals, decide-refusals, run-refusals, Demand1}
+use Rattle.table.specs.Demand1.{FirstOf, Unlawful, Under, ShortTable, ShortWitness, Unsound, OfRulesInForce, NumberOutside, Held, NotHeld, Malformed, WronglyRanged, NotLinear, HeavyWords, AmbiguousWords, Full, UnlawfulBooking, TooLarge, Broken, zeros, part-refusals, empty-refusals, enter-refusals, withdraw-refusals, compile-refusals, decide-refusals, run-refusals, Demand1}
 use Rattle.table.specs.Limits.{limits, table-length, witness-length}
 use Rattle.table.specs.Matrix.{tree-words}
 use Rattle.table.specs.Refusals.{entry-refusal, withdrawal-refusal, SharesHeld}
@@ -158,34 +160,38 @@ not-full : (sig : Signature) (ws : List ℕ) (rs : List Rule) → (leb (limits .
 not-full sig ws rs e (inl l) = true≢false (sym (leb-yes (limits .rules) (length rs) l) ∙ or-left (leb (limits .rules) (length rs)) (ltb (limits .weight) (weight sig ws + total-weight sig rs)) e)
 not-full sig ws rs e (inr l) = true≢false (sym (ltb-yes (limits .weight) (weight sig ws + total-weight sig rs) l) ∙ or-right (leb (limits .rules) (length rs)) (ltb (limits .weight) (weight sig ws + total-weight sig rs)) e)
 
--- 7 to 10, and the refusals behind them
+-- 7, 18, 8 to 10, and the refusals behind them
 module _ (ss : List ℕ) (sig : Signature) (lawful : read-signature ss ≡ some sig) (table : List ℕ) (rs : List Rule) (holds : sound limits sig table ≡ some rs) (ws : List ℕ) where
   same-pattern : (p q : Pattern) → read-pattern sig ws ≡ some p → PatternWords sig ws q → q ≡ p
   same-pattern p q e w = some-inj q p (sym (words-pattern sig ws q w) ∙ e)
 
-  pattern-first : {R : Type 0} (n m : ℕ) → n ≡ (let q = refusal-of-pattern sig ws in cond (not (eqb q 0)) q m) → (n ≡ m → R) → Next (OfRulesInForce ss table (λ s r. Malformed s ws)) 7 n (Next (OfRulesInForce ss table (λ s r. NotLinear s ws)) 8 n (Next (OfRulesInForce ss table (λ s r. HeavyWords s ws)) 9 n (Next (OfRulesInForce ss table (λ s r. AmbiguousWords s ws)) 10 n R)))
+  pattern-first : {R : Type 0} (n m : ℕ) → n ≡ (let q = refusal-of-pattern sig ws in cond (not (eqb q 0)) q m) → (n ≡ m → R) → Next (OfRulesInForce ss table (λ s r. Malformed s ws)) 7 n (Next (OfRulesInForce ss table (λ s r. WronglyRanged s ws)) 18 n (Next (OfRulesInForce ss table (λ s r. NotLinear s ws)) 8 n (Next (OfRulesInForce ss table (λ s r. HeavyWords s ws)) 9 n (Next (OfRulesInForce ss table (λ s r. AmbiguousWords s ws)) 10 n R))))
   pattern-first {R} n m n-is later = go (read-pattern sig ws) refl
     where
       own : (o : Option Pattern) → read-pattern sig ws ≡ o → n ≡ (let q = refusal-by sig o in cond (not (eqb q 0)) q m)
       own o e = n-is ∙ ap (λ o. let q = refusal-by sig o in cond (not (eqb q 0)) q m) e
 
-      go : (o : Option Pattern) → read-pattern sig ws ≡ o → Next (OfRulesInForce ss table (λ s r. Malformed s ws)) 7 n (Next (OfRulesInForce ss table (λ s r. NotLinear s ws)) 8 n (Next (OfRulesInForce ss table (λ s r. HeavyWords s ws)) 9 n (Next (OfRulesInForce ss table (λ s r. AmbiguousWords s ws)) 10 n R)))
+      go : (o : Option Pattern) → read-pattern sig ws ≡ o → Next (OfRulesInForce ss table (λ s r. Malformed s ws)) 7 n (Next (OfRulesInForce ss table (λ s r. WronglyRanged s ws)) 18 n (Next (OfRulesInForce ss table (λ s r. NotLinear s ws)) 8 n (Next (OfRulesInForce ss table (λ s r. HeavyWords s ws)) 9 n (Next (OfRulesInForce ss table (λ s r. AmbiguousWords s ws)) 10 n R))))
       go none e = inl (in-force ss sig lawful table rs holds (λ s r. Malformed s ws) (λ p w. none≢some (sym e ∙ words-pattern sig ws p w)), own none e)
-      go (some p) e = inr (in-force-not ss sig lawful table rs holds (λ s r. Malformed s ws) (λ h. h p (pattern-words sig ws p e)), on-8 (linear-plus p) refl)
+      go (some p) e = inr (in-force-not ss sig lawful table rs holds (λ s r. Malformed s ws) (λ h. h p (pattern-words sig ws p e)), on-18 (ranged p) refl)
         where
-          on-10 : linear-plus p ≡ true → light-plus p ≡ true → (b : Bool) → ambiguous-plus sig 0 p ≡ b → Next (OfRulesInForce ss table (λ s r. AmbiguousWords s ws)) 10 n R
-          on-10 a c true q =
+          on-10 : ranged p ≡ true → linear-plus p ≡ true → light-plus p ≡ true → (b : Bool) → ambiguous-plus sig 0 p ≡ b → Next (OfRulesInForce ss table (λ s r. AmbiguousWords s ws)) 10 n R
+          on-10 g a c true q =
               let f = sig-facts sig (ss, lawful) in
-              inl (in-force ss sig lawful table rs holds (λ s r. AmbiguousWords s ws) (p, pattern-words sig ws p e, ambiguous-exists sig f p (small-0 sig f) (pattern-words sig ws p e .well-formed) q), own (some p) e ∙ rw (a, c, q))
-          on-10 a c false q = inr (in-force-not ss sig lawful table rs holds (λ s r. AmbiguousWords s ws) (λ (p′, w, h). true≢false (sym (ambiguous-decided sig p′ (w .well-formed) h) ∙ ap (ambiguous-plus sig 0) (same-pattern p p′ e w) ∙ q)), later (own (some p) e ∙ rw (a, c, q)))
+              inl (in-force ss sig lawful table rs holds (λ s r. AmbiguousWords s ws) (p, pattern-words sig ws p e, ambiguous-exists sig f p (small-0 sig f) (pattern-words sig ws p e .well-formed) q), own (some p) e ∙ rw (g, a, c, q))
+          on-10 g a c false q = inr (in-force-not ss sig lawful table rs holds (λ s r. AmbiguousWords s ws) (λ (p′, w, h). true≢false (sym (ambiguous-decided sig p′ (w .well-formed) h) ∙ ap (ambiguous-plus sig 0) (same-pattern p p′ e w) ∙ q)), later (own (some p) e ∙ rw (g, a, c, q)))
 
-          on-9 : linear-plus p ≡ true → (b : Bool) → light-plus p ≡ b → Next (OfRulesInForce ss table (λ s r. HeavyWords s ws)) 9 n (Next (OfRulesInForce ss table (λ s r. AmbiguousWords s ws)) 10 n R)
-          on-9 a false q = inl (in-force ss sig lawful table rs holds (λ s r. HeavyWords s ws) (p, pattern-words sig ws p e, heavy-is-some sig p (pattern-words sig ws p e .well-formed) .0 q), own (some p) e ∙ rw (a, q))
-          on-9 a true q = inr (in-force-not ss sig lawful table rs holds (λ s r. HeavyWords s ws) (λ (p′, w, h). true≢false (sym q ∙ ap light-plus (sym (same-pattern p p′ e w)) ∙ heavy-is-some sig p′ (w .well-formed) .1 h)), on-10 a q (ambiguous-plus sig 0 p) refl)
+          on-9 : ranged p ≡ true → linear-plus p ≡ true → (b : Bool) → light-plus p ≡ b → Next (OfRulesInForce ss table (λ s r. HeavyWords s ws)) 9 n (Next (OfRulesInForce ss table (λ s r. AmbiguousWords s ws)) 10 n R)
+          on-9 g a false q = inl (in-force ss sig lawful table rs holds (λ s r. HeavyWords s ws) (p, pattern-words sig ws p e, heavy-is-some sig p (pattern-words sig ws p e .well-formed) .0 q), own (some p) e ∙ rw (g, a, q))
+          on-9 g a true q = inr (in-force-not ss sig lawful table rs holds (λ s r. HeavyWords s ws) (λ (p′, w, h). true≢false (sym q ∙ ap light-plus (sym (same-pattern p p′ e w)) ∙ heavy-is-some sig p′ (w .well-formed) .1 h)), on-10 g a q (ambiguous-plus sig 0 p) refl)
 
-          on-8 : (b : Bool) → linear-plus p ≡ b → Next (OfRulesInForce ss table (λ s r. NotLinear s ws)) 8 n (Next (OfRulesInForce ss table (λ s r. HeavyWords s ws)) 9 n (Next (OfRulesInForce ss table (λ s r. AmbiguousWords s ws)) 10 n R))
-          on-8 false q = inl (in-force ss sig lawful table rs holds (λ s r. NotLinear s ws) (p, pattern-words sig ws p e, q), own (some p) e ∙ rw q)
-          on-8 true q = inr (in-force-not ss sig lawful table rs holds (λ s r. NotLinear s ws) (λ (p′, w, h). true≢false (sym q ∙ ap linear-plus (sym (same-pattern p p′ e w)) ∙ h)), on-9 q (light-plus p) refl)
+          on-8 : ranged p ≡ true → (b : Bool) → linear-plus p ≡ b → Next (OfRulesInForce ss table (λ s r. NotLinear s ws)) 8 n (Next (OfRulesInForce ss table (λ s r. HeavyWords s ws)) 9 n (Next (OfRulesInForce ss table (λ s r. AmbiguousWords s ws)) 10 n R))
+          on-8 g false q = inl (in-force ss sig lawful table rs holds (λ s r. NotLinear s ws) (p, pattern-words sig ws p e, q), own (some p) e ∙ rw (g, q))
+          on-8 g true q = inr (in-force-not ss sig lawful table rs holds (λ s r. NotLinear s ws) (λ (p′, w, h). true≢false (sym q ∙ ap linear-plus (sym (same-pattern p p′ e w)) ∙ h)), on-9 g q (light-plus p) refl)
+
+          on-18 : (b : Bool) → ranged p ≡ b → Next (OfRulesInForce ss table (λ s r. WronglyRanged s ws)) 18 n (Next (OfRulesInForce ss table (λ s r. NotLinear s ws)) 8 n (Next (OfRulesInForce ss table (λ s r. HeavyWords s ws)) 9 n (Next (OfRulesInForce ss table (λ s r. AmbiguousWords s ws)) 10 n R)))
+          on-18 false q = inl (in-force ss sig lawful table rs holds (λ s r. WronglyRanged s ws) (p, pattern-words sig ws p e, pattern-laws .wrong-range sig 0 p (pattern-words sig ws p e .well-formed) .0 q), own (some p) e ∙ rw q)
+          on-18 true q = inr (in-force-not ss sig lawful table rs holds (λ s r. WronglyRanged s ws) (λ (p′, w, h). true≢false (sym q ∙ ap ranged (sym (same-pattern p p′ e w)) ∙ pattern-laws .wrong-range sig 0 p′ (w .well-formed) .1 h)), on-8 q (linear-plus p) refl)
 
   -- 12
   shared : any (λ r. shares sig ws (r .pattern)) rs ≡ true → SharesHeld sig ws rs
@@ -221,7 +227,7 @@ enter-first : (ss : List ℕ) (n plan : ℕ) (ws before witness : List ℕ) (e :
 enter-first ss n plan ws before witness e after witness′ h =
     (opened ss (long-table limits before && long-witness witness) before (short-either before witness) (long-both before witness) (e .number) (λ s. enter-number limits s n ws) (λ m. refl) (h .number-is) later, kept (enter-start limits ss before witness) (h .number-is) (h .table-is), h .not-12)
   where
-    later : (sig : Signature) (rs : List Rule) → read-signature ss ≡ some sig → sound limits sig before ≡ some rs → e .number ≡ entry-refusal limits sig n ws rs → FirstOf ((4, NumberOutside n) ∷ ((5, OfRulesInForce ss before (λ s r. Held n r)) ∷ ((7, OfRulesInForce ss before (λ s r. Malformed s ws)) ∷ ((8, OfRulesInForce ss before (λ s r. NotLinear s ws)) ∷ ((9, OfRulesInForce ss before (λ s r. HeavyWords s ws)) ∷ ((10, OfRulesInForce ss before (λ s r. AmbiguousWords s ws)) ∷ ((11, OfRulesInForce ss before (λ s r. Full s ws r)) ∷ ((12, OfRulesInForce ss before (λ s r. SharesHeld s ws r)) ∷ [])))))))) (e .number)
+    later : (sig : Signature) (rs : List Rule) → read-signature ss ≡ some sig → sound limits sig before ≡ some rs → e .number ≡ entry-refusal limits sig n ws rs → FirstOf ((4, NumberOutside n) ∷ ((5, OfRulesInForce ss before (λ s r. Held n r)) ∷ ((7, OfRulesInForce ss before (λ s r. Malformed s ws)) ∷ ((18, OfRulesInForce ss before (λ s r. WronglyRanged s ws)) ∷ ((8, OfRulesInForce ss before (λ s r. NotLinear s ws)) ∷ ((9, OfRulesInForce ss before (λ s r. HeavyWords s ws)) ∷ ((10, OfRulesInForce ss before (λ s r. AmbiguousWords s ws)) ∷ ((11, OfRulesInForce ss before (λ s r. Full s ws r)) ∷ ((12, OfRulesInForce ss before (λ s r. SharesHeld s ws r)) ∷ []))))))))) (e .number)
     later sig rs lawful holds n-is =
         test (not (leb 1 n && leb n last-number)) (outside n) (inside n) n-is
         (λ q₁ e₁. test (held n rs) (λ q. in-force ss sig lawful before rs holds (λ s r. Held n r) (held-some n rs q)) (λ q. in-force-not ss sig lawful before rs holds (λ s r. Held n r) (λ y. true≢false (sym (some-held n rs y) ∙ q))) e₁

@@ -15,6 +15,7 @@ use Rattle.signature.proofs.Booleans.{not-false, or-right, and-left, and-right,
 use Rattle.signature.proofs.ListFacts.{any-in, in-any, no-in, in-cases}
 use Rattle.signature.proofs.Tests.{none-of, eqb-eq, leb-yes, past, past-own, lt-of-not, le-of, leb-no, ltb-no}
 use Rattle.pattern.specs.Linear.{linear-plus}
+use Rattle.pattern.specs.Ranged.{ranged}
 use Rattle.pattern.specs.Pattern.{Pattern}
 use Rattle.pattern.specs.Read.{read-pattern}
 use Rattle.pattern.specs.Weight.{light-plus, weight}
@@ -33,18 +34,18 @@ use Rattle.table.specs.Rule.{Rule, held, total-weight, rises-nil, table-
 use Rattle.table.proofs.TableFacts.{Valid, valid-entry, admitted, valid-withdrawal, words-few, sound-stored, stored-again}
 
 module _ (sig : Signature) where
-  pub pattern-not : (k : ℕ) → (7 ≡ k → ⊥) → (8 ≡ k → ⊥) → (9 ≡ k → ⊥) → (10 ≡ k → ⊥) → (0 ≡ k → ⊥) → (ws : List ℕ) → refusal-of-pattern sig ws ≡ k → ⊥
-  pattern-not k a b c d z ws e = go (read-pattern sig ws) e
+  pub pattern-not : (k : ℕ) → (7 ≡ k → ⊥) → (18 ≡ k → ⊥) → (8 ≡ k → ⊥) → (9 ≡ k → ⊥) → (10 ≡ k → ⊥) → (0 ≡ k → ⊥) → (ws : List ℕ) → refusal-of-pattern sig ws ≡ k → ⊥
+  pattern-not k a g b c d z ws e = go (read-pattern sig ws) e
     where
       go : (o : Option Pattern) → refusal-by sig o ≡ k → ⊥
       go none q = a q
-      go (some p) q = none-of (not (linear-plus p)) 8 _ k b (λ q′. none-of (not (light-plus p)) 9 _ k c (λ q″. none-of (ambiguous-plus sig 0 p) 10 0 k d z q″) q′) q
+      go (some p) q = none-of (not (ranged p)) 18 _ k g (λ q₀. none-of (not (linear-plus p)) 8 _ k b (λ q′. none-of (not (light-plus p)) 9 _ k c (λ q″. none-of (ambiguous-plus sig 0 p) 10 0 k d z q″) q′) q₀) q
 
   pub pattern-not-12 : (ws : List ℕ) → refusal-of-pattern sig ws ≡ 12 → ⊥
-  pattern-not-12 ws = pattern-not 12 (λ z. omega arith) (λ z. omega arith) (λ z. omega arith) (λ z. omega arith) (λ z. omega arith) ws
+  pattern-not-12 ws = pattern-not 12 (λ z. omega arith) (λ z. omega arith) (λ z. omega arith) (λ z. omega arith) (λ z. omega arith) (λ z. omega arith) ws
 
   pub pattern-not-3 : (ws : List ℕ) → refusal-of-pattern sig ws ≡ 3 → ⊥
-  pattern-not-3 ws = pattern-not 3 (λ z. omega arith) (λ z. omega arith) (λ z. omega arith) (λ z. omega arith) (λ z. omega arith) ws
+  pattern-not-3 ws = pattern-not 3 (λ z. omega arith) (λ z. omega arith) (λ z. omega arith) (λ z. omega arith) (λ z. omega arith) (λ z. omega arith) ws
 
   pub entry-not-3 : (n : ℕ) (ws : List ℕ) (rs : List Rule) → entry-refusal limits sig n ws rs ≡ 3 → ⊥
   entry-not-3 n ws rs e =

@@ -13,7 +13,7 @@ use Rattle.signature.specs.Read.{read-booking, Signed}
 use Rattle.signature.specs.Signature.{Signature}
 use Rattle.signature.specs.Value.{Value, vcons, vnil, size}
 use Rattle.signature.proofs.Booleans.{and-right, and-left}
-use Rattle.signature.proofs.LawfulFacts.{sig-facts, dense}
+use Rattle.signature.proofs.LawfulFacts.{sig-facts}
 use Rattle.signature.proofs.Tests.{true≢false, eqb-eq}
 use Rattle.signature.proofs.Values.{booking-lawful, length-code}
 use Rattle.pattern.specs.Decide.{decide, Out, fit, is-fit, fail}
@@ -99,7 +99,7 @@ module _ (dft : ℕ) where
       let ks : OfKinds sig (0 ∷ []) (vcons v vnil) = of-kinds-cons (l .kind-0) of-kinds-nil in
       let ws : List ℕ = tree-words dft sig rs ++ behind in
       let enough : words (tree dft sig rs) ≤ length ws = omega (arith, length-append (tree-words dft sig rs) behind, length-layout (tree dft sig rs) 0) in
-      rw b (run-walks dft sig ws (dense sig facts) (length ws) (tree dft sig rs) (0 ∷ []) 0 0 (vcons v vnil) [] (tree-treed dft sig facts rs ok) ks enough (behind, refl) ∙ ap some (ap (to-answer dft) (compile-walks dft sig (dense sig facts) visit-bound (0 ∷ []) (lines sig rs) (vcons v vnil) 0 [] ks (omega arith) (neat-shaped sig facts (neat-rules sig facts rs (ok .rises) (ok .passed)))) ∙ lines-direct dft sig rs bs v (ok .passed) b))
+      rw b (run-walks dft sig ws facts (length ws) (tree dft sig rs) (0 ∷ []) 0 0 (vcons v vnil) [] (tree-treed dft sig facts rs ok) ks enough (behind, refl) ∙ ap some (ap (to-answer dft) (compile-walks dft sig facts visit-bound (0 ∷ []) (lines sig rs) (vcons v vnil) 0 [] ks (omega arith) (neat-shaped sig facts (neat-rules sig facts rs (ok .rises) (ok .passed)))) ∙ lines-direct dft sig rs bs v (ok .passed) b))
 
   -- and so by the one rule in force that takes it, or the default
   pub run-answers : (sig : Signature) → Signed sig → (rs : List Rule) → Valid sig rs → (behind bs : List ℕ) (v : Value) → read-booking sig bs ≡ some v → (a : Answer) × (run-words dft sig (tree-words dft sig rs ++ behind) bs ≡ some a) × Answered dft sig rs bs a

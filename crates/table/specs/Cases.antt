@@ -4,7 +4,7 @@ use mathlib.Core.List.{List, [], _∷_, _++_}
 use mathlib.Core.Option.{some}
 use Prim.Native.Nat.{ℕ}
 use lib.ListN.{length, replicate, set, take}
-use Rattle.signature.specs.Cases.{T, words-T}
+use Rattle.signature.specs.Cases.{T, words-T, L}
 use Rattle.signature.specs.Read.{read-signature}
 use Rattle.signature.specs.Value.{Value}
 use Rattle.pattern.specs.Cases.{ors-words}
@@ -26,6 +26,10 @@ use Rattle.table.specs.Sound.{sound}
 -- "Rule 7 plan 40: 0 1 261. Rule 9 plan 41: 0 260 1 5."
 abbrev pub rules-T : List Rule
 rules-T = record { number = 7; plan = 40; pattern = 0 ∷ 1 ∷ 261 ∷ [] } ∷ record { number = 9; plan = 41; pattern = 0 ∷ 260 ∷ 1 ∷ 5 ∷ [] } ∷ []
+
+-- 02, job 1: levels. Rule 7 takes the levels to 50, rule 9 those above for bus 1
+abbrev pub rules-L : List Rule
+rules-L = record { number = 7; plan = 40; pattern = 0 ∷ 258 ∷ 280 ∷ 0 ∷ 50 ∷ [] } ∷ record { number = 9; plan = 41; pattern = 0 ∷ 1 ∷ 280 ∷ 51 ∷ 100 ∷ [] } ∷ []
 
 -- one rule
 abbrev pub sole : List ℕ → List Rule
@@ -83,3 +87,14 @@ pub record Cases : Type 0 where
   pub number-1000 : entry-refusal limits T 1000 [] rules-T ≡ 4
   pub held-malformed : entry-refusal limits T 7 [] rules-T ≡ 5
   pub free-malformed : entry-refusal limits T 8 [] rules-T ≡ 7
+  -- 02, job 1: a node 4 for each bus; another range with a level of rule 7's is 12, with none of either's it is admitted
+  pub tree-of-levels : tree-words default-plan L rules-L ≡ 2 ∷ 0 ∷ 1 ∷ 4 ∷ 2 ∷ 1 ∷ 2 ∷ 9 ∷ 23 ∷ 4 ∷ 2 ∷ 50 ∷ 100 ∷ 15 ∷ 19 ∷ 1 ∷ 7 ∷ 40 ∷ 0 ∷ 1 ∷ 9 ∷ 41 ∷ 0 ∷ 4 ∷ 2 ∷ 50 ∷ 100 ∷ 29 ∷ 33 ∷ 1 ∷ 7 ∷ 40 ∷ 0 ∷ 0 ∷ []
+  pub range-shared : entry-refusal limits L 8 (0 ∷ 2 ∷ 280 ∷ 50 ∷ 60 ∷ []) rules-L ≡ 12
+  pub range-apart : entry-refusal limits L 8 (0 ∷ 2 ∷ 280 ∷ 51 ∷ 60 ∷ []) rules-L ≡ 0
+  -- 18 after 7 and before 8; a range at another kind is 7
+  pub range-falls : entry-refusal limits L 1 (0 ∷ 258 ∷ 280 ∷ 60 ∷ 20 ∷ []) [] ≡ 18
+  pub range-high : entry-refusal limits L 1 (0 ∷ 258 ∷ 280 ∷ 0 ∷ 101 ∷ []) [] ≡ 18
+  pub range-of-words : entry-refusal limits L 1 (0 ∷ 258 ∷ 280 ∷ 258 ∷ 258 ∷ []) [] ≡ 18
+  pub range-then-malformed : entry-refusal limits L 1 (0 ∷ 258 ∷ 256 ∷ 280 ∷ 60 ∷ 20 ∷ 259 ∷ 258 ∷ []) [] ≡ 7
+  pub range-then-twice : entry-refusal limits L 1 (0 ∷ 261 ∷ 256 ∷ 261 ∷ 280 ∷ 60 ∷ 20 ∷ []) [] ≡ 18
+  pub range-elsewhere : entry-refusal limits L 1 (0 ∷ 280 ∷ 60 ∷ 20 ∷ 258 ∷ []) [] ≡ 7

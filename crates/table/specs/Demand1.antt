@@ -16,7 +16,7 @@ use Rattle.pattern.specs.Ambiguous.{Ambiguous}
 use Rattle.pattern.specs.Limits.{variable-count}
 use Rattle.pattern.specs.Linear.{linear-plus}
 use Rattle.pattern.specs.Pattern.{Pattern}
-use Rattle.pattern.specs.Side.{TooHeavy}
+use Rattle.pattern.specs.Side.{TooHeavy, WrongRange}
 use Rattle.pattern.specs.Weight.{weight}
 use Rattle.pattern.specs.WellFormed.{PatternWords}
 use Rattle.tree.specs.Answer.{Answer}
@@ -74,6 +74,10 @@ NotHeld n rs = (r : Rule) → In r rs → r .number ≡ n → ⊥
 abbrev pub Malformed : Signature → List ℕ → Type 0
 Malformed sig ws = (p : Pattern) → PatternWords sig ws p → ⊥
 
+-- 02, job 1: "18, a range whose low exceeds its high or whose high exceeds 100, stands directly after 7"
+abbrev pub WronglyRanged : Signature → List ℕ → Type 0
+WronglyRanged sig ws = (p : Pattern) × PatternWords sig ws p × WrongRange sig 0 p
+
 -- "8. It is not linear-plus."
 abbrev pub NotLinear : Signature → List ℕ → Type 0
 NotLinear sig ws = (p : Pattern) × PatternWords sig ws p × (linear-plus p ≡ false)
@@ -117,6 +121,7 @@ enter-refusals ss n ws table witness =
     ∷ (4, NumberOutside n)
     ∷ (5, OfRulesInForce ss table (λ sig rs. Held n rs))
     ∷ (7, OfRulesInForce ss table (λ sig rs. Malformed sig ws))
+    ∷ (18, OfRulesInForce ss table (λ sig rs. WronglyRanged sig ws))
     ∷ (8, OfRulesInForce ss table (λ sig rs. NotLinear sig ws))
     ∷ (9, OfRulesInForce ss table (λ sig rs. HeavyWords sig ws))
     ∷ (10, OfRulesInForce ss table (λ sig rs. AmbiguousWords sig ws))

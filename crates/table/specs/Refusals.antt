@@ -1,4 +1,4 @@
--- 01, Turned down, in checking order: the refusals of entries and withdrawals, 4 to 12.
+-- 01, Turned down, in checking order: the refusals of entries and withdrawals, 4 to 12, and 18 behind 7.
 use mathlib.Core.List.{List, [], _∷_}
 use mathlib.Core.Bool.{cond, not, _&&_, _||_}
 use Prim.Native.Nat.{ℕ, _+_}
@@ -15,7 +15,7 @@ use Rattle.table.specs.Rule.{Rule, held, total-weight}
 
 module _ (l : Limits) where
   -- the first refusal of an entry that applies, other than 1, 2 and 3; 0 for none:
-  -- "4. The rule number is not 1 to 999. 5. The number to enter is held. 7 to 10. 11. 64 rules are held, or weights would total over 256. 12. It shares a booking with a held rule"
+  -- "4. The rule number is not 1 to 999. 5. The number to enter is held. 7, 18, 8 to 10. 11. 64 rules are held, or weights would total over 256. 12. It shares a booking with a held rule"
   abbrev pub entry-refusal : Signature → ℕ → List ℕ → List Rule → ℕ
   entry-refusal sig n ws rs =
       cond (not (leb 1 n && leb n last-number)) 4

@@ -18,7 +18,8 @@ use Rattle.pattern.proofs.Once.{tick-one}
 use Rattle.row.specs.Row.{Row, named, free, Rows, rnil, rcons, open-rows}
 use Rattle.row.specs.RowFits.{place-count, places-count}
 use Rattle.tree.specs.Compiled.{Leaf, Compiled, no-rows, no-columns, tested, skipped, Children, no-child, child}
-use Rattle.tree.specs.Tree.{Line, hit, Tree, default, test, skip, Trees, tcons, rappend, after, taken, refined, passed, compile, children}
+use Rattle.tree.specs.Tree.{Line, hit, Tree, default, skip, Trees, tcons, rappend, after, taken, refined, branches, branch, passed, compile, children}
+use Rattle.tree.proofs.EndFacts.{branch-head}
 use Rattle.tree.proofs.TreeFacts.{Roweds, roweds-nil, roweds-cons, rowed-named, rowed-free, opens-rowed, Shaped}
 
 first-leaf : {r p : ℕ} {bs : List (ℕ × ℕ)} {l : Line} {ls : List Line} → All (Leaf r p bs) (l ∷ ls) → Leaf r p bs l
@@ -33,7 +34,7 @@ module _ (dft : ℕ) (sig : Signature) where
     pub compiled-only : {ks : List ℕ} {ls : List Line} {t : ℕ} {a b : Tree} → Compiled dft sig ks ls t a → Compiled dft sig ks ls t b → a ≡ b
     compiled-only (no-rows x) (no-rows y) = ap default (x ∙ sym y)
     compiled-only (no-columns {l = l} h) (no-columns g) = same-leaf l (first-leaf h) (first-leaf g)
-    compiled-only (tested x e c) (tested y f d) = ap₂ test (x ∙ sym y) (children-only c d)
+    compiled-only (tested {k = k} {l = l} {ls = ls} x e c) (tested y f d) = x ∙ ap (branch sig k (branches sig k (l ∷ ls))) (children-only c d) ∙ sym y
     compiled-only (tested x e c) (skipped f d) = true≢false (sym e ∙ f)
     compiled-only (skipped e c) (tested y f d) = true≢false (sym f ∙ e)
     compiled-only (skipped e c) (skipped f d) = ap skip (compiled-only c d)
@@ -148,5 +149,5 @@ module _ (dft : ℕ) (sig : Signature) where
             rw (args-same sig k c js e) (f (js ++ ks) (somes (map (after t (taken sig js c)) (m ∷ ls))) (suc t) (inv-test k c js ks (m ∷ ls) t e h) (omega (arith, few k c js e, length-append js ks)))
 
         go : (b : Bool) → any (λ a. refined sig k (a .cells)) (m ∷ ls) ≡ b → Ends n → Compiled dft sig (k ∷ ks) (m ∷ ls) t (compile dft (suc n) sig (k ∷ ks) (m ∷ ls) t)
-        go true q f = rw q (tested refl q (children-of ks (m ∷ ls) t (λ c. compile dft n sig (arguments sig c ++ ks) (somes (map (after t (taken sig (arguments sig c) c)) (m ∷ ls))) (suc t)) (all-of (heads sig k) (λ c e. one q f c (kind-of-head sig k c e)))))
+        go true q f = rw q (tested refl q (children-of ks (m ∷ ls) t (λ c. compile dft n sig (arguments sig c ++ ks) (somes (map (after t (taken sig (arguments sig c) c)) (m ∷ ls))) (suc t)) (all-of (branches sig k (m ∷ ls)) (λ c e. one q f c (kind-of-head sig k c (branch-head sig k (m ∷ ls) c e))))))
         go false q f = rw q (skipped q (f ks (somes (map (after t passed) (m ∷ ls))) (suc t) (inv-skip k ks (m ∷ ls) t q h) (omega (arith, lines-passed sig t t k (inv-shaped (k ∷ ks) (m ∷ ls) t h)))))

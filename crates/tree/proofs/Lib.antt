@@ -1,4 +1,5 @@
 pub mod PathsAgree
+pub mod EndFacts
 pub mod CompiledFacts
 pub mod NodeFacts
 pub mod RowPlaces

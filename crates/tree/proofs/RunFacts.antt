@@ -1,8 +1,8 @@
 -- A run over the words of a tree walks the tree.
 use mathlib.Core.Path.{_≡_, refl, ap, _∙_, subst, sym}
-use mathlib.Core.List.{List, [], _∷_, _++_, append-assoc}
+use mathlib.Core.List.{List, [], _∷_, _++_, map, append-assoc}
 use mathlib.Core.Option.{some, Option, none}
-use mathlib.Core.Bool.{true}
+use mathlib.Core.Bool.{true, false}
 use Prim.Native.Nat.{ℕ, _*_, suc, _+_, _≤_, zero, _-_, _<_}
 use native.Mathlib.Nat.{add-zero}
 use native.Mathlib.Numerals.{add-one}
@@ -11,20 +11,23 @@ use lib.Dec.{eqb}
 use lib.ListN.{length, length-append, set, getD, drop, getElem?}
 use lib.Seq.{drop-drop, drop-append-seam}
 use Rattle.signature.specs.Lawful.{OfKinds, of-kinds-nil, of-kinds-cons, of-kind}
+use Rattle.signature.specs.Limits.{level-base, last-level}
 use Rattle.signature.specs.Lists.{first}
-use Rattle.signature.specs.Signature.{heads, arguments, Signature, arguments-at, Constructor}
+use Rattle.signature.specs.Signature.{heads, arguments, Signature, arguments-at, is-number-kind, level-of}
 use Rattle.signature.specs.Value.{Values, vnil, vcons, con, size}
-use Rattle.signature.proofs.Heads.{constructor-of, args-same, Dense}
-use Rattle.signature.proofs.ListFacts.{at-getD, at-drop, at-left}
-use Rattle.signature.proofs.Tests.{leb-yes, none≢some, some-inj, eqb-self, ltb-yes, eqb-eq}
+use Rattle.signature.proofs.Heads.{args-same, constructor-of, level-is, level-of-kind, level-bare}
+use Rattle.signature.proofs.LawfulFacts.{SigFacts, dense}
+use Rattle.signature.proofs.ListFacts.{at-getD, at-drop, at-left, drop-exact, split-append}
+use Rattle.signature.proofs.Tests.{leb-yes, none≢some, some-inj, eqb-self, eqb-eq, ltb-yes}
 use Rattle.pattern.specs.Limits.{last-variable}
 use Rattle.pattern.specs.Places.{bind-all, unbound}
 use Rattle.tree.specs.Answer.{Answer, no-rule}
-use Rattle.tree.specs.Leaf.{Treed, Treeds, treed-hit, treed-test, treed-skip, treeds-nil, treeds-cons, Rising, rising-nil, rising-cons}
+use Rattle.tree.specs.Leaf.{Treed, Treeds, treed-hit, treed-test, treed-split, treed-skip, treeds-nil, treeds-cons, Rising, rising-nil, rising-cons}
 use Rattle.tree.specs.Limits.{last-number}
-use Rattle.tree.specs.Run.{bound, run, at-hit, at-test, vjoin}
-use Rattle.tree.specs.Tree.{Trees, tnil, tcons, Tree, default, hit, test, skip}
+use Rattle.tree.specs.Run.{bound, run, at-hit, at-test, at-split, rise-to, place-of, vjoin}
+use Rattle.tree.specs.Tree.{Trees, tnil, tcons, Tree, default, hit, test, skip, split}
 use Rattle.tree.specs.Words.{pairs, links, count, words, layout, layout-all, words-all}
+use Rattle.tree.proofs.EndFacts.{end-at}
 use Rattle.tree.proofs.TreeFacts.{placed, Hit, walk-nth, walk, more, kindeds-join}
 
 -- a tree's words are as many as it says
@@ -42,6 +45,7 @@ mutual
   length-layout (hit r p bs) i = omega (arith, length-pairs bs)
   length-layout (test c ts) i = simp length-append (omega (arith, length-links ts (i + 3 + count ts), length-layouts ts (i + 3 + count ts)))
   length-layout (skip t) i = ap suc (length-layout t (suc i))
+  length-layout (split es ts) i = simp length-append (omega (arith, length-links ts (i + 2 + length es + count ts), length-layouts ts (i + 2 + length es + count ts)))
 
   pub length-layouts : (ts : Trees) (i : ℕ) → length (layout-all ts i) ≡ words-all ts
   length-layouts tnil i = refl
@@ -52,6 +56,7 @@ some-word (default d) = omega arith
 some-word (hit r p bs) = omega arith
 some-word (test c ts) = omega arith
 some-word (skip t) = omega arith
+some-word (split es ts) = omega arith
 
 bound-pairs : {m : ℕ} {bs : List (ℕ × ℕ)} (visits tail places : List ℕ) → Rising m (length visits) bs → bound (length bs) m (pairs bs ++ tail) visits places ≡ some (bind-all (placed visits bs) places)
 bound-pairs visits tail places rising-nil = refl
@@ -95,6 +100,20 @@ module _ (sig : Signature) (tree : List ℕ) where
       let r = child-of (base + words tr) idx c g e (tail, below) in
       record { child = r .child; link = r .link; linked = r .linked; above = omega arith; stands = r .stands; treed = r .treed; within = omega (arith, r .within); walks = r .walks }
 
+  -- what is followed: the child of the head at idx, whose link stands behind others at an index
+  pub record Followed (ts : Trees) (at idx c t : ℕ) (ks : List ℕ) : Type 0 where
+    pub of : Child ts (at + count ts) idx c t ks
+    pub there : getElem? tree (at + idx) ≡ some (of .link)
+
+  follow : {ks cs : List ℕ} {t : ℕ} {ts : Trees} (at idx c : ℕ) (tail : List ℕ) → Treeds sig ks t cs ts → getElem? cs idx ≡ some c → drop at tree ≡ (links ts (at + count ts) ++ layout-all ts (at + count ts)) ++ tail → Followed ts at idx c t ks
+  follow {ks} {t = t} {ts = ts} at idx c tail h e s = record { of = ch; there = at-drop tree at idx ∙ ap (λ l. getElem? l idx) s ∙ at-left (links ts (at + count ts) ++ layout-all ts (at + count ts)) tail idx (ch .link) (at-left (links ts (at + count ts)) (layout-all ts (at + count ts)) idx (ch .link) (ch .linked)) }
+    where
+      below : drop (at + count ts) tree ≡ layout-all ts (at + count ts) ++ tail
+      below = sym (drop-drop (count ts) at tree) ∙ ap (drop (count ts)) (s ∙ append-assoc (links ts (at + count ts)) (layout-all ts (at + count ts)) tail) ∙ drop-exact (count ts) (links ts (at + count ts)) (layout-all ts (at + count ts) ++ tail) (length-links ts (at + count ts))
+
+      ch : Child ts (at + count ts) idx c t ks
+      ch = child-of (at + count ts) idx c h e (tail, below)
+
   -- the m-th word of a tree that stands at i
   word : (i m : ℕ) (ws : List ℕ) → drop i tree ≡ ws → getElem? tree (i + m) ≡ getElem? ws m
   word i m ws s = at-drop tree i m ∙ ap (λ l. getElem? l m) s
@@ -111,32 +130,44 @@ module _ (dft : ℕ) (sig : Signature) (tree : List ℕ) where
       let d : drop (i + 4) tree ≡ pairs bs ++ tail = sym (drop-drop 4 i tree) ∙ ap (drop 4) s in
       rw (word sig tree i 1 (layout (hit r p bs) i ++ tail) s, word sig tree i 2 (layout (hit r p bs) i ++ tail) s, word sig tree i 3 (layout (hit r p bs) i ++ tail) s, leb-yes 1 r a, leb-yes r last-number b, d, bound-pairs visits tail unbound h)
 
+at-map : {A B : Type 0} (f : A → B) (xs : List A) (i : ℕ) (a : A) → getElem? xs i ≡ some a → getElem? (map f xs) i ≡ some (f a)
+at-map f [] i a e = none≢some e
+at-map f (x ∷ xs) zero a e = ap some (ap f (some-inj x a e))
+at-map f (x ∷ xs) (suc i) a e = at-map f xs i a e
+
 module _ (dft : ℕ) (sig : Signature) (tree : List ℕ) where
-  module _ (dense : Dense sig) where
-    test-runs : (n : ℕ) → Runs dft sig tree n → (k c f i j : ℕ) {ks js : List ℕ} (ts : Trees) (us rest : Values) (visits : List ℕ) → f ≡ first (heads sig k) → Treeds sig ks (length visits) (heads sig k) ts → arguments-at sig k c ≡ some js → OfKinds sig js us → OfKinds sig ks rest → words (test f ts) ≤ suc n → Stands sig tree (test f ts) i → at-test sig tree (λ i′ vs′ j′ visits′. run dft n sig tree i′ vs′ j′ visits′) i (vcons (con c us) rest) j visits ≡ some (to-answer dft (walk-nth ts (c - f) (vjoin us rest) (suc j) (visits ++ (j ∷ []))))
-    test-runs n g k c f i j {ks} {js} ts us rest visits ef h e a b l (tail, s) = go (constructor-of sig k c js e)
-      where
-        s₃ : drop (i + 3) tree ≡ (links ts (i + 3 + count ts) ++ layout-all ts (i + 3 + count ts)) ++ tail
-        s₃ = sym (drop-drop 3 i tree) ∙ ap (drop 3) s
+  module _ (facts : SigFacts sig) where
+    test-runs : (n : ℕ) → Runs dft sig tree n → (k c f i j : ℕ) {ks js : List ℕ} (ts : Trees) (us rest : Values) (visits : List ℕ) → is-number-kind sig k ≡ false → f ≡ first (heads sig k) → Treeds sig ks (length visits) (heads sig k) ts → arguments-at sig k c ≡ some js → OfKinds sig js us → OfKinds sig ks rest → words (test f ts) ≤ suc n → Stands sig tree (test f ts) i → at-test sig tree (λ i′ vs′ j′ visits′. run dft n sig tree i′ vs′ j′ visits′) i (vcons (con c us) rest) j visits ≡ some (to-answer dft (walk-nth ts (c - f) (vjoin us rest) (suc j) (visits ++ (j ∷ []))))
+    test-runs n g k c f i j {ks} {js} ts us rest visits nk ef h e a b l (tail, s) =
+        let (d, e₁, q, z) = constructor-of sig k c js nk e in
+        let kd : d .kind ≡ k = eqb-eq (d .kind) k q in
+        let r = follow sig tree (i + 3) (c - f) c tail h (rw (← ef) at (dense sig facts k c js e)) (sym (drop-drop 3 i tree) ∙ ap (drop 3) s) in
+        let ch = r .of in
+        let up : i < ch .link = omega (arith, ch .above) in
+        rw (e₁, word sig tree i 1 (layout (test f ts) i ++ tail) s, word sig tree i 2 (layout (test f ts) i ++ tail) s, kd, ← ef, eqb-self f, treeds-count sig h, eqb-self (length (heads sig k)), r .there, ltb-yes i (ch .link) up, ch .walks (vjoin us rest) (suc j) (visits ++ (j ∷ [])))
+        (g (ch .child) (js ++ ks) (ch .link) (suc j) (vjoin us rest) (visits ++ (j ∷ [])) (rw (args-same sig k c js e, more visits j) at (ch .treed)) (kindeds-join sig a b) (omega (arith, ch .within)) (ch .stands))
 
-        below : drop (i + 3 + count ts) tree ≡ layout-all ts (i + 3 + count ts) ++ tail
-        below = sym (drop-drop (count ts) (i + 3) tree) ∙ ap (drop (count ts)) (s₃ ∙ append-assoc (links ts (i + 3 + count ts)) (layout-all ts (i + 3 + count ts)) tail) ∙ ap (λ m. drop m (links ts (i + 3 + count ts) ++ (layout-all ts (i + 3 + count ts) ++ tail))) (sym (length-links ts (i + 3 + count ts))) ∙ drop-append-seam (links ts (i + 3 + count ts)) (layout-all ts (i + 3 + count ts) ++ tail)
-
-        on : Child sig tree ts (i + 3 + count ts) (c - f) c (length visits) ks → (d : Constructor) → getElem? sig c ≡ some d → d .kind ≡ k → at-test sig tree (λ i′ vs′ j′ visits′. run dft n sig tree i′ vs′ j′ visits′) i (vcons (con c us) rest) j visits ≡ some (to-answer dft (walk-nth ts (c - f) (vjoin us rest) (suc j) (visits ++ (j ∷ []))))
-        on ch d e₁ q =
-            let up : i < ch .link = omega (arith, ch .above) in
-            let w : getElem? tree (i + 3 + (c - f)) ≡ some (ch .link) = word sig tree (i + 3) (c - f) _ s₃ ∙ at-left (links ts (i + 3 + count ts) ++ layout-all ts (i + 3 + count ts)) tail (c - f) (ch .link) (at-left (links ts (i + 3 + count ts)) (layout-all ts (i + 3 + count ts)) (c - f) (ch .link) (ch .linked)) in
-            rw (e₁, word sig tree i 1 (layout (test f ts) i ++ tail) s, word sig tree i 2 (layout (test f ts) i ++ tail) s, q, ← ef, eqb-self f, treeds-count sig h, eqb-self (length (heads sig k)), w, ltb-yes i (ch .link) up, ch .walks (vjoin us rest) (suc j) (visits ++ (j ∷ [])))
-            (g (ch .child) (js ++ ks) (ch .link) (suc j) (vjoin us rest) (visits ++ (j ∷ [])) (rw (args-same sig k c js e, more visits j) at (ch .treed)) (kindeds-join sig a b) (omega (arith, ch .within)) (ch .stands))
-
-        go : (d : Constructor) × (getElem? sig c ≡ some d) × (eqb (d .kind) k ≡ true) × (d .args ≡ js) → at-test sig tree (λ i′ vs′ j′ visits′. run dft n sig tree i′ vs′ j′ visits′) i (vcons (con c us) rest) j visits ≡ some (to-answer dft (walk-nth ts (c - f) (vjoin us rest) (suc j) (visits ++ (j ∷ []))))
-        go (d, e₁, q, z) = on (child-of sig tree (i + 3 + count ts) (c - f) c h (rw (← ef) at (dense k c js e)) (tail, below)) d e₁ (eqb-eq (d .kind) k q)
+    split-runs : (n : ℕ) → Runs dft sig tree n → (k c i j : ℕ) {ks js : List ℕ} (es : List ℕ) (ts : Trees) (us rest : Values) (visits : List ℕ) → is-number-kind sig k ≡ true → rise-to last-level 0 es ≡ true → Treeds sig ks (length visits) (map (λ e. level-base + e) es) ts → arguments-at sig k c ≡ some js → OfKinds sig js us → OfKinds sig ks rest → words (split es ts) ≤ suc n → Stands sig tree (split es ts) i → at-split tree (λ i′ vs′ j′ visits′. run dft n sig tree i′ vs′ j′ visits′) i (vcons (con c us) rest) j visits ≡ some (to-answer dft (walk-nth ts (place-of (level-of c) es) (vjoin us rest) (suc j) (visits ++ (j ∷ []))))
+    split-runs n g k c i j {ks} {js} es ts us rest visits nk rise h e a b l (tail, s) =
+        let (low, high) = level-is c (level-of-kind sig k c js nk e) in
+        let (v, ev) = end-at last-level 0 (level-of c) es rise (omega arith) in
+        let at = i + 2 + length es in
+        let behind = links ts (at + count ts) ++ layout-all ts (at + count ts) in
+        let s₂ : drop (i + 2) tree ≡ es ++ (behind ++ tail) = sym (drop-drop 2 i tree) ∙ ap (drop 2) s ∙ append-assoc es behind tail in
+        let s₃ : drop at tree ≡ behind ++ tail = sym (drop-drop (length es) (i + 2) tree) ∙ ap (drop (length es)) s₂ ∙ drop-append-seam es (behind ++ tail) in
+        let r = follow sig tree at (place-of (level-of c) es) (level-base + v) tail h (at-map (λ x. level-base + x) es (place-of (level-of c) es) v ev) s₃ in
+        let ch = r .of in
+        let up : i < ch .link = omega (arith, ch .above) in
+        let bare : arguments sig (level-base + v) ≡ js = level-bare sig (facts .plain) (level-base + v) (omega arith) ∙ sym (level-bare sig (facts .plain) c low) ∙ args-same sig k c js e in
+        rw (leb-yes level-base c low, leb-yes c (level-base + last-level) high, word sig tree i 1 (layout (split es ts) i ++ tail) s, s₂, split-append es (behind ++ tail), rise, r .there, ltb-yes i (ch .link) up, ch .walks (vjoin us rest) (suc j) (visits ++ (j ∷ [])))
+        (g (ch .child) (js ++ ks) (ch .link) (suc j) (vjoin us rest) (visits ++ (j ∷ [])) (rw (bare, more visits j) at (ch .treed)) (kindeds-join sig a b) (omega (arith, ch .within)) (ch .stands))
 
     pub run-walks : (n : ℕ) → Runs dft sig tree n
     run-walks zero t ks i j vs visits h k l s = absurd (omega (arith, some-word t))
     run-walks (suc n) (default d) ks i j vs visits h k l (tail, s) = rw (word-0 sig tree i (0 ∷ tail) s)
     run-walks (suc n) (hit r p bs) ks i j vs visits (treed-hit a b h) of-kinds-nil l (tail, s) = rw (word-0 sig tree i (layout (hit r p bs) i ++ tail) s) (hit-runs dft sig tree r p i j bs visits tail a b h s)
-    run-walks (suc n) (test f ts) ks i j vs visits (treed-test {k = k} ef h) (of-kinds-cons (of-kind e a) b) l (tail, s) = rw (word-0 sig tree i (layout (test f ts) i ++ tail) s) (test-runs n (λ t′ ks′ i′ j′ vs′ visits′. run-walks n t′ ks′ i′ j′ vs′ visits′) k _ f i j ts _ _ visits ef h e a b l (tail, s))
+    run-walks (suc n) (test f ts) ks i j vs visits (treed-test {k = k} nk ef h) (of-kinds-cons (of-kind e a) b) l (tail, s) = rw (word-0 sig tree i (layout (test f ts) i ++ tail) s) (test-runs n (λ t′ ks′ i′ j′ vs′ visits′. run-walks n t′ ks′ i′ j′ vs′ visits′) k _ f i j ts _ _ visits nk ef h e a b l (tail, s))
+    run-walks (suc n) (split es ts) ks i j vs visits (treed-split {k = k} nk rise h) (of-kinds-cons (of-kind e a) b) l (tail, s) = rw (word-0 sig tree i (layout (split es ts) i ++ tail) s) (split-runs n (λ t′ ks′ i′ j′ vs′ visits′. run-walks n t′ ks′ i′ j′ vs′ visits′) k _ i j es ts _ _ visits nk rise h e a b l (tail, s))
     run-walks (suc n) (skip t) ks i j vs visits (treed-skip {ks = js} h) (of-kinds-cons {vs = rest} (of-kind {c = c} {vs = us} e a) b) l (tail, s) =
         let s₁ : drop (suc i) tree ≡ layout t (suc i) ++ tail = ap (λ m. drop m tree) (sym (add-one i)) ∙ sym (drop-drop 1 i tree) ∙ ap (drop 1) s in
         rw (word-0 sig tree i (layout (skip t) i ++ tail) s) (run-walks n t js (suc i) (j + size (con c us)) rest (visits ++ (j ∷ [])) (rw (more visits j) at h) b (omega arith) (tail, s₁))

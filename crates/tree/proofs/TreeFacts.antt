@@ -3,26 +3,29 @@ use mathlib.Core.Path.{_≡_, refl, _∙_, ap, ap₂, sym}
 use mathlib.Core.List.{List, map, _++_, _∷_, []}
 use mathlib.Core.Option.{Option, none, some}
 use mathlib.Core.Bool.{cond, Bool, true, false, _&&_}
-use Prim.Native.Nat.{ℕ, _-_, suc, _+_, zero, _<_}
+use Prim.Native.Nat.{ℕ, _-_, suc, _+_, zero, _≤_, _<_}
 use native.Mathlib.Nat.{add-zero, add-assoc}
 use native.Mathlib.Omega.{arith}
 use lib.Dec.{leb, eqb}
 use lib.ListN.{getD, length, List·getD-append, length-append, getElem?}
 use lib.Seq.{getD-append-seam}
 use Rattle.signature.specs.Lawful.{OfKinds, of-kinds-nil, of-kinds-cons, OfKind, of-kind}
-use Rattle.signature.specs.Lists.{All, none-left, also, memb, all, somes, first, any}
-use Rattle.signature.specs.Signature.{arguments-at, Signature, heads, arguments}
+use Rattle.signature.specs.Limits.{level-base, last-level}
+use Rattle.signature.specs.Lists.{All, none-left, also, memb, all, somes, first, any, keep}
+use Rattle.signature.specs.Signature.{arguments-at, Signature, heads, arguments, is-number-kind, level-of}
 use Rattle.signature.specs.Value.{Values, vnil, vcons, con, size, Value, sizes}
 use Rattle.signature.proofs.Booleans.{and-assoc, not-false}
-use Rattle.signature.proofs.Heads.{same-args, has-kind, args-same, Dense}
+use Rattle.signature.proofs.Heads.{same-args, has-kind, args-same, level-bare}
+use Rattle.signature.proofs.LawfulFacts.{SigFacts, dense}
 use Rattle.signature.proofs.ListFacts.{Kept, kept, dropped, kept-bind, all-somes, all-map, all-imp, all-with}
 use Rattle.signature.proofs.Members.{all-memb}
 use Rattle.signature.proofs.Tests.{eqb-eq, true≢false, none≢some, some-inj}
 use Rattle.row.specs.Row.{Row, named, free, Rows, rnil, rcons, open-rows}
 use Rattle.row.specs.RowFits.{rows-fit, row-fits}
 use Rattle.row.proofs.RowTheorem.{opens-fit}
-use Rattle.tree.specs.Run.{vjoin}
-use Rattle.tree.specs.Tree.{Tree, default, hit, test, skip, Trees, tnil, tcons, inserts, Line, insert, rappend, after, taken, refined, passed, children, compile}
+use Rattle.tree.specs.Run.{vjoin, place-of}
+use Rattle.tree.specs.Tree.{Tree, default, hit, test, skip, split, Trees, tnil, tcons, inserts, Line, insert, rappend, after, taken, refined, passed, is-end, branches, branch, children, compile}
+use Rattle.tree.proofs.EndFacts.{FirstEnd, heads-end, one-interval, number-heads, split-branches, test-branches, split-branch, test-branch}
 
 abbrev pub Hit : Type 0
 Hit = ℕ × ℕ × List (ℕ × ℕ)
@@ -38,6 +41,8 @@ abbrev mutual
   walk (hit r p bs) vs j visits = some (r, p, placed visits bs)
   walk (test f ts) vnil j visits = none
   walk (test f ts) (vcons (con c us) rest) j visits = walk-nth ts (c - f) (vjoin us rest) (suc j) (visits ++ (j ∷ []))
+  walk (split es ts) vnil j visits = none
+  walk (split es ts) (vcons (con c us) rest) j visits = walk-nth ts (place-of (level-of c) es) (vjoin us rest) (suc j) (visits ++ (j ∷ []))
   walk (skip t) vnil j visits = none
   walk (skip t) (vcons v rest) j visits = walk t rest (j + size v) (visits ++ (j ∷ []))
 
@@ -229,12 +234,44 @@ module _ (dft : ℕ) (sig : Signature) where
   next-walks n f i {ks} ls vs j visits h l s = rw (more visits i) (f ks ls vs j (visits ++ (i ∷ [])) h l (rw (more visits i) at s))
 
 module _ (dft : ℕ) (sig : Signature) where
-  module _ (dense : Dense sig) where
-    test-walks : (n : ℕ) → Walks dft sig n → (k c : ℕ) {js ks : List ℕ} (ls : List Line) (us rest : Values) (j : ℕ) (visits : List ℕ) → arguments-at sig k c ≡ some js → OfKinds sig js us → OfKinds sig ks rest → sizes us + sizes rest < n → All (Shaped sig (k ∷ ks) (length visits)) ls → walk (test (first (heads sig k)) (children (λ d. compile dft n sig (arguments sig d ++ ks) (somes (map (after (length visits) (taken sig (arguments sig d) d)) ls)) (suc (length visits))) (heads sig k))) (vcons (con c us) rest) j visits ≡ first-fit visits (vcons (con c us) rest) j ls
-    test-walks n f k c {js} {ks} ls us rest j visits e h g l s =
-        walk-children (λ d. compile dft n sig (arguments sig d ++ ks) (somes (map (after (length visits) (taken sig (arguments sig d) d)) ls)) (suc (length visits))) (heads sig k) (c - first (heads sig k)) c (vjoin us rest) (suc j) (visits ++ (j ∷ [])) (dense k c js e)
-        ∙ rw (args-same sig k c js e) (next-walks dft sig n f j (somes (map (after (length visits) (taken sig js c)) ls)) (vjoin us rest) (suc j) visits (kindeds-join sig h g) (omega (arith, sizes-join us rest)) (all-somes (all-map (after (length visits) (taken sig js c)) (λ a q. after-shaped sig (length visits) (taken sig js c) a q (taken-rowed sig k c e (q .cells))) s)))
+  -- the child for the head d
+  abbrev Next : ℕ → List ℕ → List Line → ℕ → ℕ → Tree
+  Next n ks ls t d = compile dft n sig (arguments sig d ++ ks) (somes (map (after t (taken sig (arguments sig d) d)) ls)) (suc t)
+
+  module _ (facts : SigFacts sig) where
+    child-walks : (n : ℕ) → Walks dft sig n → (k c : ℕ) {js ks : List ℕ} (ls : List Line) (us rest : Values) (j : ℕ) (visits : List ℕ) → arguments-at sig k c ≡ some js → OfKinds sig js us → OfKinds sig ks rest → sizes us + sizes rest < n → All (Shaped sig (k ∷ ks) (length visits)) ls → walk (Next n ks ls (length visits) c) (vjoin us rest) (suc j) (visits ++ (j ∷ [])) ≡ first-fit visits (vcons (con c us) rest) j ls
+    child-walks n f k c {js} {ks} ls us rest j visits e h g l s =
+        rw (args-same sig k c js e) (next-walks dft sig n f j (somes (map (after (length visits) (taken sig js c)) ls)) (vjoin us rest) (suc j) visits (kindeds-join sig h g) (omega (arith, sizes-join us rest)) (all-somes (all-map (after (length visits) (taken sig js c)) (λ a q. after-shaped sig (length visits) (taken sig js c) a q (taken-rowed sig k c e (q .cells))) s)))
         ∙ first-somes visits (visits ++ (j ∷ [])) (vcons (con c us) rest) (vjoin us rest) j (suc j) (after (length visits) (taken sig js c)) (all-imp (λ a q. taken-outcome sig visits j (a .binds) (q .made) (a .rule) (a .plan) k c rest (q .cells) e h) s)
+
+    -- a level's child is that of the first end not below it
+    next-level : (n k c : ℕ) {js : List ℕ} (ks : List ℕ) (ls : List Line) (t : ℕ) → is-number-kind sig k ≡ true → arguments-at sig k c ≡ some js → (r : FirstEnd (is-end ls) (keep (is-end ls) (heads sig k)) level-base c level-base) → Next n ks ls t (r .end) ≡ Next n ks ls t c
+    next-level n k c ks ls t q e r =
+        let low : level-base ≤ c = r .low in
+        let bare : arguments sig c ≡ [] = level-bare sig (facts .plain) c low in
+        let bare′ : arguments sig (r .end) ≡ [] = level-bare sig (facts .plain) (r .end) (omega (arith, r .above)) in
+        rw (bare, bare′) (ap (λ ms. compile dft n sig ks (somes ms) (suc t)) (sym (one-interval sig [] t ls c (r .end) (r .above) (λ v a b. r .none-between v a (omega arith) b))))
+
+    test-walks : (n : ℕ) → Walks dft sig n → (k c : ℕ) {js ks : List ℕ} (ls : List Line) (us rest : Values) (j : ℕ) (visits : List ℕ) → arguments-at sig k c ≡ some js → OfKinds sig js us → OfKinds sig ks rest → sizes us + sizes rest < n → All (Shaped sig (k ∷ ks) (length visits)) ls → walk (branch sig k (branches sig k ls) (children (Next n ks ls (length visits)) (branches sig k ls))) (vcons (con c us) rest) j visits ≡ first-fit visits (vcons (con c us) rest) j ls
+    test-walks n f k c {js} {ks} ls us rest j visits e h g l s = go (is-number-kind sig k) refl
+      where
+        kids : List ℕ → Trees
+        kids es = children (Next n ks ls (length visits)) es
+
+        go : (b : Bool) → is-number-kind sig k ≡ b → walk (branch sig k (branches sig k ls) (kids (branches sig k ls))) (vcons (con c us) rest) j visits ≡ first-fit visits (vcons (con c us) rest) j ls
+        go false q =
+            ap (λ es. walk (branch sig k es (kids es)) (vcons (con c us) rest) j visits) (test-branches sig k ls q)
+            ∙ ap (λ t. walk t (vcons (con c us) rest) j visits) (test-branch sig k (heads sig k) (kids (heads sig k)) q)
+            ∙ walk-children (Next n ks ls (length visits)) (heads sig k) (c - first (heads sig k)) c (vjoin us rest) (suc j) (visits ++ (j ∷ [])) (dense sig facts k c js e)
+            ∙ child-walks n f k c ls us rest j visits e h g l s
+        go true q =
+            let es = keep (is-end ls) (heads sig k) in
+            let r = heads-end (is-end ls) level-base last-level (heads sig k) (number-heads sig k q) refl c (has-kind sig k c js e) in
+            ap (λ es. walk (branch sig k es (kids es)) (vcons (con c us) rest) j visits) (split-branches sig k ls q)
+            ∙ ap (λ t. walk t (vcons (con c us) rest) j visits) (split-branch sig k es (kids es) q)
+            ∙ walk-children (Next n ks ls (length visits)) es (place-of (level-of c) (map level-of es)) (r .end) (vjoin us rest) (suc j) (visits ++ (j ∷ [])) (r .at)
+            ∙ ap (λ t. walk t (vjoin us rest) (suc j) (visits ++ (j ∷ []))) (next-level n k c ks ls (length visits) q e r)
+            ∙ child-walks n f k c ls us rest j visits e h g l s
 
     skip-walks : (n : ℕ) → Walks dft sig n → (k : ℕ) {ks : List ℕ} (ls : List Line) (v : Value) (rest : Values) (j : ℕ) (visits : List ℕ) → OfKind sig k v → OfKinds sig ks rest → sizes rest < n → All (Shaped sig (k ∷ ks) (length visits)) ls → any (λ a. refined sig k (a .cells)) ls ≡ false → walk (skip (compile dft n sig ks (somes (map (after (length visits) passed) ls)) (suc (length visits)))) (vcons v rest) j visits ≡ first-fit visits (vcons v rest) j ls
     skip-walks n f k {ks} ls v rest j visits h g l s q =

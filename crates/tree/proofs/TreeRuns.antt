@@ -1,5 +1,5 @@
 -- Trees that are compiled have leaves that a run accepts.
-use mathlib.Core.Path.{_≡_, refl}
+use mathlib.Core.Path.{_≡_, refl, _∙_, sym, subst}
 use mathlib.Core.List.{[], _∷_, List, _++_, map}
 use mathlib.Core.Option.{Option, some}
 use mathlib.Core.Bool.{Bool, cond, true, false}
@@ -7,12 +7,14 @@ use Prim.Native.Nat.{ℕ, _+_, suc, _<_, _≤_, zero}
 use native.Mathlib.Decide.{decLe}
 use native.Mathlib.Omega.{arith}
 use lib.Dec.{eqb, leb}
-use Rattle.signature.specs.Lists.{memb, All, none-left, also, any, somes}
-use Rattle.signature.specs.Signature.{Signature, arguments, arguments-at, heads}
+use Rattle.signature.specs.Limits.{level-base, last-level}
+use Rattle.signature.specs.Lists.{memb, All, none-left, also, any, somes, keep}
+use Rattle.signature.specs.Signature.{Signature, arguments, arguments-at, heads, is-number-kind}
+use Rattle.signature.proofs.Booleans.{and-left}
 use Rattle.signature.proofs.Heads.{args-same, kind-of-head}
 use Rattle.signature.proofs.LawfulFacts.{SigFacts}
 use Rattle.signature.proofs.ListFacts.{Kept, dropped, kept-when, kept, kept-bind, all-somes, all-map, kept-both, all-imp}
-use Rattle.signature.proofs.Members.{all-of}
+use Rattle.signature.proofs.Members.{all-of, memb-keep}
 use Rattle.signature.proofs.Tests.{le-of, eqb-ne, lt-of-not, eqb-self}
 use Rattle.pattern.specs.Limits.{variable-count, last-variable}
 use Rattle.pattern.specs.Match.{Binds}
@@ -20,10 +22,11 @@ use Rattle.pattern.specs.Places.{times, tick}
 use Rattle.row.specs.Row.{Rows, rnil, rcons, named, free, open-rows, Row}
 use Rattle.row.proofs.OverlapFacts.{Good, good-named, good-free, Goods, goods-nil, goods-cons}
 use Rattle.row.proofs.RowCount.{counts, occurs-all, opens-none}
-use Rattle.tree.specs.Leaf.{Treed, Treeds, treeds-nil, treeds-cons, treed-default, treed-hit, treed-test, treed-skip, Rising, rising-nil, rising-cons}
+use Rattle.tree.specs.Leaf.{Treed, Treeds, treeds-nil, treeds-cons, treed-default, treed-hit, treed-test, treed-split, treed-skip, Rising, rising-nil, rising-cons}
 use Rattle.tree.specs.Limits.{last-number}
-use Rattle.tree.specs.Tree.{insert, inserts, rappend, taken, passed, Line, after, Tree, children, compile, refined}
+use Rattle.tree.specs.Tree.{insert, inserts, rappend, taken, passed, Line, after, Tree, children, compile, refined, is-end, branches, branch}
 use Rattle.tree.proofs.CompiledFacts.{refs-lines}
+use Rattle.tree.proofs.EndFacts.{heads-rise, heads-back, branch-head, number-heads, split-branches, test-branches, split-branch, test-branch}
 use Rattle.tree.proofs.TreeFacts.{Roweds, taken-rowed, passed-rowed, Rowed, rowed-named, rowed-free, roweds-nil, roweds-cons, Shaped}
 
 -- bindings put in order
@@ -107,7 +110,7 @@ module _ (sig : Signature) where
   treeds-of ks t f none-left = treeds-nil
   treeds-of ks t f (also c h hs) = treeds-cons h (treeds-of ks t f hs)
 
-module _ (dft : ℕ) (sig : Signature) where
+module _ (dft : ℕ) (sig : Signature) (facts : SigFacts sig) where
   abbrev Leaves : ℕ → Type 0
   Leaves n = (ks : List ℕ) (ls : List Line) (t : ℕ) → All (Neat sig ks t) ls → Treed sig ks t (compile dft n sig ks ls t)
 
@@ -120,15 +123,35 @@ module _ (dft : ℕ) (sig : Signature) where
       one : Leaves n → (c : ℕ) → (js : List ℕ) × (arguments-at sig k c ≡ some js) → Treed sig (arguments sig c ++ ks) (suc t) (compile dft n sig (arguments sig c ++ ks) (somes (map (after t (taken sig (arguments sig c) c)) (m ∷ ls))) (suc t))
       one f c (js, e) = rw (args-same sig k c js e) (f (js ++ ks) (somes (map (after t (taken sig js c)) (m ∷ ls))) (suc t) (all-somes (all-map (after t (taken sig js c)) (λ a q. after-neat sig t (taken sig js c) a q (kept-both (taken-rowed sig k c e (q .cells)) (taken-drops sig js c (a .cells)))) h)))
 
+      next : ℕ → Tree
+      next c = compile dft n sig (arguments sig c ++ ks) (somes (map (after t (taken sig (arguments sig c) c)) (m ∷ ls))) (suc t)
+
+      over : Leaves n → (es : List ℕ) → ((c : ℕ) → memb c es ≡ true → memb c (heads sig k) ≡ true) → Treeds sig ks t es (children next es)
+      over f es i = treeds-of sig ks t next (all-of es (λ c e. one f c (kind-of-head sig k c (i c e))))
+
+      tests : Leaves n → (b : Bool) → is-number-kind sig k ≡ b → Treed sig (k ∷ ks) t (branch sig k (branches sig k (m ∷ ls)) (children next (branches sig k (m ∷ ls))))
+      tests f false p =
+          let hs = heads sig k in
+          subst (λ es. Treed sig (k ∷ ks) t (branch sig k es (children next es))) (sym (test-branches sig k (m ∷ ls) p))
+          (subst (Treed sig (k ∷ ks) t) (sym (test-branch sig k hs (children next hs) p)) (treed-test p refl (over f hs (λ c e. e))))
+      tests f true p =
+          let end = is-end (m ∷ ls) in
+          let q = number-heads sig k p in
+          let es = keep end (heads sig k) in
+          let ts = over f es (λ c e. and-left (memb c (heads sig k)) (end c) (sym (memb-keep end c (heads sig k)) ∙ e)) in
+          subst (λ es. Treed sig (k ∷ ks) t (branch sig k es (children next es))) (sym (split-branches sig k (m ∷ ls) p))
+          (subst (Treed sig (k ∷ ks) t) (sym (split-branch sig k es (children next es) p))
+          (treed-split p (heads-rise end level-base last-level (heads sig k) q refl) (subst (λ cs. Treeds sig ks t cs (children next es)) (sym (heads-back end level-base last-level (heads sig k) q refl)) ts)))
+
       go : (b : Bool) → any (λ a. refined sig k (a .cells)) (m ∷ ls) ≡ b → Leaves n → Treed sig (k ∷ ks) t (compile dft (suc n) sig (k ∷ ks) (m ∷ ls) t)
-      go true q f = rw q (treed-test refl (treeds-of sig ks t (λ c. compile dft n sig (arguments sig c ++ ks) (somes (map (after t (taken sig (arguments sig c) c)) (m ∷ ls))) (suc t)) (all-of (heads sig k) (λ c e. one f c (kind-of-head sig k c e)))))
+      go true q f = rw q (tests f (is-number-kind sig k) refl)
       go false q f = rw q (treed-skip (f ks (somes (map (after t passed) (m ∷ ls))) (suc t) (all-somes (all-map (after t passed) (λ a z. after-neat sig t passed a z (kept-both (passed-rowed sig k (z .cells)) (passed-drops (a .cells)))) h))))
 
 module _ (sig : Signature) where
   -- rows in which constructors are left are in shape
   mutual
     pub good-rowed : {k : ℕ} {r : Row} → Good sig k r → Rowed sig k r
-    good-rowed (good-named e g) = rowed-named e (goods-rowed g)
+    good-rowed (good-named l e g) = rowed-named e (goods-rowed g)
     good-rowed (good-free h) = rowed-free
 
     goods-rowed : {ks : List ℕ} {rs : Rows} → Goods sig ks rs → Roweds sig ks rs

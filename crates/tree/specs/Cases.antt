@@ -1,19 +1,37 @@
 -- What Case T says of runs, and ways in which a tree is broken. The function `cases` promises them.
 use mathlib.Core.Path.{_≡_}
-use mathlib.Core.List.{List, [], _∷_}
+use mathlib.Core.List.{List, [], _∷_, _++_}
+use mathlib.Core.Bool.{true}
 use mathlib.Core.Option.{none, some}
 use Prim.Native.Nat.{ℕ}
 use lib.ListN.{set}
-use Rattle.signature.specs.Cases.{T, words-T}
+use Rattle.signature.specs.Cases.{T, words-T, L}
+use Rattle.signature.specs.Lists.{count-up}
+use Rattle.signature.specs.Signature.{Signature, levels}
 use Rattle.pattern.specs.Places.{unbound}
 use Rattle.tree.specs.Answer.{no-rule}
 use Rattle.tree.specs.Run.{run-words, nodes-words}
 use Rattle.tree.specs.RunCall.{refusal, run-signature}
+use Rattle.tree.specs.Tree.{Line, split, skip, hit, tnil, tcons, compile}
+use Rattle.tree.specs.Words.{layout}
+use Rattle.row.specs.Row.{rcons, rnil, free}
 use Rattle.signature.specs.Read.{read-signature}
 
 -- "T's tree, 37 words"
 abbrev pub tree-T : List ℕ
 tree-T = 2 ∷ 0 ∷ 1 ∷ 4 ∷ 2 ∷ 1 ∷ 3 ∷ 10 ∷ 17 ∷ 27 ∷ 3 ∷ 1 ∷ 7 ∷ 40 ∷ 1 ∷ 0 ∷ 2 ∷ 2 ∷ 4 ∷ 2 ∷ 22 ∷ 23 ∷ 0 ∷ 1 ∷ 9 ∷ 41 ∷ 0 ∷ 2 ∷ 4 ∷ 2 ∷ 32 ∷ 33 ∷ 0 ∷ 1 ∷ 9 ∷ 41 ∷ 0 ∷ []
+
+-- a tree over the bookings of L: rule 7 at the levels to 50
+abbrev pub tree-L : List ℕ
+tree-L = 2 ∷ 0 ∷ 1 ∷ 4 ∷ 3 ∷ 4 ∷ 2 ∷ 50 ∷ 100 ∷ 11 ∷ 15 ∷ 1 ∷ 7 ∷ 40 ∷ 0 ∷ 0 ∷ []
+
+-- a booking is a level by itself
+abbrev pub N : Signature
+N = record { kind = 0; args = []; number = true } ∷ []
+
+-- a rule's row over such bookings: one place, at which these levels are allowed
+abbrev pub level-line : ℕ → ℕ → List ℕ → Line
+level-line r p cs = record { rule = r; plan = p; binds = []; cells = rcons (free [] cs) rnil }
 
 pub record Cases : Type 0 where
   -- "0 1 5: rule 7, plan 40, variable 0 at 2. 0 2 5: rule 9, plan 41. 0 3 4: default."
@@ -33,7 +51,7 @@ pub record Cases : Type 0 where
   pub skip-one : run-words 0 T (3 ∷ 1 ∷ 7 ∷ 40 ∷ 0 ∷ []) (0 ∷ 1 ∷ 5 ∷ []) ≡ some (record { rule = 7; plan = 40; places = unbound })
   pub skip-two : run-words 0 T (3 ∷ 3 ∷ 1 ∷ 7 ∷ 40 ∷ 0 ∷ []) (0 ∷ 1 ∷ 5 ∷ []) ≡ none
   -- another first word; rule 0 and rule 1,000; a visit not made; variables that do not rise
-  pub other-word : run-words 0 T (4 ∷ []) (0 ∷ 1 ∷ 5 ∷ []) ≡ none
+  pub other-word : run-words 0 T (5 ∷ []) (0 ∷ 1 ∷ 5 ∷ []) ≡ none
   pub rule-0 : run-words 0 T (3 ∷ 1 ∷ 0 ∷ 40 ∷ 0 ∷ []) (0 ∷ 1 ∷ 5 ∷ []) ≡ none
   pub rule-1000 : run-words 0 T (3 ∷ 1 ∷ 1000 ∷ 40 ∷ 0 ∷ []) (0 ∷ 1 ∷ 5 ∷ []) ≡ none
   pub visit-made : run-words 0 T (3 ∷ 1 ∷ 7 ∷ 40 ∷ 1 ∷ 15 ∷ 0 ∷ []) (0 ∷ 1 ∷ 5 ∷ []) ≡ some (record { rule = 7; plan = 40; places = set unbound 15 0 })
@@ -45,3 +63,30 @@ pub record Cases : Type 0 where
   pub wrong-count : run-words 0 T (2 ∷ 0 ∷ 2 ∷ 5 ∷ 5 ∷ 0 ∷ []) (0 ∷ 1 ∷ 5 ∷ []) ≡ none
   pub link-not-above : run-words 0 T (2 ∷ 0 ∷ 1 ∷ 0 ∷ []) (0 ∷ 1 ∷ 5 ∷ []) ≡ none
   pub link-above : run-words 0 T (2 ∷ 0 ∷ 1 ∷ 1 ∷ []) (0 ∷ 1 ∷ 5 ∷ []) ≡ some (no-rule 0)
+  -- 02, job 1: a split, at both sides of an end, and at the first and the last level
+  pub level-50 : run-words 0 L tree-L (0 ∷ 1 ∷ 1050 ∷ []) ≡ some (record { rule = 7; plan = 40; places = unbound })
+  pub level-51 : run-words 0 L tree-L (0 ∷ 1 ∷ 1051 ∷ []) ≡ some (no-rule 0)
+  pub level-0 : run-words 0 L tree-L (0 ∷ 2 ∷ 1000 ∷ []) ≡ some (record { rule = 7; plan = 40; places = unbound })
+  pub level-100 : run-words 0 L tree-L (0 ∷ 2 ∷ 1100 ∷ []) ≡ some (no-rule 0)
+  pub nodes-51 : nodes-words L tree-L (0 ∷ 1 ∷ 1051 ∷ []) ≡ some (0 ∷ 4 ∷ 5 ∷ 15 ∷ [])
+  -- one end is enough; none is not; a node 4 at a constructor and a node 2 at a level are broken
+  pub one-end : run-words 0 N (4 ∷ 1 ∷ 100 ∷ 4 ∷ 0 ∷ []) (1037 ∷ []) ≡ some (no-rule 0)
+  pub no-end : run-words 0 N (4 ∷ 0 ∷ 100 ∷ 4 ∷ 0 ∷ []) (1037 ∷ []) ≡ none
+  pub split-at-constructor : run-words 0 L (4 ∷ 1 ∷ 100 ∷ 4 ∷ 0 ∷ []) (0 ∷ 1 ∷ 1037 ∷ []) ≡ none
+  pub test-at-level : run-words 0 N (2 ∷ 0 ∷ 1 ∷ 4 ∷ 0 ∷ []) (1037 ∷ []) ≡ none
+  pub test-of-levels : run-words 0 N (2 ∷ 1000 ∷ 101 ∷ 3 ∷ 3 ∷ []) (1000 ∷ []) ≡ none
+  -- ends that do not rise, that fall, that do not end in 100, that reach beyond the slice
+  pub ends-not-rising : run-words 0 N (4 ∷ 2 ∷ 100 ∷ 100 ∷ 6 ∷ 6 ∷ 0 ∷ []) (1037 ∷ []) ≡ none
+  pub ends-falling : run-words 0 N (4 ∷ 2 ∷ 100 ∷ 50 ∷ 6 ∷ 6 ∷ 0 ∷ []) (1037 ∷ []) ≡ none
+  pub ends-below-100 : run-words 0 N (4 ∷ 1 ∷ 99 ∷ 4 ∷ 0 ∷ []) (1037 ∷ []) ≡ none
+  pub ends-above-100 : run-words 0 N (4 ∷ 1 ∷ 101 ∷ 4 ∷ 0 ∷ []) (1037 ∷ []) ≡ none
+  pub ends-outside : run-words 0 N (4 ∷ 3 ∷ 50 ∷ 100 ∷ []) (1037 ∷ []) ≡ none
+  -- a followed link at its own node; a link that is not followed may lie outside the slice
+  pub split-not-above : run-words 0 N (4 ∷ 1 ∷ 100 ∷ 0 ∷ []) (1037 ∷ []) ≡ none
+  pub link-inside : run-words 0 N (4 ∷ 2 ∷ 0 ∷ 100 ∷ 2 ∷ []) (1000 ∷ []) ≡ some (no-rule 0)
+  pub link-outside : run-words 0 N (4 ∷ 2 ∷ 0 ∷ 100 ∷ 2 ∷ []) (1001 ∷ []) ≡ none
+  -- both edges of a range and of its complement are ends, and a row that refines nothing adds none; by itself it is skipped
+  pub range-and-rest : compile 0 9 N (0 ∷ []) (level-line 7 40 (count-up 1020 41) ∷ level-line 9 41 (count-up 1000 20 ++ count-up 1061 40) ∷ []) 0 ≡ split (19 ∷ 60 ∷ 100 ∷ []) (tcons (hit 9 41 []) (tcons (hit 7 40 []) (tcons (hit 9 41 []) tnil)))
+  pub range-and-all : compile 0 9 N (0 ∷ []) (level-line 7 40 (count-up 1000 51) ∷ level-line 9 41 levels ∷ []) 0 ≡ split (50 ∷ 100 ∷ []) (tcons (hit 7 40 []) (tcons (hit 9 41 []) tnil))
+  pub all-alone : compile 0 9 N (0 ∷ []) (level-line 9 41 levels ∷ []) 0 ≡ skip (hit 9 41 [])
+  pub split-words : layout (split (50 ∷ 100 ∷ []) (tcons (hit 7 40 []) (tcons (hit 9 41 []) tnil))) 0 ≡ 4 ∷ 2 ∷ 50 ∷ 100 ∷ 6 ∷ 10 ∷ 1 ∷ 7 ∷ 40 ∷ 0 ∷ 1 ∷ 9 ∷ 41 ∷ 0 ∷ []

@@ -2,13 +2,14 @@
 use mathlib.Core.Path.{_≡_}
 use mathlib.Core.List.{List, [], _∷_, _++_}
 use mathlib.Core.Option.{Option, some, none}
-use mathlib.Core.Bool.{_&&_, cond}
+use mathlib.Core.Bool.{Bool, false, _&&_, cond}
 use Prim.Native.Nat.{ℕ, zero, suc, _+_, _-_, _≤_, _<_}
 use lib.Dec.{leb, eqb, ltb}
 use lib.ListN.{set, drop, length, getElem?}
-use Rattle.signature.specs.Lists.{_>>=_, require, first}
+use Rattle.signature.specs.Limits.{last-level}
+use Rattle.signature.specs.Lists.{_>>=_, require, first, split}
 use Rattle.signature.specs.Read.{read-booking}
-use Rattle.signature.specs.Signature.{Signature, heads}
+use Rattle.signature.specs.Signature.{Signature, heads, is-level, level-of}
 use Rattle.signature.specs.Value.{Values, vnil, vcons, con, size}
 use Rattle.pattern.specs.Limits.{last-variable}
 use Rattle.pattern.specs.Places.{unbound}
@@ -63,6 +64,30 @@ at-test sig tree next i (vcons (con c us) rest) j visits = do
   _ ← require (ltb i link)
   next link (vjoin us rest) (suc j) (visits ++ (j ∷ []))
 
+-- 02, job 1: "upper ends rising to 100": each at least m and above the one before it, the last one the last
+abbrev pub rise-to : ℕ → ℕ → List ℕ → Bool
+rise-to last m [] = false
+rise-to last m (e ∷ []) = leb m e && eqb e last
+rise-to last m (e ∷ (f ∷ es)) = leb m e && rise-to last (suc e) (f ∷ es)
+
+-- where the first end stands that is not below a level
+abbrev pub place-of : ℕ → List ℕ → ℕ
+place-of v [] = 0
+place-of v (e ∷ es) = cond (leb v e) 0 (suc (place-of v es))
+
+-- 02, job 1: a node 4 at a level; broken: "a node 4 at another kind, or one whose ends do not rise to 100", and as a node 2;
+-- "of a node 4 only its first two words, its ends and the link that is followed are examined and must lie in the slice"
+abbrev pub at-split : {A : Type 0} → List ℕ → Walk A → Walk A
+at-split tree next i vnil j visits = none
+at-split tree next i (vcons (con c us) rest) j visits = do
+  _ ← require (is-level c)
+  n ← getElem? tree (i + 1)
+  r ← split n (drop (i + 2) tree)
+  _ ← require (rise-to last-level 0 (r .0))
+  link ← getElem? tree (i + 2 + n + place-of (level-of c) (r .0))
+  _ ← require (ltb i link)
+  next link (vjoin us rest) (suc j) (visits ++ (j ∷ []))
+
 -- a node 3: "3 skips one whole part"; broken: "no booking part left to take"
 abbrev pub at-skip : {A : Type 0} → Walk A → Walk A
 at-skip next i vnil j visits = none
@@ -75,7 +100,7 @@ module _ (dft : ℕ) where
   run (suc n) sig tree i vs j visits = do
     w ← getElem? tree i
     let next : Run = λ i′ vs′ j′ visits′. run n sig tree i′ vs′ j′ visits′
-    cond (eqb w 0) (some (no-rule dft)) (cond (eqb w 1) (at-hit tree i vs j visits) (cond (eqb w 2) (at-test sig tree next i vs j visits) (cond (eqb w 3) (at-skip next i vs j visits) none)))
+    cond (eqb w 0) (some (no-rule dft)) (cond (eqb w 1) (at-hit tree i vs j visits) (cond (eqb w 2) (at-test sig tree next i vs j visits) (cond (eqb w 3) (at-skip next i vs j visits) (cond (eqb w 4) (at-split tree next i vs j visits) none))))
 
   -- a run of a booking's words from index 0
   abbrev pub run-words : Signature → List ℕ → List ℕ → Option Answer
@@ -90,7 +115,7 @@ nodes (suc n) sig tree i vs j visits = do
   w ← getElem? tree i
   let next : Walk (List ℕ) = λ i′ vs′ j′ visits′. nodes n sig tree i′ vs′ j′ visits′
   let leaf : Option (List ℕ) = at-hit tree i vs j visits >>= λ a. some []
-  is ← cond (eqb w 0) (some []) (cond (eqb w 1) leaf (cond (eqb w 2) (at-test sig tree next i vs j visits) (cond (eqb w 3) (at-skip next i vs j visits) none)))
+  is ← cond (eqb w 0) (some []) (cond (eqb w 1) leaf (cond (eqb w 2) (at-test sig tree next i vs j visits) (cond (eqb w 3) (at-skip next i vs j visits) (cond (eqb w 4) (at-split tree next i vs j visits) none))))
   some (i ∷ is)
 
 abbrev pub nodes-words : Signature → List ℕ → List ℕ → Option (List ℕ)
@@ -108,3 +133,4 @@ pub data Linked (tree : List ℕ) : ℕ → List ℕ → Type 0 where
   linked-leaf : {i w : ℕ} → getElem? tree i ≡ some w → w ≤ 1 → Linked tree i (i ∷ [])
   linked-skip : {i : ℕ} {is : List ℕ} → getElem? tree i ≡ some 3 → Linked tree (suc i) is → Linked tree i (i ∷ is)
   linked-test : {i link : ℕ} {is : List ℕ} (c : ℕ) → getElem? tree i ≡ some 2 → getElem? tree (i + 3 + c) ≡ some link → i < link → Linked tree link is → Linked tree i (i ∷ is)
+  linked-split : {i n link : ℕ} {is : List ℕ} (c : ℕ) → getElem? tree i ≡ some 4 → getElem? tree (i + 1) ≡ some n → getElem? tree (i + 2 + n + c) ≡ some link → i < link → Linked tree link is → Linked tree i (i ∷ is)

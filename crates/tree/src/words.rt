@@ -7,10 +7,14 @@ pub const TEST: u16 = 2;
 
 pub const SKIP: u16 = 3;
 
-// the words of a node 1 before its pairs, and of a node 2 before its links
+pub const SPLIT: u16 = 4;
+
+// the words of a node 1 before its pairs, of a node 2 before its links, and of a node 4 before its ends
 pub const HIT_WORDS: usize = 4;
 
 pub const TEST_WORDS: usize = 3;
+
+pub const SPLIT_WORDS: usize = 2;
 
 pub const LAST_NUMBER: u16 = 999;
 

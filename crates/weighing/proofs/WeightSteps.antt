@@ -13,13 +13,13 @@ use Rattle.signature.proofs.Booleans.{and-true}
 use Rattle.signature.proofs.Tests.{leb-yes, leb-no}
 use Rattle.pattern.specs.Given.{Opens}
 use Rattle.pattern.specs.Limits.{part-weight-limit}
-use Rattle.pattern.specs.Pattern.{Pattern, Patterns, pnil, pcons, head, and, or, wild, absurd-pat, neg, var, pattern-code, patterns-code}
+use Rattle.pattern.specs.Pattern.{Pattern, Patterns, pnil, pcons, head, and, or, wild, absurd-pat, neg, var, range, pattern-code, patterns-code}
 use Rattle.pattern.specs.Read.{Form, form}
 use Rattle.pattern.specs.Side.{Side, plus, minus, other, weight-at, light-at}
 use Rattle.pattern.proofs.Sides.{light-all}
 use Rattle.pattern.specs.Weight.{weight-plus, weight-minus, product-plus, sum-minus}
 use Rattle.weighing.specs.Weighing.{weighed, part-weighed, head-at, op-of, joined, over-weight}
-use Rattle.pattern.specs.Word.{part-count}
+use Rattle.pattern.specs.Word.{own-words, part-count}
 use Rattle.weighing.specs.declared.weight.Head.{Head}
 use Rattle.weighing.specs.declared.weight.Head.the-variants.{Parts, Swap}
 use Rattle.weighing.specs.declared.weight.Part.{Part}
@@ -93,6 +93,7 @@ weighs plus wild = (refl, refl, omega arith)
 weighs plus absurd-pat = (refl, refl, omega arith)
 weighs plus (neg p) = (p, refl, refl, refl)
 weighs plus (var x) = (refl, refl, omega arith)
+weighs plus (range low high) = (refl, refl, omega arith)
 weighs minus (head c ps) = (omega (arith, sum-fold ps), refl, omega arith)
 weighs minus (and p q) = (omega arith, and-three (leb (weight-at minus (and p q)) part-weight-limit) (light-at minus p) (light-at minus q), omega arith)
 weighs minus (or p q) = (two-times (weight-minus p) (weight-minus q), and-three (leb (weight-at minus (or p q)) part-weight-limit) (light-at minus p) (light-at minus q), omega arith)
@@ -100,6 +101,7 @@ weighs minus wild = (refl, refl, omega arith)
 weighs minus absurd-pat = (refl, refl, omega arith)
 weighs minus (neg p) = (p, refl, refl, refl)
 weighs minus (var x) = (refl, refl, omega arith)
+weighs minus (range low high) = (refl, refl, omega arith)
 
 -- behind i words and some parts: what the parts that are left make of the weight so far
 pub record Left (s : Side) (t ws : List ℕ) (p : Pattern) (b : Bool) (n i left : ℕ) : Type 0 where
@@ -113,41 +115,44 @@ module _ (s : Side) {t ws : List ℕ} (g : Opens t ws) (f : Form) (f-is : f ≡ 
   weighs-so : (k : Head) → h ≡ k → Weighs s (g .pattern) k
   weighs-so k e = subst (Weighs s (g .pattern)) (ap (head-at s) (sym (shape-is g f f-is)) ∙ sym h-is ∙ e) (weighs s (g .pattern))
 
-  pub start : (a k : ℕ) (b : Bool) → h ≡ Parts a b → k ≡ part-count t f → Left s t ws (g .pattern) b a 1 (k - 0)
+  own-and-inner : own-words f + length (patterns-code (inner (g .pattern))) ≡ length (pattern-code (g .pattern))
+  own-and-inner = ap (λ x. own-words x + length (patterns-code (inner (g .pattern)))) (shape-is g f f-is) ∙ inner-length (g .pattern)
+
+  pub start : (a k : ℕ) (b : Bool) → h ≡ Parts a b → k ≡ part-count t f → Left s t ws (g .pattern) b a (own-words f) (k - 0)
   start a k b e m =
       let w = weighs-so (Parts a b) e in
-      record { ps = inner (g .pattern); front = subst (λ x. OpensAll t (drop 1 ws) x (inner (g .pattern))) (omega (arith, m)) (opened g f f-is); ends = inner-length (g .pattern); weight = ap (λ x. min x over-weight) (w .0); light = w .1 }
+      record { ps = inner (g .pattern); front = subst (λ x. OpensAll t (drop (own-words f) ws) x (inner (g .pattern))) (omega (arith, m)) (opened g f f-is); ends = own-and-inner; weight = ap (λ x. min x over-weight) (w .0); light = w .1 }
 
   pub start-low : (a : ℕ) (b : Bool) → h ≡ Parts a b → a ≤ 1
   start-low a b e = weighs-so (Parts a b) e .2
 
   -- a not: the part behind it, at the other side
-  behind : h ≡ Swap → (o : Opens t (part ws 1)) × (weight-at s (g .pattern) ≡ weight-at (other s) (o .pattern)) × (light-at s (g .pattern) ≡ light-at (other s) (o .pattern)) × (length (pattern-code (g .pattern)) ≡ 1 + length (pattern-code (o .pattern)))
+  behind : h ≡ Swap → (o : Opens t (part ws (own-words f))) × (weight-at s (g .pattern) ≡ weight-at (other s) (o .pattern)) × (light-at s (g .pattern) ≡ light-at (other s) (o .pattern)) × (length (pattern-code (g .pattern)) ≡ own-words f + length (pattern-code (o .pattern)))
   behind e =
       let (q, i, x, y) = weighs-so Swap e in
-      let (o, z) = first-open (part-count t f) q pnil (subst (OpensAll t (drop 1 ws) (part-count t f)) i (opened g f f-is)) in (
-        to-part ws 1 o,
+      let (o, z) = first-open (part-count t f) q pnil (subst (OpensAll t (drop (own-words f) ws) (part-count t f)) i (opened g f f-is)) in (
+        to-part ws (own-words f) o,
         x ∙ ap (weight-at (other s)) (sym z),
         y ∙ ap (light-at (other s)) (sym z),
-        sym (inner-length (g .pattern)) ∙ ap (λ v. 1 + length (patterns-code v)) i ∙ ap (λ v. 1 + length v) (append-nil (pattern-code q)) ∙ ap (λ v. 1 + length (pattern-code v)) (sym z),
+        sym own-and-inner ∙ ap (λ v. own-words f + length (patterns-code v)) i ∙ ap (λ v. own-words f + length v) (append-nil (pattern-code q)) ∙ ap (λ v. own-words f + length (pattern-code v)) (sym z),
       )
 
-  pub behind-not : h ≡ Swap → Opens t (part ws 1)
+  pub behind-not : h ≡ Swap → Opens t (part ws (own-words f))
   behind-not e = behind e .0
 
-  module _ (e : h ≡ Swap) (r : Part) (gave : (o : Opens t (part ws 1)) → r ≡ part-weighed (other s) (o .pattern)) where
+  module _ (e : h ≡ Swap) (r : Part) (gave : (o : Opens t (part ws (own-words f))) → r ≡ part-weighed (other s) (o .pattern)) where
     swapped : (b : Bool) → light-at s (g .pattern) ≡ b → r ≡ cond b (Is (weight-at s (g .pattern)) (length (pattern-code (behind e .0 .pattern)))) TooHeavy
     swapped b q = let (o, x, y, z) = behind e in gave o ∙ (rw (← y, ← x, q))
 
-    pub swap-is : (a used : ℕ) → r ≡ Is a used → (Is a (1 + used) ≡ part-weighed s (g .pattern)) × (1 + used ≤ length ws)
+    pub swap-is : (a used : ℕ) → r ≡ Is a used → (Is a (own-words f + used) ≡ part-weighed s (g .pattern)) × (own-words f + used ≤ length ws)
     swap-is a used q = go (light-at s (g .pattern)) refl
       where
-        go : (b : Bool) → light-at s (g .pattern) ≡ b → (Is a (1 + used) ≡ part-weighed s (g .pattern)) × (1 + used ≤ length ws)
+        go : (b : Bool) → light-at s (g .pattern) ≡ b → (Is a (own-words f + used) ≡ part-weighed s (g .pattern)) × (own-words f + used ≤ length ws)
         go true m =
             let w : Is a used ≡ Is (weight-at s (g .pattern)) (length (pattern-code (behind e .0 .pattern))) = sym q ∙ swapped true m in
             let i : a ≡ weight-at s (g .pattern) = cc in
             let j : used ≡ length (pattern-code (behind e .0 .pattern)) = cc in
-            let k : 1 + used ≡ length (pattern-code (g .pattern)) = omega (arith, behind e .3) in
+            let k : own-words f + used ≡ length (pattern-code (g .pattern)) = omega (arith, behind e .3) in
             (rw (m, i, k), omega (arith, fits-in g))
         go false m = absurd (let w : Is a used ≡ TooHeavy = sym q ∙ swapped false m in let z : _≡_ {A = ℕ} 0 1 = cc in omega arith)
 

@@ -4,7 +4,7 @@ use Prim.Native.Nat.{ℕ, _+_, _*_, suc, min}
 use lib.ListN.{length}
 use Rattle.pattern.specs.Limits.{part-weight-limit}
 use Rattle.pattern.specs.Pattern.{Pattern, pattern-code}
-use Rattle.pattern.specs.Read.{Form, is-head, is-var, is-and, is-or, is-wild, is-absurd, is-not, is-other}
+use Rattle.pattern.specs.Read.{Form, is-head, is-var, is-and, is-or, is-wild, is-absurd, is-not, is-range, is-other}
 use Rattle.pattern.specs.Side.{Side, plus, minus, weight-at, light-at}
 use Rattle.pattern.specs.Weight.{weight-plus, light-plus}
 use Rattle.weighing.specs.declared.weight.Head.{Head}
@@ -31,6 +31,7 @@ head-at plus is-wild = Parts 1 true
 head-at plus is-absurd = Parts 0 true
 head-at plus is-not = Swap
 head-at plus (is-var x) = Parts 1 true
+head-at plus is-range = Parts 1 true
 head-at plus is-other = Parts 0 true
 head-at minus (is-head c) = Parts 1 false
 head-at minus is-and = Parts 0 false
@@ -39,6 +40,7 @@ head-at minus is-wild = Parts 0 true
 head-at minus is-absurd = Parts 1 true
 head-at minus is-not = Swap
 head-at minus (is-var x) = Parts 0 true
+head-at minus is-range = Parts 1 true
 head-at minus is-other = Parts 0 true
 
 abbrev pub op-of : Bool → ℕ → ℕ → ℕ

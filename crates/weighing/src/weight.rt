@@ -59,6 +59,7 @@ fn plus_head(w: Word) -> Head
         Word::Absurd => Head::Parts(0, true),
         Word::Not => Head::Swap,
         Word::Var(_x) => Head::Parts(1, true),
+        Word::Range => Head::Parts(1, true),
         Word::Other => Head::Parts(0, true),
     }
 }
@@ -74,6 +75,7 @@ fn minus_head(w: Word) -> Head
         Word::Absurd => Head::Parts(1, true),
         Word::Not => Head::Swap,
         Word::Var(_x) => Head::Parts(0, true),
+        Word::Range => Head::Parts(1, true),
         Word::Other => Head::Parts(0, true),
     }
 }

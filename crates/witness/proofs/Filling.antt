@@ -2,12 +2,11 @@
 use borrow.Author.Tests.{lt-ltb, le-ltb}
 use mathlib.Core.Path.{_≡_, refl, ap, sym, _∙_}
 use mathlib.Core.List.{List, [], _∷_, _++_, append-assoc, append-nil}
-use mathlib.Core.Bool.{Bool, true, false}
+use mathlib.Core.Bool.{true}
 use mathlib.Core.Option.{some}
 use Prim.Native.Nat.{ℕ, _+_, _-_, _*_, _≤_, _<_}
 use native.Mathlib.Omega.{arith}
-use lib.Dec.{eqb}
-use lib.ListN.{length, drop, take, getD, length-append, length-drop, drop-of-length-le}
+use lib.ListN.{length, drop, take, length-append, length-drop, drop-of-length-le}
 use lib.Seq.{drop-drop, drop-at, take-at}
 use Rattle.signature.specs.Decoded.{Known}
 use Rattle.signature.specs.Lawful.{of-kind}
@@ -17,20 +16,24 @@ use Rattle.signature.specs.Value.{Value, Values, con, vnil, vcons, code, codes,
 use Rattle.signature.proofs.Heads.{args-same, kind-of-head}
 use Rattle.signature.proofs.ListFacts.{first-of}
 use Rattle.signature.proofs.Members.{all-memb, all-self}
-use Rattle.signature.proofs.Tests.{eqb-self, eqb-eq, true≢false}
+use Rattle.signature.proofs.Tests.{eqb-self}
 use Rattle.signature.proofs.Values.{length-code, depth-size}
 use Rattle.row.specs.Limits.{place-words}
 use Rattle.row.specs.Row.{Rows, named, free, rnil, rcons}
 use Rattle.row.specs.RowFits.{good-named, good-free, Goods, goods-nil, goods-cons, places-count}
-use Rattle.cell.specs.Cell.{all-words}
+use Rattle.cell.specs.Cell.{all-words, cell-code, tag-limit}
+use Rattle.cell.specs.declared.cell.Cell.{Cell}
 use Rattle.cell.specs.Coded.{kinds-of, all-cells, row-code}
-use Rattle.cell.specs.Cursor.{opens-of}
+use Rattle.cell.specs.Cursor.{opens-of, cell-at, cell-of}
+use Rattle.sets.specs.Heads.{number-of}
 use Rattle.sets.specs.Set.{set-of, Within}
+use Rattle.sets.proofs.HeadSets.{number-words}
 use Rattle.sets.proofs.ListSets.{within-one}
 use Rattle.cell.specs.RowList.{from}
-use Rattle.cell.proofs.Columns.{three-at}
+use Rattle.cell.proofs.Columns.{three-at, cell-there}
 use Rattle.cell.proofs.Walk.{from-is, back}
-use Rattle.rowlist.proofs.Kinded.{known-head, kind-there, within-kind}
+use Rattle.rowlist.proofs.Kinded.{known-head, kind-there, kinds-same, within-kind}
+use Rattle.signature.proofs.KnownFacts.{words-of}
 use Rattle.overlap.specs.Least.{GivenPlace, ValueWritten}
 use Rattle.witness.specs.Fill.{GivenRow, Taken, Filled}
 use Rattle.witness.proofs.Behind.{_behind_, count, count-places, places-behind, count-behind, goods-behind, count-goods, words-behind, Takens, takens-nil, takens-cons, together, split-values}
@@ -93,7 +96,13 @@ pub record Front {t row o₀ : List ℕ} (g : GivenRow t row o₀) (i n : ℕ) (
   pub see : i + 3 ≤ length row
   pub whole : length o ≡ length o₀
   pub room : n + place-words ≤ length o
-  pub place : 256 ≤ getD row i 0 → GivenPlace t (getD row i 0 - 256) (getD row (i + 2) 0) (from o n)
+  pub place : (c : Cell) → c ≡ cell-at row i → 256 ≤ c .tag → GivenPlace t (c .tag - 256) (number-of (c .allowed)) (from o n)
+
+-- what is seen of it
+seen : (row : List ℕ) (i : ℕ) (c : Cell) (tag v m : ℕ) (w : List ℕ) → tag < tag-limit → drop i row ≡ cell-code tag v m ++ w → c ≡ cell-at row i → (c .tag ≡ tag) × (number-of (c .allowed) ≡ m)
+seen row i c tag v m w l e ec =
+    let E : c ≡ cell-of tag v m = ec ∙ cell-there row i tag v m w l e .cell in
+    (ap (λ (z : Cell). z .tag) E, ap (λ (z : Cell). number-of (z .allowed)) E ∙ number-words m)
 
 room-from : (o : List ℕ) (n : ℕ) → n + place-words ≤ length o → place-words ≤ length (from o n)
 room-from o n h = rw (from-is o n) (omega (arith, length-drop n o))
@@ -138,7 +147,7 @@ module _ {t row o₀ : List ℕ} (g : GivenRow t row o₀) where
         → Mid g i n left o (k ∷ ks) (rcons (named xs c rs) todo) → w ≡ length js → m ≡ 1 → ys ≡ c ∷ drop 1 (from o n) → Now g (i + 3) (n + m) (left - 1 + w) (back o n ys)
     named-turn k c xs ks js rs todo w m ys e gs G M ew em ey =
         let K = kinds-of (g .known .sig) in
-        let T = three-at row i c _ _ _ (M .code-is) in
+        let T = three-at row i _ _ _ _ (M .code-is) in
         let pl = places-behind rs todo in (
           js ++ ks,
           rs behind todo,
@@ -181,33 +190,37 @@ module _ {t row o₀ : List ℕ} (g : GivenRow t row o₀) where
           },
         )
 
+    tag-small : {k : ℕ} → k < g .known .decoded .n → 256 + k < tag-limit
+    tag-small l = omega (arith, l, kinds-same (g .known), words-of (g .known) .few-kinds)
+
     front-at : {ks : List ℕ} {todo : Rows} → Goods (g .known .sig) ks todo → Mid g i n left o ks todo → 0 < left → Front g i n o
     front-at goods-nil M h = absurd (omega (arith, M .left-is))
-    front-at (goods-cons {k = k} (good-named {c = c} {js = js} e gs) G) M h =
+    front-at (goods-cons {k = k} (good-named {c = c} {js = js} l e gs) G) M h =
         let T = three-at row i _ _ _ _ (M .code-is) in
         let w = whole-at _ _ M in
-        record { see = T .room; whole = w; room = omega (arith, M .room, w); place = λ z. absurd (omega (arith, z, T .one, known-head (g .known) k c js e .tag)) }
+        record { see = T .room; whole = w; room = omega (arith, M .room, w); place = λ x ex z. absurd (omega (arith, z, seen row i x c _ _ _ (omega (arith, l)) (M .code-is) ex .0, l)) }
     front-at (goods-cons {k = k} (good-free {c = d} {cs = cs} a) G) M h =
         let T = three-at row i _ _ _ _ (M .code-is) in
         let w = whole-at _ _ M in
         let room : n + place-words ≤ length o = omega (arith, M .room, w) in
-        record { see = T .room; whole = w; room = room; place = λ z. free-given (g .known) k d cs a _ _ (from o n) (omega (arith, T .one)) (T .three) (room-from o n room) }
+        record { see = T .room; whole = w; room = room; place = λ x ex z. let s = seen row i x (256 + k) _ _ _ (tag-small (kind-here (g .known) k d cs a)) (M .code-is) ex in free-given (g .known) k d cs a _ _ (from o n) (omega (arith, s .0)) (s .1) (room-from o n room) }
 
-    turn-at : {ks : List ℕ} {todo : Rows} (w m : ℕ) (ys : List ℕ) → Goods (g .known .sig) ks todo → Mid g i n left o ks todo → 0 < left → w ≡ opens-of t (getD row i 0)
-        → (getD row i 0 < 256 → (m ≡ 1) × (ys ≡ getD row i 0 ∷ drop 1 (from o n)))
-        → (256 ≤ getD row i 0 → (q : GivenPlace t (getD row i 0 - 256) (getD row (i + 2) 0) (from o n)) → ValueWritten q m ys) → Now g (i + 3) (n + m) (left - 1 + w) (back o n ys)
-    turn-at w m ys goods-nil M h ew N U = absurd (omega (arith, M .left-is))
-    turn-at w m ys (goods-cons {k = k} {ks = ks} {rs = todo} (good-named {c = c} {xs = xs} {js = js} {rs = rs} e gs) G) M h ew N U =
-        let T = three-at row i _ _ _ _ (M .code-is) in
-        let K = known-head (g .known) k c js e in
-        let q = N (omega (arith, T .one, K .tag)) in
-        named-turn k c xs ks js rs todo w m ys e gs G M (ew ∙ ap (opens-of t) (T .one) ∙ rw (lt-ltb c 256 (K .tag)) (K .arity ∙ ap length (args-same (g .known .sig) k c js e))) (q .0) (rw (T .one) at (q .1))
-    turn-at w m ys (goods-cons {k = k} {ks = ks} {rs = todo} (good-free {c = d} {xs = xs} {cs = cs} a) G) M h ew N U =
-        let T = three-at row i _ _ _ _ (M .code-is) in
+    turn-at : {ks : List ℕ} {todo : Rows} (x : Cell) (w m : ℕ) (ys : List ℕ) → Goods (g .known .sig) ks todo → Mid g i n left o ks todo → 0 < left → x ≡ cell-at row i → w ≡ opens-of t (x .tag)
+        → (x .tag < 256 → (m ≡ 1) × (ys ≡ x .tag ∷ drop 1 (from o n)))
+        → (256 ≤ x .tag → (q : GivenPlace t (x .tag - 256) (number-of (x .allowed)) (from o n)) → ValueWritten q m ys) → Now g (i + 3) (n + m) (left - 1 + w) (back o n ys)
+    turn-at x w m ys goods-nil M h ex ew N U = absurd (omega (arith, M .left-is))
+    turn-at x w m ys (goods-cons {k = k} {ks = ks} {rs = todo} (good-named {c = c} {xs = xs} {js = js} {rs = rs} l e gs) G) M h ex ew N U =
+        let z : x .tag ≡ c = seen row i x c _ _ _ (omega (arith, l)) (M .code-is) ex .0 in
+        let K = known-head (g .known) k c js (omega (arith, l)) e in
+        let q = N (omega (arith, z, K .tag)) in
+        named-turn k c xs ks js rs todo w m ys e gs G M (ew ∙ ap (opens-of t) z ∙ rw (lt-ltb c 256 (K .tag)) (K .arity ∙ ap length (args-same (g .known .sig) k c js e))) (q .0) (rw z at (q .1))
+    turn-at x w m ys (goods-cons {k = k} {ks = ks} {rs = todo} (good-free {c = d} {xs = xs} {cs = cs} a) G) M h ex ew N U =
+        let s = seen row i x (256 + k) _ _ _ (tag-small (kind-here (g .known) k d cs a)) (M .code-is) ex in
         let room : n + place-words ≤ length o = omega (arith, M .room, whole-at _ _ M) in
-        let z : 256 ≤ getD row i 0 = omega (arith, T .one) in
-        let (v, hv, em, ey) = free-taken (g .known) k d cs a _ _ m xs (from o n) ys (omega (arith, T .one)) (T .three) (room-from o n room) (U z (free-given (g .known) k d cs a _ _ (from o n) (omega (arith, T .one)) (T .three) (room-from o n room))) in
-        free-turn k xs (d ∷ cs) ks todo w m v ys G M hv (ew ∙ ap (opens-of t) (T .one) ∙ rw (le-ltb (256 + k) 256 (omega arith))) em ey
+        let kk : x .tag - 256 ≡ k = omega (arith, s .0) in
+        let z : 256 ≤ x .tag = omega (arith, s .0) in
+        let (v, hv, em, ey) = free-taken (g .known) k d cs a _ _ m xs (from o n) ys kk (s .1) (room-from o n room) (U z (free-given (g .known) k d cs a _ _ (from o n) kk (s .1) (room-from o n room))) in
+        free-turn k xs (d ∷ cs) ks todo w m v ys G M hv (ew ∙ ap (opens-of t) (s .0) ∙ rw (le-ltb (256 + k) 256 (omega arith))) em ey
 
     pub front : Now g i n left o → 0 < left → Front g i n o
     front m h = front-at (m .2 .good) (m .2) h
@@ -216,7 +229,7 @@ module _ {t row o₀ : List ℕ} (g : GivenRow t row o₀) where
     pub few : Now g i n left o → (length o ≡ length o₀) × (n + left ≤ length o₀)
     few m = (whole-at (m .0) (m .1) (m .2), omega (arith, m .2 .room, m .2 .left-is, count-places (m .1)))
 
-    pub turn : (w m : ℕ) (ys : List ℕ) → Now g i n left o → 0 < left → w ≡ opens-of t (getD row i 0)
-        → (getD row i 0 < 256 → (m ≡ 1) × (ys ≡ getD row i 0 ∷ drop 1 (from o n)))
-        → (256 ≤ getD row i 0 → (q : GivenPlace t (getD row i 0 - 256) (getD row (i + 2) 0) (from o n)) → ValueWritten q m ys) → Now g (i + 3) (n + m) (left - 1 + w) (back o n ys)
-    turn w m ys M h ew N U = turn-at w m ys (M .2 .good) (M .2) h ew N U
+    pub turn : (x : Cell) (w m : ℕ) (ys : List ℕ) → Now g i n left o → 0 < left → x ≡ cell-at row i → w ≡ opens-of t (x .tag)
+        → (x .tag < 256 → (m ≡ 1) × (ys ≡ x .tag ∷ drop 1 (from o n)))
+        → (256 ≤ x .tag → (q : GivenPlace t (x .tag - 256) (number-of (x .allowed)) (from o n)) → ValueWritten q m ys) → Now g (i + 3) (n + m) (left - 1 + w) (back o n ys)
+    turn x w m ys M h ex ew N U = turn-at x w m ys (M .2 .good) (M .2) h ex ew N U

@@ -36,7 +36,7 @@ use Rattle.witness.proofs.Filling.{kind-here, within-all}
 module _ {t : List ℕ} (g : Known t) where
   mutual
     pub typed-good : {k : ℕ} {r : Row} → Good (g .sig) k r → Typed (kinds-of (g .sig)) t r k
-    typed-good {k} (good-named {c = c} {js = js} e gs) = (known-head g k c js e, rw (args-same (g .sig) k c js e) (typeds-good gs))
+    typed-good {k} (good-named {c = c} {js = js} l e gs) = (known-head g k c js (omega (arith, l)) e, rw (args-same (g .sig) k c js e) (typeds-good gs))
     typed-good {k} (good-free {c = c} {cs = cs} a) = let l = kind-here g k c cs a in (open-kind g k l .kind, refl, within-all (first (heads (g .sig) k)) (heads (g .sig) k) (within-kind g k l) a)
 
     typeds-good : {ks : List ℕ} {rs : Rows} → Goods (g .sig) ks rs → Typeds (kinds-of (g .sig)) t rs ks

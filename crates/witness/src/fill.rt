@@ -1,5 +1,6 @@
 // A value that a row takes.
 use cell::cell::CELL;
+use cell::cell::cell_at;
 use cell::cell::opens;
 use overlap::least::place;
 ghost use Rattle.witness.specs.Fill.{GivenRow, Filled};
@@ -13,9 +14,9 @@ pub fn fill(t: &[u16], row: &[u64], out: &mut [u16]) -> usize
     let mut n = 0;
     let mut left = 1;
     while left > 0 {
-        let tag = row[i];
-        let w = opens(t, tag);
-        n += place(t, tag, row[i + 2], &mut out[n..]);
+        let c = cell_at(row, i);
+        let w = opens(t, c.tag);
+        n += place(t, c.tag, c.allowed, &mut out[n..]);
         left = left - 1 + w;
         i += CELL;
     }

@@ -17,11 +17,12 @@ use Rattle.signature.proofs.Members.{memb-keep}
 use Rattle.signature.proofs.Tests.{eqb-eq, eqb-self, true≢false}
 use Rattle.pattern.specs.Limits.{pattern-limit, variable-count}
 use Rattle.pattern.specs.Linear.{linear-plus, E}
-use Rattle.pattern.specs.Pattern.{Pattern, Patterns, head, and, or, neg, wild, absurd-pat, var, pnil, pcons, pattern-code}
+use Rattle.pattern.specs.Pattern.{Pattern, Patterns, head, and, or, neg, wild, absurd-pat, var, range, pnil, pcons, pattern-code}
+use Rattle.pattern.specs.Range.{within}
 use Rattle.pattern.specs.Places.{tick}
 use Rattle.pattern.specs.WellFormed.{WellFormed, well-head, well-and, well-or, well-not, well-var, AllWellFormed, well-nil, well-cons}
 use Rattle.pattern.proofs.Once.{tick-one}
-use Rattle.row.specs.Row.{Row, Rows, named, free, rnil, rcons, combine, combines, each, open-row, open-rows, other-than, rows-plus, rows-minus, args-plus, args-minus}
+use Rattle.row.specs.Row.{Row, Rows, named, free, rnil, rcons, combine, combines, each, open-row, open-rows, allowing, rows-plus, rows-minus, args-plus, args-minus}
 use Rattle.row.specs.RowFits.{place-count}
 use Rattle.row.proofs.Places.{all-each, plus-places}
 use Rattle.row.proofs.RowCount.{counts, occurs, occurs-all, plus-once}
@@ -82,12 +83,13 @@ module _ (sig : Signature) where
   products : (k : ℕ) {rs ss : List Row} → All (λ r. Kinded r k) rs → All (λ r. Kinded r k) ss → All (λ r. Kinded r k) (somes (each combine rs ss))
   products k ps qs = all-somes (all-each combine (λ r s g h. combined r s k g h) ps qs)
 
-  others : (k c : ℕ) → All (λ r. Kinded r k) (other-than sig k c)
-  others k c = go (is-empty (keep (λ d. not (eqb c d)) (heads sig k)))
+  -- some of the heads of a kind
+  some-heads : (k : ℕ) (f : ℕ → Bool) → All (λ r. Kinded r k) (allowing (keep f (heads sig k)))
+  some-heads k f = go (is-empty (keep f (heads sig k)))
     where
-      go : (b : Bool) → All (λ r. Kinded r k) (cond b [] (free [] (keep (λ d. not (eqb c d)) (heads sig k)) ∷ []))
+      go : (b : Bool) → All (λ r. Kinded r k) (cond b [] (free [] (keep f (heads sig k)) ∷ []))
       go true = none-left
-      go false = also (free [] (keep (λ d. not (eqb c d)) (heads sig k))) (among-keep (λ d. not (eqb c d)) (heads sig k) (heads sig k) (among-self (heads sig k)), none-left) none-left
+      go false = also (free [] (keep f (heads sig k))) (among-keep f (heads sig k) (heads sig k) (among-self (heads sig k)), none-left) none-left
 
   mutual
     plus-kinded : {k : ℕ} (p : Pattern) → WellFormed sig k p → All (λ r. Kinded r k) (rows-plus sig k p)
@@ -98,6 +100,7 @@ module _ (sig : Signature) where
     plus-kinded {k} (and p q) (well-and v w) = products k (plus-kinded p v) (plus-kinded q w)
     plus-kinded (or p q) (well-or v w) = all-append (plus-kinded p v) (plus-kinded q w)
     plus-kinded {k} (head c ps) (well-head {ks = ks} l e w) = all-map (named [] c) (λ rs h. (has-kind sig k c ks e, none-left, h)) (args-plus-kinded ps (subst (λ (js : List ℕ). AllWellFormed sig js ps) (sym (args-same sig k c ks e)) w))
+    plus-kinded {k} (range low high) w = some-heads k (λ d. within low high d)
 
     minus-kinded : {k : ℕ} (p : Pattern) → WellFormed sig k p → All (λ r. Kinded r k) (rows-minus sig k p)
     minus-kinded (var x) w = none-left
@@ -106,7 +109,8 @@ module _ (sig : Signature) where
     minus-kinded (neg p) (well-not w) = plus-kinded p w
     minus-kinded (and p q) (well-and v w) = all-append (minus-kinded p v) (minus-kinded q w)
     minus-kinded {k} (or p q) (well-or v w) = products k (minus-kinded p v) (minus-kinded q w)
-    minus-kinded {k} (head c ps) (well-head {ks = ks} l e w) = all-append (others k c) (all-map (named [] c) (λ rs h. (has-kind sig k c ks e, none-left, h)) (args-minus-kinded ps (subst (λ (js : List ℕ). AllWellFormed sig js ps) (sym (args-same sig k c ks e)) w)))
+    minus-kinded {k} (head c ps) (well-head {ks = ks} l e w) = all-append (some-heads k (λ d. not (eqb c d))) (all-map (named [] c) (λ rs h. (has-kind sig k c ks e, none-left, h)) (args-minus-kinded ps (subst (λ (js : List ℕ). AllWellFormed sig js ps) (sym (args-same sig k c ks e)) w)))
+    minus-kinded {k} (range low high) w = some-heads k (λ d. not (within low high d))
 
     args-plus-kinded : {ks : List ℕ} (ps : Patterns) → AllWellFormed sig ks ps → All (λ rs. Kindeds rs ks) (args-plus sig ks ps)
     args-plus-kinded pnil well-nil = also rnil tt none-left

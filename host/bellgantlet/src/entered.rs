@@ -9,6 +9,8 @@ pub enum NotEntered {
     NumberHeld,
     /// 7: the pattern is malformed.
     PatternMalformed,
+    /// 18: the low of a range exceeds its high, or its high exceeds 100.
+    RangeWrong,
     /// 8: it is not linear-plus.
     NotLinear,
     /// 9: some part of it weighs over 64.
@@ -30,6 +32,7 @@ impl NotEntered {
         match (number, rule) {
             (5, _) => NotEntered::NumberHeld,
             (7, _) => NotEntered::PatternMalformed,
+            (18, _) => NotEntered::RangeWrong,
             (8, _) => NotEntered::NotLinear,
             (9, _) => NotEntered::TooHeavy,
             (10, _) => NotEntered::Ambiguous,
@@ -43,6 +46,7 @@ impl NotEntered {
         match self {
             NotEntered::NumberHeld => Refusal::NumberHeld,
             NotEntered::PatternMalformed => Refusal::PatternMalformed,
+            NotEntered::RangeWrong => Refusal::RangeWrong,
             NotEntered::NotLinear => Refusal::NotLinear,
             NotEntered::TooHeavy => Refusal::TooHeavy,
             NotEntered::Ambiguous => Refusal::Ambiguous,

@@ -35,6 +35,10 @@ pub const PATTERN: usize = 64;
 pub const LAST_RULE: u16 = 999;
 /// Variables are numbered from 0.
 pub const VARIABLES: usize = 16;
+/// The word of level 0 at a number kind; of level n it is n more.
+pub const LEVEL: u16 = 1000;
+/// The last level.
+pub const LAST_LEVEL: u16 = 100;
 /// The place of a variable that is not bound.
 pub const UNBOUND: u16 = 65535;
 

@@ -50,6 +50,7 @@ refusals! {
     TreeTooLarge = 14: "The tree exceeds the lent slice or 32,768 words.",
     TreeBroken = 15: "The tree is broken.",
     PlaceOutside = 16: "The place is not below the booking's length.",
+    RangeWrong = 18: "The low of a range exceeds its high, or its high exceeds 100.",
 }
 
 impl fmt::Display for Refusal {
@@ -69,6 +70,6 @@ mod tests {
         for n in 1..=u16::MAX {
             assert_eq!(Refusal::of(n).number(), n);
         }
-        assert_eq!(Refusal::of(18).to_string(), "The call is refused. (18)");
+        assert_eq!(Refusal::of(17).to_string(), "The call is refused. (17)");
     }
 }

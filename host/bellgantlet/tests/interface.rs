@@ -148,6 +148,8 @@ fn the_same_constants() {
         ("PATTERN", PATTERN),
         ("LAST_RULE", LAST_RULE as usize),
         ("VARIABLES", VARIABLES),
+        ("LEVEL", LEVEL as usize),
+        ("LAST_LEVEL", LAST_LEVEL as usize),
         ("UNBOUND", UNBOUND as usize),
         ("STACK_EMPTY", stack::EMPTY),
         ("STACK_ENTER", stack::ENTER),

@@ -126,6 +126,58 @@ pub fn cases() -> Vec<Case> {
     vec![grid("2 rules", 2), grid("10 rules", 10), grid("64 rules", 64), heaviest(), deepest()]
 }
 
+/// Boxes of ten ranges, made by cutting them one after the other; of each, two places that are whole are an "or" of two
+/// wildcards, so that 64 rules weigh 256.
+fn boxes(name: &'static str, n: usize) -> Case {
+    // 0, 2 and 4 have three levels and the next kind, 6 has one level; 1, 3, 5 and 7 have no arguments; kind 4 has the levels
+    let signature = vec![9, 0, 4, 4, 4, 4, 1, 0, 0, 1, 4, 4, 4, 4, 2, 1, 0, 2, 4, 4, 4, 4, 3, 2, 0, 3, 1, 4, 3, 0, 4, 5];
+    let mut seed = 1u32;
+    let mut below = |n: usize| {
+        seed = seed.wrapping_mul(1664525).wrapping_add(1013904223);
+        (seed >> 16) as usize % n
+    };
+    let mut boxes = vec![[(0, 100); 10]];
+    while boxes.len() < n {
+        let (i, place) = (below(boxes.len()), below(10));
+        let (low, high) = boxes[i][place];
+        if low < high {
+            let cut = low + below((high - low) as usize) as u16;
+            let mut upper = boxes[i];
+            upper[place].0 = cut + 1;
+            boxes[i][place].1 = cut;
+            boxes.push(upper);
+        }
+    }
+    let mut rules = vec![];
+    let mut bookings = vec![];
+    for (i, ranges) in boxes.iter().enumerate() {
+        let (mut pattern, mut booking, mut twice) = (vec![], vec![], 2);
+        for (place, (low, high)) in ranges.iter().enumerate() {
+            if place % 3 == 0 {
+                pattern.push(place as u16 / 3 * 2);
+                booking.push(place as u16 / 3 * 2);
+            }
+            match (low, high) {
+                (0, 100) if twice > 0 => {
+                    twice -= 1;
+                    pattern.extend([257, 258, 258]);
+                }
+                (0, 100) => pattern.push(258),
+                _ => pattern.extend([280, *low, *high]),
+            }
+            booking.push(1000 + low);
+        }
+        rules.push((1 + i as u16, 1, pattern));
+        bookings.push(booking);
+    }
+    Case { name, signature, rules, bookings }
+}
+
+/// Tables with levels, which neither the prototype nor the first-match list knows.
+pub fn with_levels() -> Vec<Case> {
+    vec![boxes("10 rules, levels", 10), boxes("64 rules, levels", 64)]
+}
+
 /// One rule that takes every booking, and a booking of 4,096 words, of a list with two elements a cell.
 pub fn long() -> Case {
     fn exact(n: usize) -> Vec<u16> {

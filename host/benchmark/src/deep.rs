@@ -1,6 +1,6 @@
 //! Where the calls go deepest: patterns of 64 words that nest in every way, entered and held; and words that are not lawful.
 use crate::calls::{Lent, Row};
-use crate::cases::{cases, Case};
+use crate::cases::{cases, with_levels, Case};
 use bellgantlet::{raw, TABLE, TREE, WITNESS};
 
 /// One kind: 0 has no argument, 1 one, 2 two, 3 four.
@@ -9,7 +9,7 @@ pub const ONE_KIND: [u16; 16] = [4, 0, 0, 0, 1, 0, 0, 2, 0, 0, 0, 4, 0, 0, 0, 0]
 const TWO_LETTERS: [u16; 9] = [3, 0, 1, 0, 0, 1, 0, 0, 0];
 
 pub fn rows() -> Vec<Row> {
-    let mut all: Vec<Row> = cases().iter().map(of_case).collect();
+    let mut all: Vec<Row> = cases().iter().chain(&with_levels()).map(of_case).collect();
     all.push(of_patterns("63 nested", nested(&[1])));
     all.push(of_patterns("63 nots", nested(&[260])));
     all.push(of_patterns("nested nots", [nested(&[260, 1]), nested(&[1, 260]), nested(&[1, 260, 260])].concat()));

@@ -1,7 +1,7 @@
 //! The calls side by side with the prototype, with a first-match list of the same rules, and a run with one pass over the
 //! booking. Times are the least of many rounds, in which the parties take turns.
 use bellgantlet::raw;
-use benchmark::cases::{cases, long, Case};
+use benchmark::cases::{cases, long, with_levels, Case};
 use benchmark::first_match;
 use std::hint::black_box;
 use std::time::Instant;
@@ -73,6 +73,9 @@ fn times(rounds: usize) {
     }
     for c in &all {
         compile(c, rounds);
+    }
+    for c in &with_levels() {
+        alone(c, rounds);
     }
 }
 
@@ -205,9 +208,44 @@ fn compile(c: &Case, rounds: usize) {
     line("compile", &name, &mut parties, rounds);
 }
 
+/// The calls on a table that only the library knows.
+fn alone(c: &Case, rounds: usize) {
+    let (sig, n) = (&c.signature, c.rules.len());
+    let (table, fewer) = (c.table(n), c.table(n - 1));
+    let (number, plan, pattern) = c.rules.last().unwrap();
+    let (mut t, mut space, mut witness) = (table.clone(), vec![0; 32768], vec![0; 4096]);
+    let tree = raw::compile(sig, &table, &mut space);
+    for (b, (rule, ..)) in c.bookings.iter().zip(&c.rules) {
+        assert_eq!(raw::decide(sig, &table, b).rule, *rule);
+        assert!(tree.number != 0 || raw::run(sig, &space, b).rule == *rule);
+    }
+    let (mut next, mut again) = (turning(c), turning(c));
+    if tree.number == 0 {
+        by_itself("run", c.name, rounds, || { black_box(raw::run(sig, &space, next())); });
+    }
+    by_itself("decide", c.name, rounds, || { black_box(raw::decide(sig, &table, again())); });
+    by_itself("enter", c.name, rounds, || {
+        t.copy_from_slice(&fewer);
+        assert_eq!(raw::enter(sig, *number, *plan, pattern, &mut t, &mut witness).number, 0);
+    });
+    by_itself("withdraw", c.name, rounds, || {
+        t.copy_from_slice(&table);
+        assert_eq!(raw::withdraw(sig, c.rules[0].0, &mut t), 0);
+    });
+    let name = match tree.number {
+        0 => format!("{}, tree of {} words", c.name, tree.length),
+        n => format!("{}, refused with {n}", c.name),
+    };
+    by_itself("compile", &name, rounds, || { black_box(raw::compile(sig, &table, &mut space)); });
+}
+
+fn by_itself(call: &str, case: &str, rounds: usize, f: impl FnMut()) {
+    line(call, case, &mut [("library", Box::new(f))], rounds);
+}
+
 /// One call again and again, for a profiler: `benchmark only run "64 rules" 1000`.
 fn only(call: &str, case: &str, times: usize) {
-    let c = cases().into_iter().find(|c| c.name == case).expect("a case");
+    let c = cases().into_iter().chain(with_levels()).find(|c| c.name == case).expect("a case");
     let (sig, table, n) = (&c.signature, c.table(c.rules.len()), c.rules.len());
     let (number, plan, pattern) = c.rules.last().unwrap();
     let mut space = vec![0; 32768];

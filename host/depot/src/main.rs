@@ -109,30 +109,36 @@ impl Depot {
 
 fn main() -> Result<(), Refusal> {
     let names = Names::new(&[
-        "booking: booking(bus,bay,energy)",
+        "booking: booking(bus,bay,energy,charge)",
         "bus: articulated midi solo trolley",
         "bay: hall(slot) yard(slot) street",
         "slot: one two three four",
         "energy: low half high by(hour,energy)",
         "hour: five six seven",
+        "charge: 0..100",
     ]);
     let mut depot = Depot::new(names)?;
-    let asked = ["booking(midi, hall(two), by(five, high))", "booking(articulated, yard(one), high)", "booking(solo, street, low)"];
+    let asked = ["booking(midi, hall(two), by(five, high), 60)", "booking(articulated, yard(one), high, 35)", "booking(solo, street, low, 12)"];
 
-    depot.enter("Ada", 10, 3, "booking(articulated, ?bay, high | by(_, high))");
-    depot.enter("Ada", 11, 4, "booking(midi | solo, hall(?slot), by(?hour, !low))");
+    depot.enter("Ada", 10, 3, "booking(articulated, ?bay, high | by(_, high), _)");
+    depot.enter("Ada", 11, 4, "booking(midi | solo, hall(?slot), by(?hour, !low), _)");
     let first = depot.compile();
     asked.iter().for_each(|b| depot.answer(b));
     depot.adopt(first);
     asked.iter().for_each(|b| depot.answer(b));
 
-    depot.enter("Bo", 20, 7, "booking(_, yard(_), high)");
-    depot.enter("Bo", 20, 7, "booking(!articulated, yard(_), high)");
-    depot.enter("Bo", 21, 8, "booking(?bus, ?bus, _)");
-    depot.enter("Bo", 22, 8, "booking(trolley, _, ?e | ?e)");
-    depot.enter("Bo", 1000, 8, "booking(trolley, _, _)");
-    depot.enter("Bo", 11, 8, "booking(trolley, _, _)");
-    depot.enter("Bo", 23, 9, "booking(trolley, !street, _) & !booking(_, yard(_), high)");
+    depot.enter("Bo", 20, 7, "booking(_, yard(_), high, _)");
+    depot.enter("Bo", 20, 7, "booking(!articulated, yard(_), high, _)");
+    depot.enter("Bo", 21, 8, "booking(?bus, ?bus, _, _)");
+    depot.enter("Bo", 22, 8, "booking(trolley, _, ?e | ?e, _)");
+    depot.enter("Bo", 1000, 8, "booking(trolley, _, _, _)");
+    depot.enter("Bo", 11, 8, "booking(trolley, _, _, _)");
+    depot.enter("Bo", 23, 9, "booking(trolley, !street, _, _) & !booking(_, yard(_), high, _)");
+    // rules on the state of charge: nearly empty, and what is left of the street
+    depot.enter("Cy", 30, 12, "booking(midi | solo, street, !high, 0..20)");
+    depot.enter("Cy", 31, 13, "booking(solo, street, low, 15..60)");
+    depot.enter("Cy", 31, 13, "booking(solo, street, low, ?charge & 21..60)");
+    depot.enter("Cy", 32, 14, "booking(solo, street, low, 100..61)");
     depot.withdraw("Ada", 10);
     depot.withdraw("Ada", 10);
     let second = depot.compile();
@@ -140,9 +146,13 @@ fn main() -> Result<(), Refusal> {
     asked.iter().for_each(|b| depot.answer(b));
     depot.adopt(second);
     asked.iter().for_each(|b| depot.answer(b));
-    depot.answer("booking(solo, yard(three), high)");
-    depot.answer("booking(trolley, hall(four), by(six, by(seven, half)))");
-    depot.answer("booking(trolley, seven, low)");
+    depot.answer("booking(solo, yard(three), high, 100)");
+    depot.answer("booking(trolley, hall(four), by(six, by(seven, half)), 0)");
+    depot.answer("booking(solo, street, low, 20)");
+    depot.answer("booking(solo, street, low, 21)");
+    depot.answer("booking(solo, street, low, 61)");
+    depot.answer("booking(solo, street, low, 101)");
+    depot.answer("booking(trolley, seven, low, 50)");
 
     println!("-- rules in force:");
     for (number, plan, pattern) in depot.table.rules() {

@@ -1,8 +1,13 @@
 //! Readable names for constructors, and rules and bookings written with them.
 //!
-//! A pattern: `booking(midi | solo, !yard(_), ?energy & high)`, where `_` takes everything, `never` nothing, and `?energy`
-//! notes where the part stands. A booking is the same without the signs.
-use bellgantlet::{Refusal, Signature};
+//! A pattern: `booking(midi | solo, !yard(_), ?energy & high, 0..20)`, where `_` takes everything, `never` nothing, `?energy`
+//! notes where the part stands, and `0..20` takes these levels. A booking is the same without the signs, with one level.
+use bellgantlet::{Refusal, Signature, LAST_LEVEL, LEVEL};
+
+/// The second word of a number kind's row.
+const NUMBER: u16 = 5;
+
+const RANGE: u16 = 280;
 
 pub struct Names {
     /// For each kind its constructors: a name and the kinds of the arguments.
@@ -18,7 +23,7 @@ pub struct Written {
 }
 
 impl Names {
-    /// A line for each kind: `bay: hall(slot) yard(slot) street`. The first kind is that of bookings.
+    /// A line for each kind: `bay: hall(slot) yard(slot) street`; of levels `charge: 0..100`. The first kind is that of bookings.
     pub fn new(lines: &[&str]) -> Names {
         let kinds: Vec<&str> = lines.iter().map(|l| l.split(':').next().unwrap().trim()).collect();
         let mut constructors = vec![];
@@ -32,7 +37,7 @@ impl Names {
                     .map(|a| kinds.iter().position(|n| *n == a).expect("a kind"))
                     .collect();
                 words.push(k as u16);
-                words.push(arguments.len() as u16);
+                words.push(if c == "0..100" { NUMBER } else { arguments.len() as u16 });
                 words.extend(arguments.iter().map(|a| *a as u16));
                 constructors.push((name.to_string(), arguments));
             }
@@ -46,17 +51,21 @@ impl Names {
     }
 
     pub fn pattern(&self, text: &str) -> Result<Written, String> {
+        self.written(text, false)
+    }
+
+    pub fn booking(&self, text: &str) -> Result<Vec<u16>, String> {
+        Ok(self.written(text, true)?.words)
+    }
+
+    fn written(&self, text: &str, booking: bool) -> Result<Written, String> {
         let spaced: String = text.chars().map(|c| if "(),|&!?".contains(c) { format!(" {c} ") } else { c.to_string() }).collect();
-        let mut reader = Reader { names: self, tokens: spaced.split_whitespace().collect(), at: 0, variables: vec![] };
+        let mut reader = Reader { names: self, tokens: spaced.split_whitespace().collect(), at: 0, variables: vec![], booking };
         let words = reader.either()?;
         if reader.at < reader.tokens.len() {
             return Err(format!("'{}' is left over", reader.tokens[reader.at]));
         }
         Ok(Written { words, variables: reader.variables })
-    }
-
-    pub fn booking(&self, text: &str) -> Result<Vec<u16>, String> {
-        Ok(self.pattern(text)?.words)
     }
 
     /// The words of a value by names.
@@ -72,6 +81,11 @@ impl Names {
     fn show_from(&self, words: &[u16], at: &mut usize, variables: &[String], within: Within) -> String {
         let w = words[*at];
         *at += 1;
+        if w == RANGE {
+            *at += 2;
+            let (low, high) = (words[*at - 2], words[*at - 1]);
+            return if low == high { low.to_string() } else { format!("{low}..{high}") };
+        }
         let mut part = |within| self.show_from(words, at, variables, within);
         match w {
             256 => {
@@ -85,6 +99,7 @@ impl Names {
             258 => "_".into(),
             259 => "never".into(),
             260 => format!("!{}", part(Within::Not)),
+            LEVEL.. => (w - LEVEL).to_string(),
             261.. => format!("?{}", variables[w as usize - 261]),
             _ => {
                 let (name, arguments) = &self.constructors[w as usize];
@@ -108,6 +123,8 @@ struct Reader<'a> {
     tokens: Vec<&'a str>,
     at: usize,
     variables: Vec<String>,
+    /// In a booking a level stands for itself, in a pattern for the range of it.
+    booking: bool,
 }
 
 impl<'a> Reader<'a> {
@@ -145,7 +162,18 @@ impl<'a> Reader<'a> {
                 if self.next_is(")") { Ok(words) } else { Err("')' is missing".into()) }
             }
             "?" => self.variable(),
+            levels if levels.starts_with(|c: char| c.is_ascii_digit()) => self.levels(levels),
             name => self.constructor(name),
+        }
+    }
+
+    fn levels(&self, text: &str) -> Result<Vec<u16>, String> {
+        let (low, high) = text.split_once("..").unwrap_or((text, text));
+        let level = |t: &str| t.parse::<u16>().map_err(|_| format!("'{text}' is no level and no range"));
+        match (level(low)?, level(high)?) {
+            (n, m) if self.booking && n == m && n <= LAST_LEVEL => Ok(vec![LEVEL + n]),
+            _ if self.booking => Err(format!("'{text}' is no level")),
+            (n, m) => Ok(vec![RANGE, n, m]),
         }
     }
 
@@ -178,8 +206,8 @@ mod tests {
 
     #[test]
     fn shown_as_written() {
-        let names = Names::new(&["all: pair(all,all) left right"]);
-        for text in ["pair(left | right, _)", "!(left | right) & ?x", "(left | right) & !(left & never)", "left & (right & _)", "left | (right | _)"] {
+        let names = Names::new(&["all: pair(all,all) left right of(charge)", "charge: 0..100"]);
+        for text in ["of(!0..20 & 50)", "pair(left | right, _)", "!(left | right) & ?x", "(left | right) & !(left & never)", "left & (right & _)", "left | (right | _)"] {
             let written = names.pattern(text).unwrap();
             let shown = names.show_pattern(&written.words, &written.variables);
             assert_eq!(shown, text);

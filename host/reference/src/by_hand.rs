@@ -59,6 +59,21 @@ fn parts() -> Vec<Part> {
     of(43, &[1, 0, 1, 0], &[0], 0);
     of(44, &[3, 0, 2, 1, 1, 1, 2, 2, 2, 2, 0], &[0, 1, 2, 2, 1, 2, 2], 0);
     of(45, &[3, 0, 3, 1, 2, 2, 1, 2, 2, 2, 2, 0], &[0, 1, 2, 2, 2, 2], 1);
+    let levels = [4, 0, 2, 1, 2, 1, 0, 1, 0, 2, 5];
+    let bookings = [[0, 1, 1037], [0, 1, 1000], [0, 2, 1100], [0, 1, 1101], [0, 1, 999], [0, 1, 3], [0, 1037, 1037], [0, 1, 1]];
+    for (i, booking) in bookings.iter().enumerate() {
+        of(80 + i, &levels, booking, if i == 0 || i == 2 { 2 } else { 0 });
+    }
+    of(88, &[1, 0, 5], &[1000], 0);
+    of(89, &[1, 0, 5], &[0], 0);
+    of(90, &[1, 0, 5], &[1000, 1000], 0);
+    let rows = [&[3, 0, 1, 1, 1, 5, 1, 0][..], &[3, 0, 1, 1, 1, 0, 1, 5], &[3, 0, 1, 1, 1, 5, 1, 5], &[2, 0, 1, 1, 1, 6], &[2, 0, 1, 1, 1, 5, 0]];
+    for (i, signature) in rows.iter().enumerate() {
+        of(91 + i, signature, &[0, 1000], 0);
+    }
+    of(96, &[3, 0, 2, 1, 2, 1, 5, 2, 5], &[0, 1000, 1001], 2);
+    of(97, &[3, 0, 3, 1, 1, 2, 1, 1, 2, 2, 5], &[0, 1, 1000, 1, 1000, 1000], 0);
+    of(98, &[3, 0, 3, 1, 1, 1, 1, 1, 2, 2, 5], &[0, 1, 1000, 1, 1000, 1, 1000], 0);
     let counted = [(256, 64, 63), (256, 64, 64), (257, 64, 63), (64, 64, 63), (65, 65, 63), (32, 1, 0), (33, 1, 0)];
     for (i, (count, each, word)) in counted.into_iter().enumerate() {
         of(50 + i, &plain(count, each), &[word], 0);
@@ -129,17 +144,35 @@ fn patterns() -> Vec<Vec<u16>> {
     all
 }
 
-/// The lines of `patterns`: 7, 8, 9 or 0, and then each of Case T's bookings. Ambiguity is not asked.
+/// The patterns with levels, as the program has them in its data: of each its count of words, then those.
+fn level_patterns() -> Vec<Vec<u16>> {
+    let text = include_str!("../../../crates/patterns/data/levels.txt");
+    let said = text.lines().map(|l| l.split('#').next().unwrap());
+    let mut words = said.flat_map(|l| l.split_whitespace()).map(|w| w.parse::<u16>().unwrap());
+    let mut all = vec![];
+    while let Some(n) = words.next() {
+        all.push(words.by_ref().take(n as usize).collect());
+    }
+    all
+}
+
+/// The lines of `patterns`: 7, 18, 8, 9 or 0, and then each of the bookings. Ambiguity is not asked.
 pub fn pattern_lines() -> String {
-    let sig = Signature::read(&T).unwrap();
+    let levels = [2, 0, 1, 1, 1, 5];
+    lines(&T, patterns(), [&[0, 1, 5], &[0, 2, 5], &[0, 3, 4]]) + &lines(&levels, level_patterns(), [&[0, 1000], &[0, 1006], &[0, 1100]])
+}
+
+fn lines(signature: &[u16], patterns: Vec<Vec<u16>>, bookings: [&[u16]; 3]) -> String {
+    let sig = Signature::read(signature).unwrap();
     let mut out = String::new();
-    for words in patterns() {
+    for words in patterns {
         let line = match pattern::read(&sig, &words) {
             None => "7".into(),
+            Some(p) if p.wrong_range() => "18".into(),
             Some(p) if !p.linear_plus() => "8".into(),
             Some(p) if p.too_heavy(Side::Plus) => "9".into(),
             Some(p) => {
-                let taken = [[0, 1, 5], [0, 2, 5], [0, 3, 4]].map(|b| match p.fits_with(&sig.read_booking(&b).unwrap(), 0).first() {
+                let taken = bookings.map(|b| match p.fits_with(&sig.read_booking(b).unwrap(), 0).first() {
                     None => " no".into(),
                     Some(bound) => " yes".to_string() + &bound.iter().map(|(x, place)| format!(" {x}:{place}")).collect::<String>(),
                 });

@@ -1,6 +1,7 @@
 //! As much of JSON as the vectors have.
 #[derive(Debug)]
 pub enum Json {
+    Truth(bool),
     Number(usize),
     Text(String),
     List(Vec<Json>),
@@ -31,6 +32,20 @@ impl Json {
     pub fn text(&self) -> &str {
         let Json::Text(t) = self else { panic!("no text") };
         t
+    }
+
+    pub fn truth(&self) -> bool {
+        let Json::Truth(t) = self else { panic!("no truth") };
+        *t
+    }
+
+    /// Words, of which `[w, n]` is n times w.
+    pub fn packed(&self) -> Vec<u16> {
+        let one = |w: &Json| match w {
+            Json::List(l) => vec![l[0].number() as u16; l[1].number()],
+            w => vec![w.number() as u16],
+        };
+        self.list().iter().flat_map(one).collect()
     }
 
     pub fn words(&self) -> Vec<u16> {
@@ -77,6 +92,11 @@ fn one(rest: &mut &[u8]) -> Json {
             let t = String::from_utf8(rest[1..1 + n].to_vec()).unwrap();
             *rest = &rest[n + 2..];
             Json::Text(t)
+        }
+        b't' | b'f' => {
+            let truth = rest[0] == b't';
+            *rest = &rest[if truth { 4 } else { 5 }..];
+            Json::Truth(truth)
         }
         _ => {
             let n = rest.iter().position(|b| !b.is_ascii_digit()).unwrap_or(rest.len());

@@ -1,6 +1,6 @@
 //! The differential test: the library against the reference, by fixed seeds and by the vectors.
 //!
-//!     differential [--vectors FOLDER] [--seed N] [--scale PERCENT]
+//!     differential [--vectors FOLDER] [--records FOLDER] [--seed N] [--scale PERCENT]
 use reference::calls::{sound, TABLE};
 use reference::compare::Compare;
 use reference::json::Json;
@@ -31,6 +31,9 @@ fn work() {
     let mut c = Compare::new();
     if let Some(folder) = option("--vectors") {
         timed(&mut c, "vectors", |c| vectors(c, &folder));
+    }
+    if let Some(folder) = option("--records") {
+        timed(&mut c, "records", |c| records(c, &folder));
     }
     let tests: [(&str, usize, fn(&mut Compare, &mut Random)); 9] = [
         ("signatures", 12000, signatures),
@@ -64,7 +67,7 @@ fn timed(c: &mut Compare, name: &str, f: impl FnOnce(&mut Compare)) {
 fn summary(c: &Compare, scale: usize) {
     let known: [(&str, &[u16]); 7] = [
         ("empty", &[0, 2]),
-        ("enter", &[0, 1, 2, 3, 4, 5, 7, 8, 9, 10, 11, 12]),
+        ("enter", &[0, 1, 2, 3, 4, 5, 7, 8, 9, 10, 11, 12, 18]),
         ("withdraw", &[0, 1, 2, 3, 4, 6]),
         ("compile", &[0, 1, 2, 3, 14]),
         ("decide", &[0, 1, 2, 3, 13]),
@@ -432,7 +435,7 @@ fn trees(c: &mut Compare, r: &mut Random) {
                 for _ in 0..r.between(1, 4) {
                     let i = if r.once_in(2) { r.below(n.min(40)) } else { r.below(n) };
                     t[i] = match r.below(4) {
-                        0 => r.below(4) as u16,
+                        0 => r.below(5) as u16,
                         1 => t[i].wrapping_add(1),
                         2 => r.below(n + 2) as u16,
                         _ => odd_word(r),
@@ -441,7 +444,7 @@ fn trees(c: &mut Compare, r: &mut Random) {
             }
             3 => damage(r, &mut t),
             4 => t.truncate(r.below(n + 1)),
-            _ => t = (0..r.below(30)).map(|_| *r.pick(&[0, 1, 1, 2, 3, 3, 3, 4, 5, 7, 12])).collect(),
+            _ => t = (0..r.below(30)).map(|_| *r.pick(&[0, 1, 1, 2, 3, 3, 3, 4, 4, 5, 7, 12, 100])).collect(),
         }
         let b = asked(r, &sig, &table);
         c.run(&words, &t, &b);
@@ -475,6 +478,29 @@ fn limits(c: &mut Compare, r: &mut Random) {
         let last = tree.len() - 1;
         tree[last] += 1;
         c.run(&sig, &tree, &exact(n));
+    }
+    // a level is one word, one deep; the deepest bookings end in one
+    let levels = [3, 0, 1, 0, 0, 1, 1, 1, 5];
+    for n in 253..259 {
+        let b: Vec<u16> = std::iter::repeat(0).take(n - 2).chain([1, 1037]).collect();
+        c.part(&levels, &b, n - 1);
+        c.run(&levels, &[3, 0], &b);
+    }
+    for level in 998..1103 {
+        c.run(&levels, &[2, 0, 2, 5, 5, 4, 4, 0, 63, 64, 100, 15, 15, 16, 0, 1, 7, 8, 0], &[1, level]);
+        for k in 0..5 {
+            c.run(&levels, &[2, 0, 2, 5, 5, 4, k, 0, 63, 64, 100, 15, 15, 15, 16, 0, 1, 7, 8, 0], &[1, level]);
+        }
+    }
+    for (low, high) in [(0, 100), (0, 0), (100, 100), (63, 64), (64, 63), (0, 101), (101, 101), (65535, 0), (0, 65535), (258, 258)] {
+        for p in [vec![1, 280, low, high], vec![1, 260, 280, low, high], vec![1, 256, 280, low, high, 260, 280, 10, 90]] {
+            let mut table = vec![0; TABLE];
+            c.enter(&levels, 1, 1, &p, &mut table, 4096);
+            let tree = c.compile(&levels, &table, &[0; 600]).unwrap();
+            for level in [1000, 1009, 1010, 1062, 1063, 1064, 1065, 1090, 1091, 1099, 1100] {
+                assert_eq!(c.decide(&levels, &table, &[1, level]), c.run(&levels, &tree, &[1, level]));
+            }
+        }
     }
     for n in 250..260 {
         let b: Vec<u16> = std::iter::repeat(0).take(n - 1).chain([2]).collect();
@@ -662,6 +688,51 @@ fn vector(c: &mut Compare, v: &Json, name: &str) {
     }
     for d in v.get("run").list() {
         check(c.run(&sig, &d.get("tree").words(), &d.get("booking").words()), d, name);
+    }
+}
+
+/// Single calls with what must come out: a file has a list of them. In a slice `[w, n]` stands for n times w.
+fn records(c: &mut Compare, folder: &str) {
+    let mut files: Vec<_> = std::fs::read_dir(folder).unwrap().map(|f| f.unwrap().path()).collect();
+    files.sort();
+    for f in files {
+        let all = Json::read(&std::fs::read_to_string(&f).unwrap());
+        all.get("records").list().iter().for_each(|r| record(c, r));
+    }
+}
+
+fn record(c: &mut Compare, r: &Json) {
+    let (given, out) = (r.get("in"), r.get("out"));
+    let words = |key: &str| given.get(key).packed();
+    let sig = words("sig");
+    let number = |got: u16| assert_eq!(got as usize, out.get("number").number(), "{r:?}");
+    let after = |key: &str, before: Vec<u16>| if let Json::Text(_) = out.get(key) { before } else { out.get(key).packed() };
+    let answer = |a: reference::calls::Answer| {
+        let expected = ["number", "rule", "plan"].map(|k| out.get(k).number() as u16);
+        assert_eq!(([a.0, a.1, a.2], a.3.to_vec()), (expected, out.get("places").packed()), "{r:?}");
+    };
+    match r.get("call").text() {
+        "sig_lawful" => assert_eq!(c.part(&sig, &[], 0) != 1, out.get("lawful").truth(), "{r:?}"),
+        "booking_number" => number(c.part(&sig, &words("booking"), 0)),
+        "part" => number(c.part(&sig, &words("booking"), given.get("place").number())),
+        "pattern_number" => number(c.enter(&sig, 1, 1, &words("pattern"), &mut vec![0; TABLE], 4096)),
+        "enter" => {
+            let mut table = words("table");
+            let expected = after("table", table.clone());
+            let n = ["rule", "plan"].map(|k| given.get(k).number() as u16);
+            number(c.enter(&sig, n[0], n[1], &words("pattern"), &mut table, words("witness").len()));
+            assert_eq!(table, expected, "{r:?}");
+        }
+        "decide" => answer(c.decide(&sig, &words("table"), &words("booking"))),
+        "run" => answer(c.run(&sig, &words("tree"), &words("booking"))),
+        "compile" => {
+            let space = words("space");
+            match c.compile(&sig, &words("table"), &space) {
+                Ok(tree) => assert_eq!((tree.len(), &tree[..]), (out.get("length").number(), &after("space", space)[..tree.len()]), "{r:?}"),
+                Err(n) => number(n),
+            }
+        }
+        call => panic!("no call {call}"),
     }
 }
 

@@ -1,4 +1,4 @@
-//! 01, Patterns: reading, "fits" and "fails", linearity, weight, ambiguity.
+//! 01, Patterns, and 02, job 1, ranges: reading, "fits" and "fails", linearity, weight, ambiguity.
 use crate::rows::{rows_of, some_meet_at, Side};
 use crate::signature::{Signature, Value};
 use std::collections::BTreeSet;
@@ -12,6 +12,8 @@ pub enum Pattern {
     Absurd,
     Not(Box<Pattern>),
     Variable(u8),
+    /// Low and high, whatever they are.
+    Range(u16, u16),
 }
 use Pattern::*;
 
@@ -51,6 +53,11 @@ fn read_part(sig: &Signature, kind: usize, words: &[u16], at: &mut usize) -> Opt
         259 => Some(Absurd),
         260 => Some(Not(Box::new(read_part(sig, kind, words, at)?))),
         261..=276 => Some(Variable((w - 261) as u8)),
+        280 => {
+            let (low, high) = (*words.get(*at)?, *words.get(*at + 1)?);
+            *at += 2;
+            if sig.is_number(kind) { Some(Range(low, high)) } else { None }
+        }
         _ => None,
     }
 }
@@ -80,6 +87,7 @@ impl Pattern {
                 p.put(out);
             }
             Variable(x) => out.push(261 + *x as u16),
+            Range(low, high) => out.extend([280, *low, *high]),
         }
     }
 
@@ -93,6 +101,7 @@ impl Pattern {
             And(a, b) => a.fits(v) && b.fits(v),
             Or(a, b) => a.fits(v) || b.fits(v),
             Head(c, parts) => *c == v.head && parts.iter().zip(&v.arguments).all(|(p, u)| p.fits(u)),
+            Range(low, high) => within(*low, *high, v.head),
         }
     }
 
@@ -104,6 +113,7 @@ impl Pattern {
             And(a, b) => a.fails(v) || b.fails(v),
             Or(a, b) => a.fails(v) && b.fails(v),
             Head(c, parts) => *c != v.head || parts.iter().zip(&v.arguments).any(|(p, u)| p.fails(u)),
+            Range(low, high) => !within(*low, *high, v.head),
         }
     }
 
@@ -115,6 +125,7 @@ impl Pattern {
             Wildcard => Ways::from([Bindings::new()]),
             Absurd => Ways::new(),
             Not(p) => p.fails_with(v, place),
+            Range(..) => if self.fits(v) { Ways::from([Bindings::new()]) } else { Ways::new() },
             And(a, b) => joined(&a.fits_with(v, place), &b.fits_with(v, place)),
             Or(a, b) => a.fits_with(v, place).union(&b.fits_with(v, place)).cloned().collect(),
             Head(c, parts) => {
@@ -137,6 +148,7 @@ impl Pattern {
             Variable(_) | Wildcard => Ways::new(),
             Absurd => Ways::from([Bindings::new()]),
             Not(p) => p.fits_with(v, place),
+            Range(..) => if self.fails(v) { Ways::from([Bindings::new()]) } else { Ways::new() },
             And(a, b) => a.fails_with(v, place).union(&b.fails_with(v, place)).cloned().collect(),
             Or(a, b) => joined(&a.fails_with(v, place), &b.fails_with(v, place)),
             Head(c, parts) => {
@@ -159,7 +171,7 @@ impl Pattern {
     pub fn even(&self) -> BTreeSet<u8> {
         match self {
             Variable(x) => BTreeSet::from([*x]),
-            Wildcard | Absurd => BTreeSet::new(),
+            Wildcard | Absurd | Range(..) => BTreeSet::new(),
             Not(p) => p.odd(),
             And(a, b) | Or(a, b) => &a.even() | &b.even(),
             Head(_, parts) => parts.iter().flat_map(|p| p.even()).collect(),
@@ -168,7 +180,7 @@ impl Pattern {
 
     pub fn odd(&self) -> BTreeSet<u8> {
         match self {
-            Variable(_) | Wildcard | Absurd => BTreeSet::new(),
+            Variable(_) | Wildcard | Absurd | Range(..) => BTreeSet::new(),
             Not(p) => p.even(),
             And(a, b) | Or(a, b) => &a.odd() | &b.odd(),
             Head(_, parts) => parts.iter().flat_map(|p| p.odd()).collect(),
@@ -177,7 +189,7 @@ impl Pattern {
 
     pub fn linear_plus(&self) -> bool {
         match self {
-            Variable(_) | Wildcard | Absurd => true,
+            Variable(_) | Wildcard | Absurd | Range(..) => true,
             Not(p) => p.linear_minus(),
             And(a, b) => a.linear_plus() && b.linear_plus() && a.even().is_disjoint(&b.even()),
             Or(a, b) => a.linear_plus() && b.linear_plus() && a.even() == b.even(),
@@ -190,7 +202,7 @@ impl Pattern {
 
     pub fn linear_minus(&self) -> bool {
         match self {
-            Variable(_) | Wildcard | Absurd => true,
+            Variable(_) | Wildcard | Absurd | Range(..) => true,
             Not(p) => p.linear_plus(),
             And(a, b) => a.linear_minus() && b.linear_minus() && a.odd() == b.odd(),
             Or(a, b) => a.linear_minus() && b.linear_minus() && a.odd().is_disjoint(&b.odd()),
@@ -202,7 +214,7 @@ impl Pattern {
 
     pub fn weight(&self, side: Side) -> u128 {
         match (self, side) {
-            (Variable(_) | Wildcard, Side::Plus) | (Absurd, Side::Minus) => 1,
+            (Variable(_) | Wildcard, Side::Plus) | (Absurd, Side::Minus) | (Range(..), _) => 1,
             (Variable(_) | Wildcard, Side::Minus) | (Absurd, Side::Plus) => 0,
             (Not(p), s) => p.weight(s.other()),
             (And(a, b), Side::Plus) | (Or(a, b), Side::Minus) => a.weight(side) * b.weight(side),
@@ -223,9 +235,20 @@ impl Pattern {
             }
     }
 
+    /// Whether some range is wrong, wherever it stands.
+    pub fn wrong_range(&self) -> bool {
+        match self {
+            Range(low, high) => low > high || *high > 100,
+            Not(p) => p.wrong_range(),
+            And(a, b) | Or(a, b) => a.wrong_range() || b.wrong_range(),
+            Head(_, parts) => parts.iter().any(Pattern::wrong_range),
+            Variable(_) | Wildcard | Absurd => false,
+        }
+    }
+
     pub fn ambiguous(&self, sig: &Signature, kind: usize, side: Side) -> bool {
         match self {
-            Variable(_) | Wildcard | Absurd => false,
+            Variable(_) | Wildcard | Absurd | Range(..) => false,
             Not(p) => p.ambiguous(sig, kind, side.other()),
             Head(c, parts) => parts.iter().zip(sig.arguments(*c)).any(|(p, k)| p.ambiguous(sig, *k, side)),
             And(a, b) | Or(a, b) => {
@@ -242,13 +265,21 @@ impl Pattern {
     }
 }
 
+/// Whether a level's word lies from low to high.
+fn within(low: u16, high: u16, word: u16) -> bool {
+    (low as u32..=high as u32).contains(&(word as u32 - 1000))
+}
+
 fn joined(a: &Ways, b: &Ways) -> Ways {
     a.iter().flat_map(|x| b.iter().map(move |y| x | y)).collect()
 }
 
-/// The first of 7 to 10 that applies, or the pattern.
+/// The first of 7, 18 and 8 to 10 that applies, or the pattern.
 pub fn admitted(sig: &Signature, words: &[u16]) -> Result<Pattern, u16> {
     let p = read(sig, words).ok_or(7u16)?;
+    if p.wrong_range() {
+        return Err(18);
+    }
     if !p.linear_plus() {
         return Err(8);
     }

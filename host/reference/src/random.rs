@@ -62,6 +62,11 @@ fn shape(r: &mut Random, size: Size) -> Vec<u16> {
     let wide = if size != Size::Small && r.once_in(4) { r.below(kinds) } else { usize::MAX };
     let mut constructors = vec![];
     for k in 0..kinds {
+        // a number kind, also kind 0 now and then
+        if r.once_in(if k == 0 { 40 } else { 4 }) {
+            constructors.push((k as u16, None));
+            continue;
+        }
         let n = if k == wide { *r.pick(&[17, 63, 64]) } else { r.between(1, heads) };
         let plain = if r.once_in(5) { usize::MAX } else { r.below(n) };
         for i in 0..n {
@@ -69,14 +74,14 @@ fn shape(r: &mut Random, size: Size) -> Vec<u16> {
             let up = r.once_in(2);
             let args: Vec<u16> =
                 (0..m).map(|_| if up && k + 1 < kinds { r.between(k + 1, kinds - 1) } else { r.below(kinds) } as u16).collect();
-            constructors.push((k as u16, args));
+            constructors.push((k as u16, Some(args)));
         }
     }
     let mut words = vec![constructors.len() as u16];
     for (k, args) in constructors {
         words.push(k);
-        words.push(args.len() as u16);
-        words.extend(args);
+        words.push(args.as_ref().map_or(5, |a| a.len() as u16));
+        words.extend(args.unwrap_or_default());
     }
     words
 }
@@ -114,8 +119,11 @@ pub fn damage(r: &mut Random, words: &mut Vec<u16>) {
 pub fn odd_word(r: &mut Random) -> u16 {
     match r.below(4) {
         0 => r.below(8) as u16,
-        1 => *r.pick(&[31, 32, 63, 64, 65, 255, 256, 257, 258, 259, 260, 261, 276, 277, 280, 999, 1000, 4096, 65535]),
-        2 => r.below(300) as u16,
+        1 => *r.pick(&[31, 32, 63, 64, 65, 255, 256, 257, 258, 259, 260, 261, 276, 277, 279, 280, 281, 999, 1000, 1037, 1100, 1101, 4096, 65535]),
+        2 => {
+            let most = if r.once_in(3) { 102 } else { 300 };
+            r.below(most) as u16
+        }
         _ => r.next() as u16,
     }
 }
@@ -175,7 +183,10 @@ pub fn pattern(r: &mut Random, sig: &Signature, kind: usize, side: Side, words: 
             let mut a = pattern(r, sig, kind, side, n, variables);
             let mut b = pattern(r, sig, kind, side, words - 1 - n, variables);
             let heads: Vec<u16> = sig.heads(kind).collect();
-            if heads.len() > 1 && !variables.is_empty() && !r.once_in(4) {
+            if sig.is_number(kind) && !variables.is_empty() && !r.once_in(4) {
+                let cut = r.between(0, 99) as u16;
+                (a, b) = (bound(Range(0, cut), side, variables), bound(Range(cut + 1, 100), side, variables));
+            } else if heads.len() > 1 && !variables.is_empty() && !r.once_in(4) {
                 let i = r.below(heads.len());
                 let j = (i + 1 + r.below(heads.len() - 1)) % heads.len();
                 a = under(r, sig, heads[i], side, n, variables);
@@ -184,12 +195,30 @@ pub fn pattern(r: &mut Random, sig: &Signature, kind: usize, side: Side, words: 
             both(a, b, !plus)
         }
         _ if !plus && !variables.is_empty() => Not(Box::new(pattern(r, sig, kind, Side::Plus, words - 1, variables))),
+        _ if sig.is_number(kind) => bound(range(r), side, variables),
         _ => {
             let heads: Vec<u16> = sig.heads(kind).collect();
             let head = *r.pick(&heads);
             constructor(r, sig, head, side, words, variables)
         }
     }
+}
+
+/// A range, wrong now and then, narrow and wide ones, and those that meet others at an end.
+fn range(r: &mut Random) -> Pattern {
+    let edges = [0u16, 0, 9, 10, 50, 63, 64, 65, 99, 100, 100];
+    let (a, b) = (*r.pick(&edges), if r.once_in(3) { r.below(101) as u16 } else { *r.pick(&edges) });
+    match r.below(60) {
+        0 => Pattern::Range(b.max(1), b.max(1) - 1),
+        1 => Pattern::Range(a.min(b), *r.pick(&[101, 258, 65535])),
+        _ => Pattern::Range(a.min(b), a.max(b)),
+    }
+}
+
+/// That pattern, which binds nothing, with the variables beside it.
+fn bound(p: Pattern, side: Side, variables: &[u8]) -> Pattern {
+    let p = variables.iter().fold(p, |p, x| Pattern::And(Box::new(Pattern::Variable(*x)), Box::new(p)));
+    if side == Side::Plus || variables.is_empty() { p } else { Pattern::Not(Box::new(p)) }
 }
 
 /// That head with the variables bound somewhere.
@@ -223,8 +252,12 @@ fn constructor(r: &mut Random, sig: &Signature, head: u16, side: Side, words: us
 fn leaf(r: &mut Random, sig: &Signature, kind: usize, side: Side, variables: &[u8]) -> Pattern {
     use Pattern::*;
     let plus = side == Side::Plus;
+    if variables.is_empty() && sig.is_number(kind) && !r.once_in(3) {
+        let p = range(r);
+        return if r.once_in(3) { Not(Box::new(p)) } else { p };
+    }
     if variables.is_empty() {
-        let heads: Vec<u16> = sig.heads(kind).filter(|c| sig.arguments(*c).is_empty()).collect();
+        let heads: Vec<u16> = sig.heads(kind).filter(|c| *c < 256 && sig.arguments(*c).is_empty()).collect();
         return match r.below(12) {
             0..=3 if !heads.is_empty() => Head(*r.pick(&heads), vec![]),
             4 if !heads.is_empty() => Not(Box::new(Head(*r.pick(&heads), vec![]))),

@@ -1,6 +1,6 @@
-//! 01, Rows: nots pushed inward, products multiplied out.
+//! 01, Rows, with levels as heads (02, job 1): nots pushed inward, products multiplied out.
 use crate::pattern::Pattern;
-use crate::signature::{Signature, Value};
+use crate::signature::{Signature, Value, LEVELS};
 use std::collections::BTreeSet;
 
 #[derive(Clone, Copy, PartialEq)]
@@ -15,10 +15,11 @@ impl Side {
     }
 }
 
-/// A pattern without not, but with "any other head than this".
+/// A pattern without not, but with "any other head than this" and "the levels in this range", or "not in it".
 enum Pushed {
     Head(u16, Vec<Pushed>),
     OtherHead(u16),
+    Levels(u16, u16, Side),
     And(Box<Pushed>, Box<Pushed>),
     Or(Box<Pushed>, Box<Pushed>),
     Wildcard,
@@ -41,6 +42,7 @@ fn push(p: &Pattern, side: Side) -> Pushed {
             let (a, b) = both(a, b);
             Pushed::Or(a, b)
         }
+        (Pattern::Range(low, high), side) => Pushed::Levels(*low, *high, side),
         (Pattern::Head(c, parts), Side::Plus) => Pushed::Head(*c, parts.iter().map(|q| push(q, side)).collect()),
         (Pattern::Head(c, parts), Side::Minus) => {
             let mut sum = Pushed::OtherHead(*c);
@@ -124,17 +126,23 @@ pub fn meet(sig: &Signature, kind: usize, a: &Row, b: &Row) -> bool {
     }
 }
 
+/// The row that excludes these heads, if one is left.
+fn excluding(sig: &Signature, kind: usize, out: BTreeSet<u16>) -> Vec<Row> {
+    if covers(sig, kind, &out) {
+        return vec![];
+    }
+    vec![Row { test: Test::Excluded(out), ..Row::open() }]
+}
+
 fn multiply(sig: &Signature, p: &Pushed, kind: usize) -> Vec<Row> {
     match p {
         Pushed::Wildcard => vec![Row::open()],
         Pushed::Absurd => vec![],
         Pushed::Variable(x) => vec![Row { variables: BTreeSet::from([*x]), ..Row::open() }],
-        Pushed::OtherHead(c) => {
-            let out = BTreeSet::from([*c]);
-            if covers(sig, kind, &out) {
-                return vec![];
-            }
-            vec![Row { test: Test::Excluded(out), ..Row::open() }]
+        Pushed::OtherHead(c) => excluding(sig, kind, BTreeSet::from([*c])),
+        Pushed::Levels(low, high, side) => {
+            let inside = |level: u16| *low <= level && level <= *high;
+            excluding(sig, kind, LEVELS.filter(|w| inside(w - 1000) == (*side == Side::Minus)).collect())
         }
         Pushed::Or(a, b) => {
             let mut rows = multiply(sig, a, kind);

@@ -1,8 +1,14 @@
-//! 01, Signature and Bookings.
+//! 01, Signature and Bookings; 02, job 1: number kinds and levels.
+use std::ops::RangeInclusive;
+
+/// The words of the levels 0 to 100.
+pub const LEVELS: RangeInclusive<u16> = 1000..=1100;
 
 pub struct Constructor {
     pub kind: usize,
     pub arguments: Vec<usize>,
+    /// Whether the row declares a number kind.
+    pub number: bool,
 }
 
 pub struct Signature {
@@ -31,14 +37,15 @@ impl Signature {
             let count = rest.next()?;
             let before = if i == 0 { 0 } else { constructors[i - 1].kind };
             let steps = kind == before || (i > 0 && kind == before + 1);
-            if !steps || count > 4 {
+            if !steps || count > 5 {
                 return None;
             }
+            let number = count == 5;
             let mut arguments = vec![];
-            for _ in 0..count {
+            for _ in 0..if number { 0 } else { count } {
                 arguments.push(rest.next()?);
             }
-            constructors.push(Constructor { kind, arguments });
+            constructors.push(Constructor { kind, arguments, number });
         }
         if rest.next().is_some() {
             return None;
@@ -48,7 +55,8 @@ impl Signature {
             return None;
         }
         for k in 0..kinds {
-            if constructors.iter().filter(|c| c.kind == k).count() > 64 {
+            let rows: Vec<&Constructor> = constructors.iter().filter(|c| c.kind == k).collect();
+            if rows.len() > 64 || (rows.len() > 1 && rows.iter().any(|c| c.number)) {
                 return None;
             }
         }
@@ -62,16 +70,26 @@ impl Signature {
         Some(Signature { constructors, kinds, least })
     }
 
-    pub fn heads(&self, kind: usize) -> impl Iterator<Item = u16> + '_ {
-        (0..self.constructors.len() as u16).filter(move |c| self.constructors[*c as usize].kind == kind)
+    pub fn is_number(&self, kind: usize) -> bool {
+        self.constructors.iter().any(|c| c.kind == kind && c.number)
+    }
+
+    /// Its constructors, or the levels.
+    pub fn heads(&self, kind: usize) -> RangeInclusive<u16> {
+        if self.is_number(kind) {
+            return LEVELS;
+        }
+        let first = self.constructors.iter().position(|c| c.kind == kind).unwrap() as u16;
+        let last = self.constructors.iter().rposition(|c| c.kind == kind).unwrap() as u16;
+        first..=last
     }
 
     pub fn arguments(&self, head: u16) -> &[usize] {
-        &self.constructors[head as usize].arguments
+        self.constructors.get(head as usize).map_or(&[], |c| &c.arguments)
     }
 
     pub fn has(&self, head: u16, kind: usize) -> bool {
-        (head as usize) < self.constructors.len() && self.constructors[head as usize].kind == kind
+        self.heads(kind).contains(&head)
     }
 
     pub fn least_value(&self, kind: usize) -> Value {
@@ -120,7 +138,7 @@ fn least_values(constructors: &[Constructor], kinds: usize) -> Option<Vec<(u16, 
             }
             if let Some(s) = size {
                 if least[con.kind].map_or(true, |(_, t)| s < t) {
-                    least[con.kind] = Some((c as u16, s));
+                    least[con.kind] = Some((if con.number { *LEVELS.start() } else { c as u16 }, s));
                     changed = true;
                 }
             }

@@ -1,12 +1,14 @@
-//! 01, Tree: the tree of rows by its four rules, its words, and a run over them.
+//! 01, Tree, and 02, job 1, node 4: the tree of rows by its rules, its words, and a run over them.
 use crate::rows::{Row, Test};
-use crate::signature::{Signature, Value};
+use crate::signature::{Signature, Value, LEVELS};
 
 pub enum Tree {
     Default,
     Hit { rule: u16, plan: u16, binds: Vec<(u8, usize)> },
     Branch { first: u16, children: Vec<Tree> },
     Skip(Box<Tree>),
+    /// The upper ends of the levels that each child is for.
+    Split { ends: Vec<u16>, children: Vec<Tree> },
 }
 
 /// A row on its way down: the columns still to take, the first one last; none is a column that the row leaves open.
@@ -55,8 +57,9 @@ fn node(sig: &Signature, mut lines: Vec<Line>, mut kinds: Vec<usize>, visit: usi
         spend(left, 1)?;
         return Some(Tree::Skip(Box::new(node(sig, lines, kinds, visit + 1, left)?)));
     }
-    let heads: Vec<u16> = sig.heads(kind).collect();
-    spend(left, 3 + heads.len())?;
+    let number = sig.is_number(kind);
+    let heads: Vec<u16> = if number { ends_of(&firsts) } else { sig.heads(kind).collect() };
+    spend(left, if number { 2 + 2 * heads.len() } else { 3 + heads.len() })?;
     let mut children = vec![];
     for c in &heads {
         let arguments = sig.arguments(*c);
@@ -70,7 +73,17 @@ fn node(sig: &Signature, mut lines: Vec<Line>, mut kinds: Vec<usize>, visit: usi
         deeper.extend(arguments.iter().rev());
         children.push(node(sig, kept, deeper, visit + 1, left)?);
     }
-    Some(Tree::Branch { first: heads[0], children })
+    Some(match number {
+        true => Tree::Split { ends: heads.iter().map(|w| w - LEVELS.start()).collect(), children },
+        false => Tree::Branch { first: heads[0], children },
+    })
+}
+
+/// The words of the levels 100 and each v where some row holds just one of v and v + 1.
+fn ends_of(firsts: &[Option<&Row>]) -> Vec<u16> {
+    let holds = |row: &Row, w: u16| matches!(&row.test, Test::Excluded(out) if !out.contains(&w));
+    let edge = |w: u16| firsts.iter().flatten().any(|row| holds(row, w) != holds(row, w + 1));
+    LEVELS.filter(|w| w == LEVELS.end() || edge(*w)).collect()
 }
 
 /// The line under a constructor of its first column, if it allows that one.
@@ -130,6 +143,16 @@ impl Tree {
                 out.push(3);
                 child.put(out);
             }
+            Tree::Split { ends, children } => {
+                out.extend([4, ends.len() as u16]);
+                out.extend(ends);
+                let links = out.len();
+                out.extend(std::iter::repeat(0).take(children.len()));
+                for (i, child) in children.iter().enumerate() {
+                    out[links + i] = out.len() as u16;
+                    child.put(out);
+                }
+            }
         }
     }
 }
@@ -167,7 +190,8 @@ pub fn run(sig: &Signature, tree: &[u16], booking: &Value) -> Option<Found> {
             }
             2 => {
                 let (part, place) = parts.pop()?;
-                let kind = sig.constructors[part.head as usize].kind;
+                // a level is no constructor: broken
+                let kind = sig.constructors.get(part.head as usize)?.kind;
                 let heads: Vec<u16> = sig.heads(kind).collect();
                 if word(at + 1)? != heads[0] as usize || word(at + 2)? != heads.len() {
                     return None;
@@ -190,6 +214,22 @@ pub fn run(sig: &Signature, tree: &[u16], booking: &Value) -> Option<Found> {
                 let (_, place) = parts.pop()?;
                 visits.push(place);
                 at += 1;
+            }
+            4 => {
+                let (part, place) = parts.pop()?;
+                let n = word(at + 1)?;
+                let ends: Vec<usize> = (0..n).map(|i| word(at + 2 + i)).collect::<Option<_>>()?;
+                let rise = ends.windows(2).all(|w| w[0] < w[1]) && ends.last() == Some(&100);
+                if !rise || !LEVELS.contains(&part.head) {
+                    return None;
+                }
+                let level = (part.head - LEVELS.start()) as usize;
+                let link = word(at + 2 + n + ends.iter().position(|e| *e >= level)?)?;
+                if link <= at {
+                    return None;
+                }
+                visits.push(place);
+                at = link;
             }
             _ => return None,
         }

@@ -1,5 +1,5 @@
--- `leaf::one_pair` meets its contract. Assumes nothing.
-use mathlib.Core.Path.{_≡_, sym, _∙_}
+-- `one_pair` meets its contract: each return is one case of the pair.
+use mathlib.Core.Path.{sym, _∙_}
 use native.Mathlib.Omega.{arith}
 use lib.ListN.{length-set}
 use borrow.Author.Needs.{needs}
@@ -11,27 +11,21 @@ pub one-pair-spec : {M : Type 1} → statement M
 one-pair-spec =
     tie.close
     (tie.spec
-    (λ c κs. c .before .before .before .before .pre .0 .long)
+    (λ c κs. search needs)
+    (λ c κs. search needs)
     (λ c. search needs)
-    (λ c. omega (arith, c .before .before .before .before .before .pre .0 .small))
-    (λ c. omega (arith, c .before .before .before .before .before .pre .0 .small, c .before .before .before .before .before .pre .0 .cells, c .start-of .ensures))
-    (λ c. omega (arith, c .before .before .before .before .before .pre .0 .small, c .before .before .before .before .before .pre .0 .cells, c .start-of .ensures))
-    (λ c. omega (arith, c .before .before .before .before .before .pre .0 .small, c .before .before .before .before .before .pre .0 .cells, c .start-of .ensures))
-    (λ c. omega (arith, c .before .before .before .before .before .before .pre .0 .small, c .before .before .before .before .before .before .pre .0 .cells, c .before .start-of .ensures))
-    (λ c κs. omega arith)
-    (λ c. omega arith)
     (λ c. search needs)
-    (λ c. pair-full (c .before .before .before .before .before .before .before .before .before .args .a .now) (c .before .before .before .before .before .before .before .before .before .args .rows .now) (c .before .before .before .before .before .before .before .before .before .args .vis .now) (c .before .before .before .before .before .before .before .before .before .args .r) (c .before .before .before .before .before .before .before .before .before .args .x) (c .before .before .before .before .before .before .before .before .before .args .p) (c .before .before .before .before .start-of .result) (c .before .before .before .before .start-of .ensures) _ _ (sym (c .before .before .has .ensures) ∙ c .before .if1 .taken) (omega (arith, c .if2 .taken)))
-    (λ c. omega (arith, c .if2 .left))
-    (λ c. omega (arith, c .if2 .left))
-    (λ c. omega (arith, c .before .before .before .before .before .before .before .before .before .pre .0 .visits))
-    (λ c. omega (arith, c .before .before .before .before .before .before .before .before .before .pre .0 .visits, c .before .before .before .before .before .before .before .before .before .pre .0 .small))
-    (λ c. omega (arith, c .before .before .before .before .before .before .before .before .before .pre .0 .visits, c .before .before .before .before .before .before .before .before .before .pre .0 .small))
-    (λ c. omega (arith, c .before .before .before .before .before .before .before .before .before .before .pre .0 .visits, c .before .before .before .before .before .before .before .before .before .before .pre .0 .small))
-    (λ c. omega (arith, c .before .if2 .left))
-    (λ c. omega (arith, c .before .if2 .left))
-    (λ c. simp length-set (omega (arith, c .before .if2 .left)))
-    (λ c. omega (arith, c .before .if2 .left))
+    (λ c. pair-full (c .before .before .before .before .before .before .before .before .args .a .now) (c .before .before .before .before .before .before .before .before .args .rows .now) (c .before .before .before .before .before .before .before .before .args .vis .now) (c .before .before .before .before .before .before .before .before .args .r) (c .before .before .before .before .before .before .before .before .args .x) (c .before .before .before .before .before .before .before .before .args .p) (c .before .before .before .cell-of .result) (c .before .before .before .cell-of .ensures) (c .before .before .before .before .before .before .before .before .args .at) (c .before .before .before .before .before .before .before .before .args .out .now) (sym (c .before .before .has .ensures) ∙ c .before .if1 .taken) (omega (arith, c .if2 .taken)))
     (λ c. search needs)
-    (λ c. pair-wrote (c .before .before .before .before .before .before .before .before .before .before .args .a .now) (c .before .before .before .before .before .before .before .before .before .before .args .rows .now) (c .before .before .before .before .before .before .before .before .before .before .args .vis .now) (c .before .before .before .before .before .before .before .before .before .before .args .r) (c .before .before .before .before .before .before .before .before .before .before .args .x) (c .before .before .before .before .before .before .before .before .before .before .args .p) (c .before .before .before .before .before .start-of .result) (c .before .before .before .before .before .start-of .ensures) _ _ (sym (c .before .before .before .has .ensures) ∙ c .before .before .if1 .taken) (omega (arith, c .before .if2 .left)))
-    (λ c. pair-none (c .before .before .before .before .before .before .before .before .args .a .now) (c .before .before .before .before .before .before .before .before .args .rows .now) (c .before .before .before .before .before .before .before .before .args .vis .now) (c .before .before .before .before .before .before .before .before .args .r) (c .before .before .before .before .before .before .before .before .args .x) (c .before .before .before .before .before .before .before .before .args .p) (c .before .before .before .start-of .result) (c .before .before .before .start-of .ensures) _ _ (sym (c .before .has .ensures) ∙ c .if1 .left) (c .before .before .before .before .before .before .before .before .pre .2)))
+    (λ c. search needs)
+    (λ c. search needs)
+    (λ c. search needs)
+    (λ c. search needs)
+    (λ c. search needs)
+    (λ c. search needs)
+    (λ c. search needs)
+    (λ c. simp length-set (omega arith))
+    (λ c. search needs)
+    (λ c. search needs)
+    (λ c. pair-wrote (c .before .before .before .before .before .before .before .before .before .args .a .now) (c .before .before .before .before .before .before .before .before .before .args .rows .now) (c .before .before .before .before .before .before .before .before .before .args .vis .now) (c .before .before .before .before .before .before .before .before .before .args .r) (c .before .before .before .before .before .before .before .before .before .args .x) (c .before .before .before .before .before .before .before .before .before .args .p) (c .before .before .before .before .cell-of .result) (c .before .before .before .before .cell-of .ensures) (c .before .before .before .before .before .before .before .before .before .args .at) (c .before .before .before .before .before .before .before .before .before .args .out .now) (sym (c .before .before .before .has .ensures) ∙ c .before .before .if1 .taken) (omega (arith, c .before .if2 .left)))
+    (λ c. pair-none (c .before .before .before .before .before .before .before .args .a .now) (c .before .before .before .before .before .before .before .args .rows .now) (c .before .before .before .before .before .before .before .args .vis .now) (c .before .before .before .before .before .before .before .args .r) (c .before .before .before .before .before .before .before .args .x) (c .before .before .before .before .before .before .before .args .p) (c .before .before .cell-of .result) (c .before .before .cell-of .ensures) (c .before .before .before .before .before .before .before .args .at) (c .before .before .before .before .before .before .before .args .out .now) (sym (c .before .has .ensures) ∙ c .if1 .left) (c .before .before .before .before .before .before .before .pre .2)))

@@ -7,10 +7,10 @@ use Rattle.patterns.proofs.lines.Statement.{statement}
 use Rattle.patterns.proofs.lines.Tie as tie
 
 abbrev Inv-loop : tie.InvT-loop
-Inv-loop t all w₀ w = length w ≤ length all
+Inv-loop t all first second third w₀ w = length w ≤ length all
 
 abbrev μ-loop : tie.MeasureT-loop
-μ-loop t all w₀ w = length w
+μ-loop t all first second third w₀ w = length w
 
 pub lines-spec : {M : Type 1} → statement M
 lines-spec =
@@ -26,7 +26,7 @@ lines-spec =
     (λ c. omega arith)
     (λ c. omega arith)
     (λ c. omega arith)
-    (λ c κs. c .before .before .before .before .before .before .before .before .pre)
+    (λ c κs. c .before .before .before .before .before .before .before .before .before .before .before .pre)
     (λ c. omega arith)
     (λ c. omega arith)
     (λ c. omega arith)

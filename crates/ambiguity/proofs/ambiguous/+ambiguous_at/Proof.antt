@@ -5,9 +5,10 @@ use native.Mathlib.Omega.{arith}
 use lib.ListN.{length, getD, length-take, length-drop}
 use borrow.Author.Needs.{needs}
 use Rattle.pattern.specs.Word.{form-of}
+use Rattle.pattern.proofs.Opened.{some-own, own-in}
 use Rattle.pattern.proofs.ReadSteps.{small}
 use Rattle.builder.specs.Build.{GivenPart}
-use Rattle.ambiguity.proofs.Turns.{Left, start, part-given, part-le, turn, turn-ambiguous, ends-ambiguous, ends-clear, few-parts, again, twice-so}
+use Rattle.ambiguity.proofs.Turns.{as-opens, Left, start, part-given, part-le, turn, turn-ambiguous, ends-ambiguous, ends-clear, few-parts, again, twice-so}
 use Rattle.ambiguity.proofs.Twice.{some-word}
 use borrow.Fn.Kinds.{In}
 use borrow.Fn.PlainCycle.{Measures, is, falls, and}
@@ -78,7 +79,7 @@ pub +ambiguous-at-spec : {M : Type 1} → statement M
     (λ c κs. tt)
     (λ c κs. tt)
     (λ c κs. tt)
-    (λ c. (omega arith, omega (arith, c .own-words .ensures), rw (c .own-words .ensures) (some-word (c .before .before .before .before .before .before .before .before .before .before .pre .1)), refl, refl, λ g. rw (c .own-words .ensures) (start g (form-of (c .before .before .before .before .classify .result)) (c .before .before .before .before .classify .ensures) (c .before .before .side-behind .result) (c .before .is-variable .result) (c .before .before .before .parts .result) (c .before .before .side-behind .ensures) (c .before .is-variable .ensures) (c .before .before .before .parts .ensures))))
+    (λ c. (omega arith, omega (arith, c .own-words .ensures, some-own (form-of (c .before .before .before .before .classify .result))), rw (c .own-words .ensures) (own-in (as-opens (c .before .before .before .before .before .before .before .before .before .before .pre .1)) (form-of (c .before .before .before .before .classify .result)) (c .before .before .before .before .classify .ensures)), refl, refl, λ g. rw (c .own-words .ensures) (start g (form-of (c .before .before .before .before .classify .result)) (c .before .before .before .before .classify .ensures) (c .before .before .side-behind .result) (c .before .is-variable .result) (c .before .before .before .parts .result) (c .before .before .side-behind .ensures) (c .before .is-variable .ensures) (c .before .before .before .parts .ensures))))
     (λ c κs. (c .before .before .before .before .before .before .before .before .before .before .before .before .pre .1 .known .decoded .long, small (getD (c .before .before .before .before .before .before .before .before .before .before .before .before .args .p .now) 0 0) _ (c .before .before .before .before .before .before .classify .ensures), omega (arith, few-parts (c .before .before .before .before .before .before .before .before .before .before .before .before .pre .1) (form-of (c .before .before .before .before .before .before .classify .result)) (c .before .before .before .before .before .before .classify .ensures), c .before .before .before .before .before .parts .ensures, c .loop-test .taken)))
     (λ c. omega arith)
     (λ c. omega arith)

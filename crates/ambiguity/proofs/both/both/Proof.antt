@@ -1,9 +1,8 @@
 -- `both::both` meets its contract. Assumes nothing.
-use mathlib.Core.Path.{refl, _∙_}
-use Prim.Native.Nat.{_+_}
+use mathlib.Core.Path.{refl}
 use native.Mathlib.Omega.{arith}
+use Rattle.sets.specs.Heads.{number-of}
 use borrow.Author.Needs.{needs}
-use Rattle.cell.proofs.Walk.{back-length}
 use Rattle.ambiguity.proofs.Two.{kind-small, few-of-kind, full-so, first-given, first-bounds, second-given, lists-at, two-lists, answered}
 use Rattle.ambiguity.proofs.both.both.Statement.{statement}
 use Rattle.ambiguity.proofs.both.both.Tie as tie
@@ -16,18 +15,18 @@ both-spec =
     (λ c. search needs)
     (λ c κs. omega (arith, c .count-of .ensures, few-of-kind (c .before .before .before .before .before .pre)))
     (λ c. omega (arith, kind-small (c .before .before .before .before .before .before .pre)))
-    (λ c κs. first-given (c .before .before .before .before .before .before .before .before .pre) (c .before .before .full .result) (full-so (c .before .before .before .before .before .before .before .before .args .t .now) (c .before .before .before .before .before .before .before .before .args .k) (c .before .before .full .result) (c .before .before .before .count-of .result) (c .before .before .before .count-of .ensures) (c .before .before .full .ensures)))
-    (λ c. omega (arith, first-bounds (c .before .before .before .before .before .before .before .before .before .before .before .before .before .before .pre) (c .before .before .before .before .before .before .before .before .full .result) (full-so (c .before .before .before .before .before .before .before .before .before .before .before .before .before .before .args .t .now) (c .before .before .before .before .before .before .before .before .before .before .before .before .before .before .args .k) (c .before .before .before .before .before .before .before .before .full .result) (c .before .before .before .before .before .before .before .before .before .count-of .result) (c .before .before .before .before .before .before .before .before .before .count-of .ensures) (c .before .before .before .before .before .before .before .before .full .ensures)) (c .before .before .before .before .before .rows .result .used) (c .before .before .before .before .before .rows .result .read) (c .before .before .before .before .before .rows .last .1 .1 .1 .1 .1 .0) (c .before .before .before .before .before .rows .ensures) .1, c .before .before .before .before .before .rows .kept .1 .1 .1 .1 .1 .0, c .before .before .before .before .before .before .before .before .before .before .before .before .before .before .good))
-    (λ c. omega (arith, first-bounds (c .before .before .before .before .before .before .before .before .before .before .before .before .before .before .pre) (c .before .before .before .before .before .before .before .before .full .result) (full-so (c .before .before .before .before .before .before .before .before .before .before .before .before .before .before .args .t .now) (c .before .before .before .before .before .before .before .before .before .before .before .before .before .before .args .k) (c .before .before .before .before .before .before .before .before .full .result) (c .before .before .before .before .before .before .before .before .before .count-of .result) (c .before .before .before .before .before .before .before .before .before .count-of .ensures) (c .before .before .before .before .before .before .before .before .full .ensures)) (c .before .before .before .before .before .rows .result .used) (c .before .before .before .before .before .rows .result .read) (c .before .before .before .before .before .rows .last .1 .1 .1 .1 .1 .0) (c .before .before .before .before .before .rows .ensures) .0, c .before .before .before .before .before .before .before .before .before .before .before .before .before .before .good))
-    (λ c. omega (arith, first-bounds (c .before .before .before .before .before .before .before .before .before .before .before .before .before .before .pre) (c .before .before .before .before .before .before .before .before .full .result) (full-so (c .before .before .before .before .before .before .before .before .before .before .before .before .before .before .args .t .now) (c .before .before .before .before .before .before .before .before .before .before .before .before .before .before .args .k) (c .before .before .before .before .before .before .before .before .full .result) (c .before .before .before .before .before .before .before .before .before .count-of .result) (c .before .before .before .before .before .before .before .before .before .count-of .ensures) (c .before .before .before .before .before .before .before .before .full .ensures)) (c .before .before .before .before .before .rows .result .used) (c .before .before .before .before .before .rows .result .read) (c .before .before .before .before .before .rows .last .1 .1 .1 .1 .1 .0) (c .before .before .before .before .before .rows .ensures) .0))
-    (λ c. omega (arith, first-bounds (c .before .before .before .before .before .before .before .before .before .before .before .before .before .before .pre) (c .before .before .before .before .before .before .before .before .full .result) (full-so (c .before .before .before .before .before .before .before .before .before .before .before .before .before .before .args .t .now) (c .before .before .before .before .before .before .before .before .before .before .before .before .before .before .args .k) (c .before .before .before .before .before .before .before .before .full .result) (c .before .before .before .before .before .before .before .before .before .count-of .result) (c .before .before .before .before .before .before .before .before .before .count-of .ensures) (c .before .before .before .before .before .before .before .before .full .ensures)) (c .before .before .before .before .before .rows .result .used) (c .before .before .before .before .before .rows .result .read) (c .before .before .before .before .before .rows .last .1 .1 .1 .1 .1 .0) (c .before .before .before .before .before .rows .ensures) .0))
+    (λ c κs. first-given (c .before .before .before .before .before .before .before .before .pre) (number-of (c .before .before .full .result)) (full-so (c .before .before .before .before .before .before .before .before .args .t .now) (c .before .before .before .before .before .before .before .before .args .k) (number-of (c .before .before .full .result)) (c .before .before .before .count-of .result) (c .before .before .before .count-of .ensures) (c .before .before .full .ensures)))
+    (λ c. omega (arith, first-bounds (c .before .before .before .before .before .before .before .before .before .before .before .before .before .before .pre) (number-of (c .before .before .before .before .before .before .before .before .full .result)) (full-so (c .before .before .before .before .before .before .before .before .before .before .before .before .before .before .args .t .now) (c .before .before .before .before .before .before .before .before .before .before .before .before .before .before .args .k) (number-of (c .before .before .before .before .before .before .before .before .full .result)) (c .before .before .before .before .before .before .before .before .before .count-of .result) (c .before .before .before .before .before .before .before .before .before .count-of .ensures) (c .before .before .before .before .before .before .before .before .full .ensures)) (c .before .before .before .before .before .rows .result .used) (c .before .before .before .before .before .rows .result .read) (c .before .before .before .before .before .rows .last .1 .1 .1 .1 .1 .0) (c .before .before .before .before .before .rows .ensures) .1, c .before .before .before .before .before .rows .kept .1 .1 .1 .1 .1 .0, c .before .before .before .before .before .before .before .before .before .before .before .before .before .before .good))
+    (λ c. omega (arith, first-bounds (c .before .before .before .before .before .before .before .before .before .before .before .before .before .before .pre) (number-of (c .before .before .before .before .before .before .before .before .full .result)) (full-so (c .before .before .before .before .before .before .before .before .before .before .before .before .before .before .args .t .now) (c .before .before .before .before .before .before .before .before .before .before .before .before .before .before .args .k) (number-of (c .before .before .before .before .before .before .before .before .full .result)) (c .before .before .before .before .before .before .before .before .before .count-of .result) (c .before .before .before .before .before .before .before .before .before .count-of .ensures) (c .before .before .before .before .before .before .before .before .full .ensures)) (c .before .before .before .before .before .rows .result .used) (c .before .before .before .before .before .rows .result .read) (c .before .before .before .before .before .rows .last .1 .1 .1 .1 .1 .0) (c .before .before .before .before .before .rows .ensures) .0, c .before .before .before .before .before .before .before .before .before .before .before .before .before .before .good))
+    (λ c. omega (arith, first-bounds (c .before .before .before .before .before .before .before .before .before .before .before .before .before .before .pre) (number-of (c .before .before .before .before .before .before .before .before .full .result)) (full-so (c .before .before .before .before .before .before .before .before .before .before .before .before .before .before .args .t .now) (c .before .before .before .before .before .before .before .before .before .before .before .before .before .before .args .k) (number-of (c .before .before .before .before .before .before .before .before .full .result)) (c .before .before .before .before .before .before .before .before .before .count-of .result) (c .before .before .before .before .before .before .before .before .before .count-of .ensures) (c .before .before .before .before .before .before .before .before .full .ensures)) (c .before .before .before .before .before .rows .result .used) (c .before .before .before .before .before .rows .result .read) (c .before .before .before .before .before .rows .last .1 .1 .1 .1 .1 .0) (c .before .before .before .before .before .rows .ensures) .0))
+    (λ c. omega (arith, first-bounds (c .before .before .before .before .before .before .before .before .before .before .before .before .before .before .pre) (number-of (c .before .before .before .before .before .before .before .before .full .result)) (full-so (c .before .before .before .before .before .before .before .before .before .before .before .before .before .before .args .t .now) (c .before .before .before .before .before .before .before .before .before .before .before .before .before .before .args .k) (number-of (c .before .before .before .before .before .before .before .before .full .result)) (c .before .before .before .before .before .before .before .before .before .count-of .result) (c .before .before .before .before .before .before .before .before .before .count-of .ensures) (c .before .before .before .before .before .before .before .before .full .ensures)) (c .before .before .before .before .before .rows .result .used) (c .before .before .before .before .before .rows .result .read) (c .before .before .before .before .before .rows .last .1 .1 .1 .1 .1 .0) (c .before .before .before .before .before .rows .ensures) .0))
     (λ c. search needs)
-    (λ c. omega (arith, first-bounds (c .before .before .before .before .before .before .before .before .before .before .before .before .before .before .before .pre) (c .before .before .before .before .before .before .before .before .before .full .result) (full-so (c .before .before .before .before .before .before .before .before .before .before .before .before .before .before .before .args .t .now) (c .before .before .before .before .before .before .before .before .before .before .before .before .before .before .before .args .k) (c .before .before .before .before .before .before .before .before .before .full .result) (c .before .before .before .before .before .before .before .before .before .before .count-of .result) (c .before .before .before .before .before .before .before .before .before .before .count-of .ensures) (c .before .before .before .before .before .before .before .before .before .full .ensures)) (c .before .before .before .before .before .before .rows .result .used) (c .before .before .before .before .before .before .rows .result .read) (c .before .before .before .before .before .before .rows .last .1 .1 .1 .1 .1 .0) (c .before .before .before .before .before .before .rows .ensures) .1, c .before .before .before .before .before .before .rows .kept .1 .1 .1 .1 .1 .0, c .before .before .before .before .before .before .before .before .before .before .before .before .before .before .before .good))
-    (λ c. omega (arith, first-bounds (c .before .before .before .before .before .before .before .before .before .before .before .before .before .before .before .pre) (c .before .before .before .before .before .before .before .before .before .full .result) (full-so (c .before .before .before .before .before .before .before .before .before .before .before .before .before .before .before .args .t .now) (c .before .before .before .before .before .before .before .before .before .before .before .before .before .before .before .args .k) (c .before .before .before .before .before .before .before .before .before .full .result) (c .before .before .before .before .before .before .before .before .before .before .count-of .result) (c .before .before .before .before .before .before .before .before .before .before .count-of .ensures) (c .before .before .before .before .before .before .before .before .before .full .ensures)) (c .before .before .before .before .before .before .rows .result .used) (c .before .before .before .before .before .before .rows .result .read) (c .before .before .before .before .before .before .rows .last .1 .1 .1 .1 .1 .0) (c .before .before .before .before .before .before .rows .ensures) .1))
-    (λ c. omega (arith, first-bounds (c .before .before .before .before .before .before .before .before .before .before .before .before .before .before .before .pre) (c .before .before .before .before .before .before .before .before .before .full .result) (full-so (c .before .before .before .before .before .before .before .before .before .before .before .before .before .before .before .args .t .now) (c .before .before .before .before .before .before .before .before .before .before .before .before .before .before .before .args .k) (c .before .before .before .before .before .before .before .before .before .full .result) (c .before .before .before .before .before .before .before .before .before .before .count-of .result) (c .before .before .before .before .before .before .before .before .before .before .count-of .ensures) (c .before .before .before .before .before .before .before .before .before .full .ensures)) (c .before .before .before .before .before .before .rows .result .used) (c .before .before .before .before .before .before .rows .result .read) (c .before .before .before .before .before .before .rows .last .1 .1 .1 .1 .1 .0) (c .before .before .before .before .before .before .rows .ensures) .1))
+    (λ c. omega (arith, first-bounds (c .before .before .before .before .before .before .before .before .before .before .before .before .before .before .before .pre) (number-of (c .before .before .before .before .before .before .before .before .before .full .result)) (full-so (c .before .before .before .before .before .before .before .before .before .before .before .before .before .before .before .args .t .now) (c .before .before .before .before .before .before .before .before .before .before .before .before .before .before .before .args .k) (number-of (c .before .before .before .before .before .before .before .before .before .full .result)) (c .before .before .before .before .before .before .before .before .before .before .count-of .result) (c .before .before .before .before .before .before .before .before .before .before .count-of .ensures) (c .before .before .before .before .before .before .before .before .before .full .ensures)) (c .before .before .before .before .before .before .rows .result .used) (c .before .before .before .before .before .before .rows .result .read) (c .before .before .before .before .before .before .rows .last .1 .1 .1 .1 .1 .0) (c .before .before .before .before .before .before .rows .ensures) .1, c .before .before .before .before .before .before .rows .kept .1 .1 .1 .1 .1 .0, c .before .before .before .before .before .before .before .before .before .before .before .before .before .before .before .good))
+    (λ c. omega (arith, first-bounds (c .before .before .before .before .before .before .before .before .before .before .before .before .before .before .before .pre) (number-of (c .before .before .before .before .before .before .before .before .before .full .result)) (full-so (c .before .before .before .before .before .before .before .before .before .before .before .before .before .before .before .args .t .now) (c .before .before .before .before .before .before .before .before .before .before .before .before .before .before .before .args .k) (number-of (c .before .before .before .before .before .before .before .before .before .full .result)) (c .before .before .before .before .before .before .before .before .before .before .count-of .result) (c .before .before .before .before .before .before .before .before .before .before .count-of .ensures) (c .before .before .before .before .before .before .before .before .before .full .ensures)) (c .before .before .before .before .before .before .rows .result .used) (c .before .before .before .before .before .before .rows .result .read) (c .before .before .before .before .before .before .rows .last .1 .1 .1 .1 .1 .0) (c .before .before .before .before .before .before .rows .ensures) .1))
+    (λ c. omega (arith, first-bounds (c .before .before .before .before .before .before .before .before .before .before .before .before .before .before .before .pre) (number-of (c .before .before .before .before .before .before .before .before .before .full .result)) (full-so (c .before .before .before .before .before .before .before .before .before .before .before .before .before .before .before .args .t .now) (c .before .before .before .before .before .before .before .before .before .before .before .before .before .before .before .args .k) (number-of (c .before .before .before .before .before .before .before .before .before .full .result)) (c .before .before .before .before .before .before .before .before .before .before .count-of .result) (c .before .before .before .before .before .before .before .before .before .before .count-of .ensures) (c .before .before .before .before .before .before .before .before .before .full .ensures)) (c .before .before .before .before .before .before .rows .result .used) (c .before .before .before .before .before .before .rows .result .read) (c .before .before .before .before .before .before .rows .last .1 .1 .1 .1 .1 .0) (c .before .before .before .before .before .before .rows .ensures) .1))
     (λ c. search needs)
-    (λ c κs. second-given (c .before .before .before .before .before .before .before .before .before .before .before .before .before .before .before .before .before .pre) (c .before .before .before .before .before .before .before .before .before .before .before .full .result) (full-so (c .before .before .before .before .before .before .before .before .before .before .before .before .before .before .before .before .before .args .t .now) (c .before .before .before .before .before .before .before .before .before .before .before .before .before .before .before .before .before .args .k) (c .before .before .before .before .before .before .before .before .before .before .before .full .result) (c .before .before .before .before .before .before .before .before .before .before .before .before .count-of .result) (c .before .before .before .before .before .before .before .before .before .before .before .before .count-of .ensures) (c .before .before .before .before .before .before .before .before .before .before .before .full .ensures)) (c .before .before .before .before .before .before .before .before .rows .result .used) (c .before .before .before .before .before .before .before .before .rows .result .read) (c .before .before .before .before .before .before .before .before .rows .last .1 .1 .1 .1 .1 .0) (c .before .before .before .before .before .before .before .before .rows .ensures) _ _ (c .before .before .before .before .before .before .before .before .rows .kept .1 .1 .1 .1 .1 .0) refl (c .before .before .before .before .before .before .before .before .rows .kept .1 .1 .1 .1 .1 .1 .0))
-    (λ c κs. (lists-at (c .before .before .before .before .before .before .before .before .before .before .before .before .before .before .before .before .before .before .before .before .before .before .before .pre) (c .before .before .before .before .before .before .before .before .before .before .before .before .before .before .before .before .before .full .result) (full-so (c .before .before .before .before .before .before .before .before .before .before .before .before .before .before .before .before .before .before .before .before .before .before .before .args .t .now) (c .before .before .before .before .before .before .before .before .before .before .before .before .before .before .before .before .before .before .before .before .before .before .before .args .k) (c .before .before .before .before .before .before .before .before .before .before .before .before .before .before .before .before .before .full .result) (c .before .before .before .before .before .before .before .before .before .before .before .before .before .before .before .before .before .before .count-of .result) (c .before .before .before .before .before .before .before .before .before .before .before .before .before .before .before .before .before .before .count-of .ensures) (c .before .before .before .before .before .before .before .before .before .before .before .before .before .before .before .before .before .full .ensures)) (c .before .before .before .before .before .before .before .before .before .before .before .before .before .before .rows .result .used) (c .before .before .before .before .before .before .before .before .before .before .before .before .before .before .rows .result .read) (c .before .before .before .before .before .before .before .before .before .before .before .before .before .before .rows .last .1 .1 .1 .1 .1 .0) (c .before .before .before .before .before .before .before .before .before .before .before .before .before .before .rows .ensures) _ _ (c .before .before .before .before .before .rows2 .result .used) (c .before .before .before .before .before .rows2 .result .read) (c .before .before .before .before .before .before .before .before .before .before .before .before .before .before .rows .kept .1 .1 .1 .1 .1 .0) refl (c .before .before .before .before .before .before .before .before .before .before .before .before .before .before .rows .kept .1 .1 .1 .1 .1 .1 .0) (c .before .before .before .before .before .rows2 .last .1 .1 .1 .1 .1 .0) (c .before .before .before .before .before .rows2 .ensures), two-lists (c .before .before .before .before .before .before .before .before .before .before .before .before .before .before .before .before .before .before .before .before .before .before .before .pre) (c .before .before .before .before .before .before .before .before .before .before .before .before .before .before .before .before .before .full .result) (full-so (c .before .before .before .before .before .before .before .before .before .before .before .before .before .before .before .before .before .before .before .before .before .before .before .args .t .now) (c .before .before .before .before .before .before .before .before .before .before .before .before .before .before .before .before .before .before .before .before .before .before .before .args .k) (c .before .before .before .before .before .before .before .before .before .before .before .before .before .before .before .before .before .full .result) (c .before .before .before .before .before .before .before .before .before .before .before .before .before .before .before .before .before .before .count-of .result) (c .before .before .before .before .before .before .before .before .before .before .before .before .before .before .before .before .before .before .count-of .ensures) (c .before .before .before .before .before .before .before .before .before .before .before .before .before .before .before .before .before .full .ensures)) (c .before .before .before .before .before .before .before .before .before .before .before .before .before .before .rows .result .used) (c .before .before .before .before .before .before .before .before .before .before .before .before .before .before .rows .result .read) (c .before .before .before .before .before .before .before .before .before .before .before .before .before .before .rows .last .1 .1 .1 .1 .1 .0) (c .before .before .before .before .before .before .before .before .before .before .before .before .before .before .rows .ensures) _ _ (c .before .before .before .before .before .rows2 .result .used) (c .before .before .before .before .before .rows2 .result .read) (c .before .before .before .before .before .before .before .before .before .before .before .before .before .before .rows .kept .1 .1 .1 .1 .1 .0) refl (c .before .before .before .before .before .before .before .before .before .before .before .before .before .before .rows .kept .1 .1 .1 .1 .1 .1 .0) (c .before .before .before .before .before .rows2 .last .1 .1 .1 .1 .1 .0) (c .before .before .before .before .before .rows2 .ensures)))
+    (λ c κs. second-given (c .before .before .before .before .before .before .before .before .before .before .before .before .before .before .before .before .before .pre) (number-of (c .before .before .before .before .before .before .before .before .before .before .before .full .result)) (full-so (c .before .before .before .before .before .before .before .before .before .before .before .before .before .before .before .before .before .args .t .now) (c .before .before .before .before .before .before .before .before .before .before .before .before .before .before .before .before .before .args .k) (number-of (c .before .before .before .before .before .before .before .before .before .before .before .full .result)) (c .before .before .before .before .before .before .before .before .before .before .before .before .count-of .result) (c .before .before .before .before .before .before .before .before .before .before .before .before .count-of .ensures) (c .before .before .before .before .before .before .before .before .before .before .before .full .ensures)) (c .before .before .before .before .before .before .before .before .rows .result .used) (c .before .before .before .before .before .before .before .before .rows .result .read) (c .before .before .before .before .before .before .before .before .rows .last .1 .1 .1 .1 .1 .0) (c .before .before .before .before .before .before .before .before .rows .ensures) _ _ (c .before .before .before .before .before .before .before .before .rows .kept .1 .1 .1 .1 .1 .0) refl (c .before .before .before .before .before .before .before .before .rows .kept .1 .1 .1 .1 .1 .1 .0))
+    (λ c κs. (lists-at (c .before .before .before .before .before .before .before .before .before .before .before .before .before .before .before .before .before .before .before .before .before .before .before .pre) (number-of (c .before .before .before .before .before .before .before .before .before .before .before .before .before .before .before .before .before .full .result)) (full-so (c .before .before .before .before .before .before .before .before .before .before .before .before .before .before .before .before .before .before .before .before .before .before .before .args .t .now) (c .before .before .before .before .before .before .before .before .before .before .before .before .before .before .before .before .before .before .before .before .before .before .before .args .k) (number-of (c .before .before .before .before .before .before .before .before .before .before .before .before .before .before .before .before .before .full .result)) (c .before .before .before .before .before .before .before .before .before .before .before .before .before .before .before .before .before .before .count-of .result) (c .before .before .before .before .before .before .before .before .before .before .before .before .before .before .before .before .before .before .count-of .ensures) (c .before .before .before .before .before .before .before .before .before .before .before .before .before .before .before .before .before .full .ensures)) (c .before .before .before .before .before .before .before .before .before .before .before .before .before .before .rows .result .used) (c .before .before .before .before .before .before .before .before .before .before .before .before .before .before .rows .result .read) (c .before .before .before .before .before .before .before .before .before .before .before .before .before .before .rows .last .1 .1 .1 .1 .1 .0) (c .before .before .before .before .before .before .before .before .before .before .before .before .before .before .rows .ensures) _ _ (c .before .before .before .before .before .rows2 .result .used) (c .before .before .before .before .before .rows2 .result .read) (c .before .before .before .before .before .before .before .before .before .before .before .before .before .before .rows .kept .1 .1 .1 .1 .1 .0) refl (c .before .before .before .before .before .before .before .before .before .before .before .before .before .before .rows .kept .1 .1 .1 .1 .1 .1 .0) (c .before .before .before .before .before .rows2 .last .1 .1 .1 .1 .1 .0) (c .before .before .before .before .before .rows2 .ensures), two-lists (c .before .before .before .before .before .before .before .before .before .before .before .before .before .before .before .before .before .before .before .before .before .before .before .pre) (number-of (c .before .before .before .before .before .before .before .before .before .before .before .before .before .before .before .before .before .full .result)) (full-so (c .before .before .before .before .before .before .before .before .before .before .before .before .before .before .before .before .before .before .before .before .before .before .before .args .t .now) (c .before .before .before .before .before .before .before .before .before .before .before .before .before .before .before .before .before .before .before .before .before .before .before .args .k) (number-of (c .before .before .before .before .before .before .before .before .before .before .before .before .before .before .before .before .before .full .result)) (c .before .before .before .before .before .before .before .before .before .before .before .before .before .before .before .before .before .before .count-of .result) (c .before .before .before .before .before .before .before .before .before .before .before .before .before .before .before .before .before .before .count-of .ensures) (c .before .before .before .before .before .before .before .before .before .before .before .before .before .before .before .before .before .full .ensures)) (c .before .before .before .before .before .before .before .before .before .before .before .before .before .before .rows .result .used) (c .before .before .before .before .before .before .before .before .before .before .before .before .before .before .rows .result .read) (c .before .before .before .before .before .before .before .before .before .before .before .before .before .before .rows .last .1 .1 .1 .1 .1 .0) (c .before .before .before .before .before .before .before .before .before .before .before .before .before .before .rows .ensures) _ _ (c .before .before .before .before .before .rows2 .result .used) (c .before .before .before .before .before .rows2 .result .read) (c .before .before .before .before .before .before .before .before .before .before .before .before .before .before .rows .kept .1 .1 .1 .1 .1 .0) refl (c .before .before .before .before .before .before .before .before .before .before .before .before .before .before .rows .kept .1 .1 .1 .1 .1 .1 .0) (c .before .before .before .before .before .rows2 .last .1 .1 .1 .1 .1 .0) (c .before .before .before .before .before .rows2 .ensures)))
     (λ c. search needs)
     (λ c. search needs)
-    (λ c g. answered g (c .before .before .before .before .before .before .before .before .before .before .before .before .before .before .before .before .before .before .full .result) (full-so (c .before .before .before .before .before .before .before .before .before .before .before .before .before .before .before .before .before .before .before .before .before .before .before .before .args .t .now) (c .before .before .before .before .before .before .before .before .before .before .before .before .before .before .before .before .before .before .before .before .before .before .before .before .args .k) (c .before .before .before .before .before .before .before .before .before .before .before .before .before .before .before .before .before .before .full .result) (c .before .before .before .before .before .before .before .before .before .before .before .before .before .before .before .before .before .before .before .count-of .result) (c .before .before .before .before .before .before .before .before .before .before .before .before .before .before .before .before .before .before .before .count-of .ensures) (c .before .before .before .before .before .before .before .before .before .before .before .before .before .before .before .before .before .before .full .ensures)) (c .before .before .before .before .before .before .before .before .before .before .before .before .before .before .before .rows .result .used) (c .before .before .before .before .before .before .before .before .before .before .before .before .before .before .before .rows .result .read) (c .before .before .before .before .before .before .before .before .before .before .before .before .before .before .before .rows .last .1 .1 .1 .1 .1 .0) (c .before .before .before .before .before .before .before .before .before .before .before .before .before .before .before .rows .ensures) _ _ (c .before .before .before .before .before .before .rows2 .result .used) (c .before .before .before .before .before .before .rows2 .result .read) (c .before .before .before .before .before .before .before .before .before .before .before .before .before .before .before .rows .kept .1 .1 .1 .1 .1 .0) refl (c .before .before .before .before .before .before .before .before .before .before .before .before .before .before .before .rows .kept .1 .1 .1 .1 .1 .1 .0) (c .before .before .before .before .before .before .rows2 .last .1 .1 .1 .1 .1 .0) (c .before .before .before .before .before .before .rows2 .ensures) _ (c .meet-at .ensures)))
+    (λ c g. answered g (number-of (c .before .before .before .before .before .before .before .before .before .before .before .before .before .before .before .before .before .before .full .result)) (full-so (c .before .before .before .before .before .before .before .before .before .before .before .before .before .before .before .before .before .before .before .before .before .before .before .before .args .t .now) (c .before .before .before .before .before .before .before .before .before .before .before .before .before .before .before .before .before .before .before .before .before .before .before .before .args .k) (number-of (c .before .before .before .before .before .before .before .before .before .before .before .before .before .before .before .before .before .before .full .result)) (c .before .before .before .before .before .before .before .before .before .before .before .before .before .before .before .before .before .before .before .count-of .result) (c .before .before .before .before .before .before .before .before .before .before .before .before .before .before .before .before .before .before .before .count-of .ensures) (c .before .before .before .before .before .before .before .before .before .before .before .before .before .before .before .before .before .before .full .ensures)) (c .before .before .before .before .before .before .before .before .before .before .before .before .before .before .before .rows .result .used) (c .before .before .before .before .before .before .before .before .before .before .before .before .before .before .before .rows .result .read) (c .before .before .before .before .before .before .before .before .before .before .before .before .before .before .before .rows .last .1 .1 .1 .1 .1 .0) (c .before .before .before .before .before .before .before .before .before .before .before .before .before .before .before .rows .ensures) _ _ (c .before .before .before .before .before .before .rows2 .result .used) (c .before .before .before .before .before .before .rows2 .result .read) (c .before .before .before .before .before .before .before .before .before .before .before .before .before .before .before .rows .kept .1 .1 .1 .1 .1 .0) refl (c .before .before .before .before .before .before .before .before .before .before .before .before .before .before .before .rows .kept .1 .1 .1 .1 .1 .1 .0) (c .before .before .before .before .before .before .rows2 .last .1 .1 .1 .1 .1 .0) (c .before .before .before .before .before .before .rows2 .ensures) _ (c .meet-at .ensures)))

@@ -6,7 +6,7 @@ use Prim.Native.Nat.{_≤_, _-_}
 use native.Mathlib.Omega.{arith}
 use lib.ListN.{length, drop, getD}
 use borrow.Author.Needs.{needs}
-use Rattle.signature.specs.Decoded.{Known}
+use Rattle.signature.specs.Decoded.{Known, kinds-of}
 use Rattle.signature.specs.Limits.{depth-limit}
 use Rattle.booking.specs.Walk.{due-limit, due-of, Room, walk, walk-word}
 use Rattle.booking.proofs.WalkLaws.{walk-lawful, too-long}
@@ -16,7 +16,7 @@ use Rattle.booking.proofs.walk.lawful.Tie as tie
 
 abbrev Inv-loop : tie.InvT-loop
 Inv-loop t b due₀ at₀ i₀ due at i =
-    (length due ≡ due-limit) × (at ≤ due-limit) × Room (drop at due) × (i ≤ length b) × ((g : Known t) → walk (g .sig) (due-of depth-limit 0 ∷ []) b ≡ walk (g .sig) (drop at due) (drop i b))
+    (length due ≡ due-limit) × (at ≤ due-limit) × Room (kinds-of t) (drop at due) × (i ≤ length b) × ((g : Known t) → walk (g .sig) (due-of depth-limit 0 ∷ []) b ≡ walk (g .sig) (drop at due) (drop i b))
 
 abbrev μ-loop : tie.MeasureT-loop
 μ-loop t b due₀ at₀ i₀ due at i = length b - i
@@ -38,7 +38,7 @@ lawful-spec =
     (λ c. let s = c .before .start in (
       s .kept .0,
       s .ensures .0,
-      room-first _ (s .ensures .1),
+      room-first (c .before .before .before .before .before .before .pre) _ (s .ensures .1),
       omega arith,
       λ g. ap (λ xs. walk (g .sig) xs (c .before .before .before .before .before .before .args .b .now)) (sym (s .ensures .1)),
     ))

@@ -22,14 +22,13 @@ span-spec =
     Inv-loop
     μ-loop
     (λ c s. left-start s)
+    (λ c. omega arith)
     (λ c. let s = left-next (c .before .before .before .before .pre .known) (c .loop-test .taken) (c .before .loop .inv (c .before .before .before .before .pre)) in omega (arith, s .below, s .within, c .before .before .before .before .good))
     (λ c. let s = left-next (c .before .before .before .before .before .pre .known) (c .before .loop-test .taken) (c .before .before .loop .inv (c .before .before .before .before .before .pre)) in omega (arith, s .below, s .within))
-    (λ c. omega (arith, c .shared-slice-known3 .given (c .before .before .loop .at)))
+    (λ c κs. let s = left-next (c .before .before .before .before .before .pre .known) (c .before .loop-test .taken) (c .before .before .loop .inv (c .before .before .before .before .before .pre)) in let g = c .before .before .before .before .before .pre .known in (long g, λ l. omega (arith, s .constructor l, few-constructors g)))
     (λ c. omega arith)
-    (λ c κs. let s = left-next (c .before .before .before .before .before .pre .known) (c .before .loop-test .taken) (c .before .before .loop .inv (c .before .before .before .before .before .pre)) in let g = c .before .before .before .before .before .pre .known in (long g, omega (arith, s .constructor, few-constructors g)))
-    (λ c. omega arith)
-    (λ c. let s = left-next (c .before .before .before .before .before .before .pre .known) (c .before .before .loop-test .taken) (c .before .before .before .loop .inv (c .before .before .before .before .before .before .pre)) in omega (arith, s .few, c .arity-of .ensures, c .before .before .before .before .before .before .good))
+    (λ c. let s = left-next (c .before .before .before .before .before .before .pre .known) (c .before .before .loop-test .taken) (c .before .before .before .loop .inv (c .before .before .before .before .before .before .pre)) in omega (arith, s .few, c .head-arity .ensures, c .before .before .before .before .before .before .good))
     (λ c. let s = left-next (c .before .before .before .before .before .before .pre .known) (c .before .before .loop-test .taken) (c .before .before .before .loop .inv (c .before .before .before .before .before .before .pre)) in omega (arith, s .below, s .within, c .before .before .before .before .before .before .good))
     (λ c. let s = left-next (c .before .before .before .before .before .before .pre .known) (c .before .before .loop-test .taken) (c .before .before .before .loop .inv (c .before .before .before .before .before .before .pre)) in omega (arith, s .below, s .within))
-    (λ c s. rw (c .arity-of .ensures) (left-next (s .known) (c .before .before .loop-test .taken) (c .before .before .before .loop .inv s) .next))
+    (λ c s. rw (c .head-arity .ensures) (left-next (s .known) (c .before .before .loop-test .taken) (c .before .before .before .loop .inv s) .next))
     (λ c s. left-done (c .loop-test .left) (c .before .loop .inv s)))

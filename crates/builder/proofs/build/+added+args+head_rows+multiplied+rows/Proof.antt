@@ -1,11 +1,12 @@
 -- The proof of the cycle of calls {added, args, head_rows, multiplied, rows}. The measure is three times the number of unread words, and which of them is called. Assumes nothing.
-use mathlib.Core.Path.{refl, sym, _∙_}
+use mathlib.Core.Path.{refl, ap, _∙_}
 use Prim.Native.Nat.{ℕ, _+_, _*_, _<_}
 use native.Mathlib.Omega.{arith}
 use lib.ListN.{length, length-take, length-drop, getD}
 use borrow.Author.Needs.{needs}
 use borrow.Fn.Kinds.{In}
 use borrow.Fn.PlainCycle.{Measures, is, falls, and}
+use Rattle.sets.specs.Heads.{number-of}
 use Rattle.signature.proofs.KnownFacts.{long, few-constructors, few-arguments}
 use Rattle.pattern.proofs.ReadSteps.{variable-small}
 use Rattle.cell.proofs.Walk.{back-length}
@@ -13,7 +14,9 @@ use Rattle.builder.proofs.ArgSteps.{args-end, args-count}
 use Rattle.builder.proofs.ArgCalls.{arg-kind, few-of-kind, begun-fits, arg-given, arg-read}
 use Rattle.builder.proofs.ArgTurn.{next-given, rest-given, args-made, args-read}
 use Rattle.builder.proofs.HeadRows.{head-place, head-room, args-given, head-read, plus-made, others-given, minus-made}
-use Rattle.builder.proofs.Parts.{some-word, stepped, neg-given, neg-made, one-given, one-made, none-given, none-made, mult-first, mult-bounds, mult-second, mult-read, mult-at, mult-lists, mult-made, add-first, add-bounds, add-second, add-read, add-made}
+use Rattle.pattern.specs.Word.{form-of, own-words}
+use Rattle.builder.proofs.Building.{one-word}
+use Rattle.builder.proofs.Parts.{some-word, stepped, neg-given, neg-made, one-given, one-made, none-given, none-made, range-given, range-made, mult-first, mult-bounds, mult-second, mult-read, mult-at, mult-lists, mult-made, add-first, add-bounds, add-second, add-read, add-made}
 use Rattle.builder.proofs.build.added.Reads as added
 use Rattle.builder.proofs.build.added.Kinds as added-kinds
 use Rattle.builder.proofs.build.+added+args+head_rows+multiplied+rows.Lts-added as added-lts
@@ -32,6 +35,7 @@ use Rattle.builder.proofs.build.+added+args+head_rows+multiplied+rows.L
 use Rattle.builder.proofs.build.full_of.Reads as full-of-reads
 use Rattle.builder.proofs.build.nothing.Reads as nothing-reads
 use Rattle.builder.proofs.build.one.Reads as one-reads
+use Rattle.builder.proofs.build.range_rows.Reads as range-rows-reads
 use Rattle.builder.proofs.build.place_of.Reads as place-of-reads
 use Rattle.builder.proofs.build.making_of.Reads as making-of-reads
 use Rattle.builder.proofs.build.times.Reads as times-reads
@@ -42,8 +46,8 @@ use Rattle.rowlist.proofs.next.next_rows.Reads as next-rows-reads
 use Rattle.rowlist.proofs.next.others.Reads as others-reads
 use Rattle.signature.proofs.decoded.argument_of.Reads as argument-of-reads
 use Rattle.signature.proofs.decoded.arity_of.Reads as arity-of-reads
-use Rattle.sets.proofs.set.only.Reads as only-reads
-use Rattle.sets.proofs.set.without.Reads as without-reads
+use Rattle.sets.proofs.heads.only.Reads as only-reads
+use Rattle.sets.proofs.heads.without.Reads as without-reads
 use Rattle.builder.proofs.build.+added+args+head_rows+multiplied+rows.{statement}
 use Rattle.builder.proofs.build.+added+args+head_rows+multiplied+rows.Tie.{close}
 
@@ -141,25 +145,25 @@ pub +added+args+head-rows+multiplied+rows-spec : {M : Type 1} → statement M
     (λ c. omega (arith, begun-fits (c .before .before .before .before .before .before .before .before .before .before .before .before .before .pre .1) (omega (arith, c .before .before .before .before .before .before .before .if1 .left, c .before .before .before .before .before .before .before .before .arity-of .ensures)) (c .before .before .before .before .before .before .argument-of .result) (c .before .before .before .before .before .before .argument-of .ensures) .1, c .before .before .copy .kept .1 .1 .0))
     (λ c. omega (arith, begun-fits (c .before .before .before .before .before .before .before .before .before .before .before .before .before .pre .1) (omega (arith, c .before .before .before .before .before .before .before .if1 .left, c .before .before .before .before .before .before .before .before .arity-of .ensures)) (c .before .before .before .before .before .before .argument-of .result) (c .before .before .before .before .before .before .argument-of .ensures) .1, c .before .before .copy .kept .1 .1 .0))
     (λ c. omega arith)
-    (λ c κs. (omega (arith, c .before .before .before .before .before .before .before .before .before .before .before .before .before .before .before .pre .0), arg-given (c .before .before .before .before .before .before .before .before .before .before .before .before .before .before .before .pre .1) (omega (arith, c .before .before .before .before .before .before .before .before .before .if1 .left, c .before .before .before .before .before .before .before .before .before .before .arity-of .ensures)) (c .before .before .before .before .before .before .before .before .argument-of .result) (c .before .before .before .before .before .before .before .before .argument-of .ensures) (c .before .before .before .before .before .before .before .full-of .result) (c .before .before .before .before .before .before .before .full-of .ensures) _ _ (simp (length-take, length-drop) (omega (arith, c .before .before .before .before .copy .kept .1 .1 .0))) refl))
-    (λ c κs. next-given (c .before .before .before .before .before .before .before .before .before .before .before .before .before .before .before .before .before .before .before .before .before .before .pre .1) (omega (arith, c .before .before .before .before .before .before .before .before .before .before .before .before .before .before .before .before .if1 .left, c .before .before .before .before .before .before .before .before .before .before .before .before .before .before .before .before .before .arity-of .ensures)) (c .before .before .before .before .before .before .before .before .before .before .before .before .before .before .before .argument-of .result) (c .before .before .before .before .before .before .before .before .before .before .before .before .before .before .before .argument-of .ensures) (c .before .before .before .before .before .before .before .before .before .before .before .before .before .before .full-of .result) (c .before .before .before .before .before .before .before .before .before .before .before .before .before .before .full-of .ensures) _ _ (c .before .before .before .before .before .before .rows .result .used) (c .before .before .before .before .before .before .rows .result .read) (simp (length-take, length-drop) (omega (arith, c .before .before .before .before .before .before .before .before .before .before .before .copy .kept .1 .1 .0))) refl (c .before .before .before .before .before .before .rows .last .1 .1 .1 .1 .1 .0) (c .before .before .before .before .before .before .rows .ensures) (c .before .before .before .before .before .before .before .before .before .before .before .copy .last .1 .1 .0) (c .before .before .before .before .before .before .before .before .before .before .before .copy .ensures) (c .before .before .before .before .before .before .before .before .before .before .before .copy .kept .1 .1 .0) _ (c .before .before .before .before .before .before .rows .kept .1 .1 .1 .1 .1 .1 .0))
+    (λ c κs. (omega (arith, c .before .before .before .before .before .before .before .before .before .before .before .before .before .before .before .pre .0), arg-given (c .before .before .before .before .before .before .before .before .before .before .before .before .before .before .before .pre .1) (omega (arith, c .before .before .before .before .before .before .before .before .before .if1 .left, c .before .before .before .before .before .before .before .before .before .before .arity-of .ensures)) (c .before .before .before .before .before .before .before .before .argument-of .result) (c .before .before .before .before .before .before .before .before .argument-of .ensures) (number-of (c .before .before .before .before .before .before .before .full-of .result)) (c .before .before .before .before .before .before .before .full-of .ensures) _ _ (simp (length-take, length-drop) (omega (arith, c .before .before .before .before .copy .kept .1 .1 .0))) refl))
+    (λ c κs. next-given (c .before .before .before .before .before .before .before .before .before .before .before .before .before .before .before .before .before .before .before .before .before .before .pre .1) (omega (arith, c .before .before .before .before .before .before .before .before .before .before .before .before .before .before .before .before .if1 .left, c .before .before .before .before .before .before .before .before .before .before .before .before .before .before .before .before .before .arity-of .ensures)) (c .before .before .before .before .before .before .before .before .before .before .before .before .before .before .before .argument-of .result) (c .before .before .before .before .before .before .before .before .before .before .before .before .before .before .before .argument-of .ensures) (number-of (c .before .before .before .before .before .before .before .before .before .before .before .before .before .before .full-of .result)) (c .before .before .before .before .before .before .before .before .before .before .before .before .before .before .full-of .ensures) _ _ (c .before .before .before .before .before .before .rows .result .used) (c .before .before .before .before .before .before .rows .result .read) (simp (length-take, length-drop) (omega (arith, c .before .before .before .before .before .before .before .before .before .before .before .copy .kept .1 .1 .0))) refl (c .before .before .before .before .before .before .rows .last .1 .1 .1 .1 .1 .0) (c .before .before .before .before .before .before .rows .ensures) (c .before .before .before .before .before .before .before .before .before .before .before .copy .last .1 .1 .0) (c .before .before .before .before .before .before .before .before .before .before .before .copy .ensures) (c .before .before .before .before .before .before .before .before .before .before .before .copy .kept .1 .1 .0) _ (c .before .before .before .before .before .before .rows .kept .1 .1 .1 .1 .1 .1 .0))
     (λ c. omega arith)
-    (λ c. omega (arith, arg-read (c .before .before .before .before .before .before .before .before .before .before .before .before .before .before .before .before .before .before .before .before .before .before .before .before .before .pre .1) (omega (arith, c .before .before .before .before .before .before .before .before .before .before .before .before .before .before .before .before .before .before .before .if1 .left, c .before .before .before .before .before .before .before .before .before .before .before .before .before .before .before .before .before .before .before .before .arity-of .ensures)) (c .before .before .before .before .before .before .before .before .before .before .before .before .before .before .before .before .before .before .argument-of .result) (c .before .before .before .before .before .before .before .before .before .before .before .before .before .before .before .before .before .before .argument-of .ensures) (c .before .before .before .before .before .before .before .before .before .before .before .before .before .before .before .before .before .full-of .result) (c .before .before .before .before .before .before .before .before .before .before .before .before .before .before .before .before .before .full-of .ensures) _ _ (c .before .before .before .before .before .before .before .before .before .rows .result .used) (c .before .before .before .before .before .before .before .before .before .rows .result .read) (simp (length-take, length-drop) (omega (arith, c .before .before .before .before .before .before .before .before .before .before .before .before .before .before .copy .kept .1 .1 .0))) refl (c .before .before .before .before .before .before .before .before .before .rows .last .1 .1 .1 .1 .1 .0) (c .before .before .before .before .before .before .before .before .before .rows .ensures) .0, c .before .before .before .before .before .before .before .before .before .before .before .before .before .before .before .before .before .before .before .before .before .before .before .before .before .good))
-    (λ c. arg-read (c .before .before .before .before .before .before .before .before .before .before .before .before .before .before .before .before .before .before .before .before .before .before .before .before .before .pre .1) (omega (arith, c .before .before .before .before .before .before .before .before .before .before .before .before .before .before .before .before .before .before .before .if1 .left, c .before .before .before .before .before .before .before .before .before .before .before .before .before .before .before .before .before .before .before .before .arity-of .ensures)) (c .before .before .before .before .before .before .before .before .before .before .before .before .before .before .before .before .before .before .argument-of .result) (c .before .before .before .before .before .before .before .before .before .before .before .before .before .before .before .before .before .before .argument-of .ensures) (c .before .before .before .before .before .before .before .before .before .before .before .before .before .before .before .before .before .full-of .result) (c .before .before .before .before .before .before .before .before .before .before .before .before .before .before .before .before .before .full-of .ensures) _ _ (c .before .before .before .before .before .before .before .before .before .rows .result .used) (c .before .before .before .before .before .before .before .before .before .rows .result .read) (simp (length-take, length-drop) (omega (arith, c .before .before .before .before .before .before .before .before .before .before .before .before .before .before .copy .kept .1 .1 .0))) refl (c .before .before .before .before .before .before .before .before .before .rows .last .1 .1 .1 .1 .1 .0) (c .before .before .before .before .before .before .before .before .before .rows .ensures) .0)
-    (λ c. omega (arith, arg-read (c .before .before .before .before .before .before .before .before .before .before .before .before .before .before .before .before .before .before .before .before .before .before .before .before .before .pre .1) (omega (arith, c .before .before .before .before .before .before .before .before .before .before .before .before .before .before .before .before .before .before .before .if1 .left, c .before .before .before .before .before .before .before .before .before .before .before .before .before .before .before .before .before .before .before .before .arity-of .ensures)) (c .before .before .before .before .before .before .before .before .before .before .before .before .before .before .before .before .before .before .argument-of .result) (c .before .before .before .before .before .before .before .before .before .before .before .before .before .before .before .before .before .before .argument-of .ensures) (c .before .before .before .before .before .before .before .before .before .before .before .before .before .before .before .before .before .full-of .result) (c .before .before .before .before .before .before .before .before .before .before .before .before .before .before .before .before .before .full-of .ensures) _ _ (c .before .before .before .before .before .before .before .before .before .rows .result .used) (c .before .before .before .before .before .before .before .before .before .rows .result .read) (simp (length-take, length-drop) (omega (arith, c .before .before .before .before .before .before .before .before .before .before .before .before .before .before .copy .kept .1 .1 .0))) refl (c .before .before .before .before .before .before .before .before .before .rows .last .1 .1 .1 .1 .1 .0) (c .before .before .before .before .before .before .before .before .before .rows .ensures) .0))
+    (λ c. omega (arith, arg-read (c .before .before .before .before .before .before .before .before .before .before .before .before .before .before .before .before .before .before .before .before .before .before .before .before .before .pre .1) (omega (arith, c .before .before .before .before .before .before .before .before .before .before .before .before .before .before .before .before .before .before .before .if1 .left, c .before .before .before .before .before .before .before .before .before .before .before .before .before .before .before .before .before .before .before .before .arity-of .ensures)) (c .before .before .before .before .before .before .before .before .before .before .before .before .before .before .before .before .before .before .argument-of .result) (c .before .before .before .before .before .before .before .before .before .before .before .before .before .before .before .before .before .before .argument-of .ensures) (number-of (c .before .before .before .before .before .before .before .before .before .before .before .before .before .before .before .before .before .full-of .result)) (c .before .before .before .before .before .before .before .before .before .before .before .before .before .before .before .before .before .full-of .ensures) _ _ (c .before .before .before .before .before .before .before .before .before .rows .result .used) (c .before .before .before .before .before .before .before .before .before .rows .result .read) (simp (length-take, length-drop) (omega (arith, c .before .before .before .before .before .before .before .before .before .before .before .before .before .before .copy .kept .1 .1 .0))) refl (c .before .before .before .before .before .before .before .before .before .rows .last .1 .1 .1 .1 .1 .0) (c .before .before .before .before .before .before .before .before .before .rows .ensures) .0, c .before .before .before .before .before .before .before .before .before .before .before .before .before .before .before .before .before .before .before .before .before .before .before .before .before .good))
+    (λ c. arg-read (c .before .before .before .before .before .before .before .before .before .before .before .before .before .before .before .before .before .before .before .before .before .before .before .before .before .pre .1) (omega (arith, c .before .before .before .before .before .before .before .before .before .before .before .before .before .before .before .before .before .before .before .if1 .left, c .before .before .before .before .before .before .before .before .before .before .before .before .before .before .before .before .before .before .before .before .arity-of .ensures)) (c .before .before .before .before .before .before .before .before .before .before .before .before .before .before .before .before .before .before .argument-of .result) (c .before .before .before .before .before .before .before .before .before .before .before .before .before .before .before .before .before .before .argument-of .ensures) (number-of (c .before .before .before .before .before .before .before .before .before .before .before .before .before .before .before .before .before .full-of .result)) (c .before .before .before .before .before .before .before .before .before .before .before .before .before .before .before .before .before .full-of .ensures) _ _ (c .before .before .before .before .before .before .before .before .before .rows .result .used) (c .before .before .before .before .before .before .before .before .before .rows .result .read) (simp (length-take, length-drop) (omega (arith, c .before .before .before .before .before .before .before .before .before .before .before .before .before .before .copy .kept .1 .1 .0))) refl (c .before .before .before .before .before .before .before .before .before .rows .last .1 .1 .1 .1 .1 .0) (c .before .before .before .before .before .before .before .before .before .rows .ensures) .0)
+    (λ c. omega (arith, arg-read (c .before .before .before .before .before .before .before .before .before .before .before .before .before .before .before .before .before .before .before .before .before .before .before .before .before .pre .1) (omega (arith, c .before .before .before .before .before .before .before .before .before .before .before .before .before .before .before .before .before .before .before .if1 .left, c .before .before .before .before .before .before .before .before .before .before .before .before .before .before .before .before .before .before .before .before .arity-of .ensures)) (c .before .before .before .before .before .before .before .before .before .before .before .before .before .before .before .before .before .before .argument-of .result) (c .before .before .before .before .before .before .before .before .before .before .before .before .before .before .before .before .before .before .argument-of .ensures) (number-of (c .before .before .before .before .before .before .before .before .before .before .before .before .before .before .before .before .before .full-of .result)) (c .before .before .before .before .before .before .before .before .before .before .before .before .before .before .before .before .before .full-of .ensures) _ _ (c .before .before .before .before .before .before .before .before .before .rows .result .used) (c .before .before .before .before .before .before .before .before .before .rows .result .read) (simp (length-take, length-drop) (omega (arith, c .before .before .before .before .before .before .before .before .before .before .before .before .before .before .copy .kept .1 .1 .0))) refl (c .before .before .before .before .before .before .before .before .before .rows .last .1 .1 .1 .1 .1 .0) (c .before .before .before .before .before .before .before .before .before .rows .ensures) .0))
     (λ c. omega arith)
-    (λ c κs. (simp (length-take, length-drop) (omega (arith, c .before .before .before .before .before .before .before .before .before .before .before .before .before .before .before .before .before .before .before .before .before .before .before .before .before .before .before .before .pre .0, arg-read (c .before .before .before .before .before .before .before .before .before .before .before .before .before .before .before .before .before .before .before .before .before .before .before .before .before .before .before .before .pre .1) (omega (arith, c .before .before .before .before .before .before .before .before .before .before .before .before .before .before .before .before .before .before .before .before .before .before .if1 .left, c .before .before .before .before .before .before .before .before .before .before .before .before .before .before .before .before .before .before .before .before .before .before .before .arity-of .ensures)) (c .before .before .before .before .before .before .before .before .before .before .before .before .before .before .before .before .before .before .before .before .before .argument-of .result) (c .before .before .before .before .before .before .before .before .before .before .before .before .before .before .before .before .before .before .before .before .before .argument-of .ensures) (c .before .before .before .before .before .before .before .before .before .before .before .before .before .before .before .before .before .before .before .before .full-of .result) (c .before .before .before .before .before .before .before .before .before .before .before .before .before .before .before .before .before .before .before .before .full-of .ensures) _ _ (c .before .before .before .before .before .before .before .before .before .before .before .before .rows .result .used) (c .before .before .before .before .before .before .before .before .before .before .before .before .rows .result .read) (simp (length-take, length-drop) (omega (arith, c .before .before .before .before .before .before .before .before .before .before .before .before .before .before .before .before .before .copy .kept .1 .1 .0))) refl (c .before .before .before .before .before .before .before .before .before .before .before .before .rows .last .1 .1 .1 .1 .1 .0) (c .before .before .before .before .before .before .before .before .before .before .before .before .rows .ensures) .0, arg-read (c .before .before .before .before .before .before .before .before .before .before .before .before .before .before .before .before .before .before .before .before .before .before .before .before .before .before .before .before .pre .1) (omega (arith, c .before .before .before .before .before .before .before .before .before .before .before .before .before .before .before .before .before .before .before .before .before .before .if1 .left, c .before .before .before .before .before .before .before .before .before .before .before .before .before .before .before .before .before .before .before .before .before .before .before .arity-of .ensures)) (c .before .before .before .before .before .before .before .before .before .before .before .before .before .before .before .before .before .before .before .before .before .argument-of .result) (c .before .before .before .before .before .before .before .before .before .before .before .before .before .before .before .before .before .before .before .before .before .argument-of .ensures) (c .before .before .before .before .before .before .before .before .before .before .before .before .before .before .before .before .before .before .before .before .full-of .result) (c .before .before .before .before .before .before .before .before .before .before .before .before .before .before .before .before .before .before .before .before .full-of .ensures) _ _ (c .before .before .before .before .before .before .before .before .before .before .before .before .rows .result .used) (c .before .before .before .before .before .before .before .before .before .before .before .before .rows .result .read) (simp (length-take, length-drop) (omega (arith, c .before .before .before .before .before .before .before .before .before .before .before .before .before .before .before .before .before .copy .kept .1 .1 .0))) refl (c .before .before .before .before .before .before .before .before .before .before .before .before .rows .last .1 .1 .1 .1 .1 .0) (c .before .before .before .before .before .before .before .before .before .before .before .before .rows .ensures) .1)), rest-given (c .before .before .before .before .before .before .before .before .before .before .before .before .before .before .before .before .before .before .before .before .before .before .before .before .before .before .before .before .pre .1) (omega (arith, c .before .before .before .before .before .before .before .before .before .before .before .before .before .before .before .before .before .before .before .before .before .before .if1 .left, c .before .before .before .before .before .before .before .before .before .before .before .before .before .before .before .before .before .before .before .before .before .before .before .arity-of .ensures)) (c .before .before .before .before .before .before .before .before .before .before .before .before .before .before .before .before .before .before .before .before .before .argument-of .result) (c .before .before .before .before .before .before .before .before .before .before .before .before .before .before .before .before .before .before .before .before .before .argument-of .ensures) (c .before .before .before .before .before .before .before .before .before .before .before .before .before .before .before .before .before .before .before .before .full-of .result) (c .before .before .before .before .before .before .before .before .before .before .before .before .before .before .before .before .before .before .before .before .full-of .ensures) _ _ (c .before .before .before .before .before .before .before .before .before .before .before .before .rows .result .used) (c .before .before .before .before .before .before .before .before .before .before .before .before .rows .result .read) (simp (length-take, length-drop) (omega (arith, c .before .before .before .before .before .before .before .before .before .before .before .before .before .before .before .before .before .copy .kept .1 .1 .0))) refl (c .before .before .before .before .before .before .before .before .before .before .before .before .rows .last .1 .1 .1 .1 .1 .0) (c .before .before .before .before .before .before .before .before .before .before .before .before .rows .ensures) (c .before .before .before .before .before .before .before .before .before .before .before .before .before .before .before .before .before .copy .last .1 .1 .0) (c .before .before .before .before .before .before .before .before .before .before .before .before .before .before .before .before .before .copy .ensures) (c .before .before .before .before .before .before .before .before .before .before .before .before .before .before .before .before .before .copy .kept .1 .1 .0) _ (c .before .before .before .before .before .next-rows .result) (c .before .before .before .before .before .before .before .before .before .before .before .before .rows .kept .1 .1 .1 .1 .1 .1 .0) (c .before .before .before .before .before .next-rows .last .1 .1 .1 .1 .1 .0) (c .before .before .before .before .before .next-rows .kept .1 .1 .1 .1 .1 .0 ∙ c .before .before .before .before .before .before .before .before .before .before .before .before .rows .kept .1 .1 .1 .1 .1 .1 .0) (c .before .before .before .before .before .next-rows .ensures) _ (back-length (c .before .before .before .before .before .before .before .before .before .before .before .before .before .before .before .before .before .copy .last .1 .1 .0) (c .before .before .before .before .before .before .before .before .before .before .before .before .rows .last .1 .1 .1 .1 .1 .0) (c .before .before .before .before .before .before .before .before .before .before .before .before .before .before .before .before .before .before .before .before .before .before .before .before .before .before .before .before .args .used + 1) (omega (arith, begun-fits (c .before .before .before .before .before .before .before .before .before .before .before .before .before .before .before .before .before .before .before .before .before .before .before .before .before .before .before .before .pre .1) (omega (arith, c .before .before .before .before .before .before .before .before .before .before .before .before .before .before .before .before .before .before .before .before .before .before .if1 .left, c .before .before .before .before .before .before .before .before .before .before .before .before .before .before .before .before .before .before .before .before .before .before .before .arity-of .ensures)) (c .before .before .before .before .before .before .before .before .before .before .before .before .before .before .before .before .before .before .before .before .before .argument-of .result) (c .before .before .before .before .before .before .before .before .before .before .before .before .before .before .before .before .before .before .before .before .before .argument-of .ensures) .1, c .before .before .before .before .before .before .before .before .before .before .before .before .before .before .before .before .before .copy .kept .1 .1 .0)) (c .before .before .before .before .before .before .before .before .before .before .before .before .rows .kept .1 .1 .1 .1 .1 .0) ∙ c .before .before .before .before .before .before .before .before .before .before .before .before .before .before .before .before .before .copy .kept .1 .1 .0)))
-    (λ c. omega (arith, args-read (c .before .before .before .before .before .before .before .before .before .before .before .before .before .before .before .before .before .before .before .before .before .before .before .before .before .before .before .before .before .before .before .before .before .before .pre .1) (omega (arith, c .before .before .before .before .before .before .before .before .before .before .before .before .before .before .before .before .before .before .before .before .before .before .before .before .before .before .before .before .if1 .left, c .before .before .before .before .before .before .before .before .before .before .before .before .before .before .before .before .before .before .before .before .before .before .before .before .before .before .before .before .before .arity-of .ensures)) (c .before .before .before .before .before .before .before .before .before .before .before .before .before .before .before .before .before .before .before .before .before .before .before .before .before .before .before .argument-of .result) (c .before .before .before .before .before .before .before .before .before .before .before .before .before .before .before .before .before .before .before .before .before .before .before .before .before .before .before .argument-of .ensures) (c .before .before .before .before .before .before .before .before .before .before .before .before .before .before .before .before .before .before .before .before .before .before .before .before .before .before .full-of .result) (c .before .before .before .before .before .before .before .before .before .before .before .before .before .before .before .before .before .before .before .before .before .before .before .before .before .before .full-of .ensures) _ _ (c .before .before .before .before .before .before .before .before .before .before .before .before .before .before .before .before .before .before .rows .result .used) (c .before .before .before .before .before .before .before .before .before .before .before .before .before .before .before .before .before .before .rows .result .read) (simp (length-take, length-drop) (omega (arith, c .before .before .before .before .before .before .before .before .before .before .before .before .before .before .before .before .before .before .before .before .before .before .before .copy .kept .1 .1 .0))) refl (c .before .before .before .before .before .before .before .before .before .before .before .before .before .before .before .before .before .before .rows .last .1 .1 .1 .1 .1 .0) (c .before .before .before .before .before .before .before .before .before .before .before .before .before .before .before .before .before .before .rows .ensures) (c .before .before .before .before .before .before .before .before .before .before .before .before .before .before .before .before .before .before .before .before .before .before .before .copy .last .1 .1 .0) (c .before .before .before .before .before .before .before .before .before .before .before .before .before .before .before .before .before .before .before .before .before .before .before .copy .ensures) (c .before .before .before .before .before .before .before .before .before .before .before .before .before .before .before .before .before .before .before .before .before .before .before .copy .kept .1 .1 .0) _ (c .before .before .before .before .before .before .before .before .before .before .before .next-rows .result) (c .before .before .before .before .before .before .before .before .before .before .before .before .before .before .before .before .before .before .rows .kept .1 .1 .1 .1 .1 .1 .0) (c .before .before .before .before .before .before .before .before .before .before .before .next-rows .last .1 .1 .1 .1 .1 .0) (c .before .before .before .before .before .before .before .before .before .before .before .next-rows .kept .1 .1 .1 .1 .1 .0 ∙ c .before .before .before .before .before .before .before .before .before .before .before .before .before .before .before .before .before .before .rows .kept .1 .1 .1 .1 .1 .1 .0) (c .before .before .before .before .before .before .before .before .before .before .before .next-rows .ensures) _ (c .before .before .before .before .before .args2 .result .used) (c .before .before .before .before .before .args2 .result .read) (back-length (c .before .before .before .before .before .before .before .before .before .before .before .before .before .before .before .before .before .before .before .before .before .before .before .copy .last .1 .1 .0) (c .before .before .before .before .before .before .before .before .before .before .before .before .before .before .before .before .before .before .rows .last .1 .1 .1 .1 .1 .0) (c .before .before .before .before .before .before .before .before .before .before .before .before .before .before .before .before .before .before .before .before .before .before .before .before .before .before .before .before .before .before .before .before .before .before .args .used + 1) (omega (arith, begun-fits (c .before .before .before .before .before .before .before .before .before .before .before .before .before .before .before .before .before .before .before .before .before .before .before .before .before .before .before .before .before .before .before .before .before .before .pre .1) (omega (arith, c .before .before .before .before .before .before .before .before .before .before .before .before .before .before .before .before .before .before .before .before .before .before .before .before .before .before .before .before .if1 .left, c .before .before .before .before .before .before .before .before .before .before .before .before .before .before .before .before .before .before .before .before .before .before .before .before .before .before .before .before .before .arity-of .ensures)) (c .before .before .before .before .before .before .before .before .before .before .before .before .before .before .before .before .before .before .before .before .before .before .before .before .before .before .before .argument-of .result) (c .before .before .before .before .before .before .before .before .before .before .before .before .before .before .before .before .before .before .before .before .before .before .before .before .before .before .before .argument-of .ensures) .1, c .before .before .before .before .before .before .before .before .before .before .before .before .before .before .before .before .before .before .before .before .before .before .before .copy .kept .1 .1 .0)) (c .before .before .before .before .before .before .before .before .before .before .before .before .before .before .before .before .before .before .rows .kept .1 .1 .1 .1 .1 .0) ∙ c .before .before .before .before .before .before .before .before .before .before .before .before .before .before .before .before .before .before .before .before .before .before .before .copy .kept .1 .1 .0) (c .before .before .before .before .before .args2 .last .1 .1 .1 .1 .1 .1 .0) (c .before .before .before .before .before .args2 .ensures), c .before .before .before .before .before .before .before .before .before .before .before .before .before .before .before .before .before .before .before .before .before .before .before .before .before .before .before .before .before .before .before .before .before .before .good))
+    (λ c κs. (simp (length-take, length-drop) (omega (arith, c .before .before .before .before .before .before .before .before .before .before .before .before .before .before .before .before .before .before .before .before .before .before .before .before .before .before .before .before .pre .0, arg-read (c .before .before .before .before .before .before .before .before .before .before .before .before .before .before .before .before .before .before .before .before .before .before .before .before .before .before .before .before .pre .1) (omega (arith, c .before .before .before .before .before .before .before .before .before .before .before .before .before .before .before .before .before .before .before .before .before .before .if1 .left, c .before .before .before .before .before .before .before .before .before .before .before .before .before .before .before .before .before .before .before .before .before .before .before .arity-of .ensures)) (c .before .before .before .before .before .before .before .before .before .before .before .before .before .before .before .before .before .before .before .before .before .argument-of .result) (c .before .before .before .before .before .before .before .before .before .before .before .before .before .before .before .before .before .before .before .before .before .argument-of .ensures) (number-of (c .before .before .before .before .before .before .before .before .before .before .before .before .before .before .before .before .before .before .before .before .full-of .result)) (c .before .before .before .before .before .before .before .before .before .before .before .before .before .before .before .before .before .before .before .before .full-of .ensures) _ _ (c .before .before .before .before .before .before .before .before .before .before .before .before .rows .result .used) (c .before .before .before .before .before .before .before .before .before .before .before .before .rows .result .read) (simp (length-take, length-drop) (omega (arith, c .before .before .before .before .before .before .before .before .before .before .before .before .before .before .before .before .before .copy .kept .1 .1 .0))) refl (c .before .before .before .before .before .before .before .before .before .before .before .before .rows .last .1 .1 .1 .1 .1 .0) (c .before .before .before .before .before .before .before .before .before .before .before .before .rows .ensures) .0, arg-read (c .before .before .before .before .before .before .before .before .before .before .before .before .before .before .before .before .before .before .before .before .before .before .before .before .before .before .before .before .pre .1) (omega (arith, c .before .before .before .before .before .before .before .before .before .before .before .before .before .before .before .before .before .before .before .before .before .before .if1 .left, c .before .before .before .before .before .before .before .before .before .before .before .before .before .before .before .before .before .before .before .before .before .before .before .arity-of .ensures)) (c .before .before .before .before .before .before .before .before .before .before .before .before .before .before .before .before .before .before .before .before .before .argument-of .result) (c .before .before .before .before .before .before .before .before .before .before .before .before .before .before .before .before .before .before .before .before .before .argument-of .ensures) (number-of (c .before .before .before .before .before .before .before .before .before .before .before .before .before .before .before .before .before .before .before .before .full-of .result)) (c .before .before .before .before .before .before .before .before .before .before .before .before .before .before .before .before .before .before .before .before .full-of .ensures) _ _ (c .before .before .before .before .before .before .before .before .before .before .before .before .rows .result .used) (c .before .before .before .before .before .before .before .before .before .before .before .before .rows .result .read) (simp (length-take, length-drop) (omega (arith, c .before .before .before .before .before .before .before .before .before .before .before .before .before .before .before .before .before .copy .kept .1 .1 .0))) refl (c .before .before .before .before .before .before .before .before .before .before .before .before .rows .last .1 .1 .1 .1 .1 .0) (c .before .before .before .before .before .before .before .before .before .before .before .before .rows .ensures) .1)), rest-given (c .before .before .before .before .before .before .before .before .before .before .before .before .before .before .before .before .before .before .before .before .before .before .before .before .before .before .before .before .pre .1) (omega (arith, c .before .before .before .before .before .before .before .before .before .before .before .before .before .before .before .before .before .before .before .before .before .before .if1 .left, c .before .before .before .before .before .before .before .before .before .before .before .before .before .before .before .before .before .before .before .before .before .before .before .arity-of .ensures)) (c .before .before .before .before .before .before .before .before .before .before .before .before .before .before .before .before .before .before .before .before .before .argument-of .result) (c .before .before .before .before .before .before .before .before .before .before .before .before .before .before .before .before .before .before .before .before .before .argument-of .ensures) (number-of (c .before .before .before .before .before .before .before .before .before .before .before .before .before .before .before .before .before .before .before .before .full-of .result)) (c .before .before .before .before .before .before .before .before .before .before .before .before .before .before .before .before .before .before .before .before .full-of .ensures) _ _ (c .before .before .before .before .before .before .before .before .before .before .before .before .rows .result .used) (c .before .before .before .before .before .before .before .before .before .before .before .before .rows .result .read) (simp (length-take, length-drop) (omega (arith, c .before .before .before .before .before .before .before .before .before .before .before .before .before .before .before .before .before .copy .kept .1 .1 .0))) refl (c .before .before .before .before .before .before .before .before .before .before .before .before .rows .last .1 .1 .1 .1 .1 .0) (c .before .before .before .before .before .before .before .before .before .before .before .before .rows .ensures) (c .before .before .before .before .before .before .before .before .before .before .before .before .before .before .before .before .before .copy .last .1 .1 .0) (c .before .before .before .before .before .before .before .before .before .before .before .before .before .before .before .before .before .copy .ensures) (c .before .before .before .before .before .before .before .before .before .before .before .before .before .before .before .before .before .copy .kept .1 .1 .0) _ (c .before .before .before .before .before .next-rows .result) (c .before .before .before .before .before .before .before .before .before .before .before .before .rows .kept .1 .1 .1 .1 .1 .1 .0) (c .before .before .before .before .before .next-rows .last .1 .1 .1 .1 .1 .0) (c .before .before .before .before .before .next-rows .kept .1 .1 .1 .1 .1 .0 ∙ c .before .before .before .before .before .before .before .before .before .before .before .before .rows .kept .1 .1 .1 .1 .1 .1 .0) (c .before .before .before .before .before .next-rows .ensures) _ (back-length (c .before .before .before .before .before .before .before .before .before .before .before .before .before .before .before .before .before .copy .last .1 .1 .0) (c .before .before .before .before .before .before .before .before .before .before .before .before .rows .last .1 .1 .1 .1 .1 .0) (c .before .before .before .before .before .before .before .before .before .before .before .before .before .before .before .before .before .before .before .before .before .before .before .before .before .before .before .before .args .used + 1) (omega (arith, begun-fits (c .before .before .before .before .before .before .before .before .before .before .before .before .before .before .before .before .before .before .before .before .before .before .before .before .before .before .before .before .pre .1) (omega (arith, c .before .before .before .before .before .before .before .before .before .before .before .before .before .before .before .before .before .before .before .before .before .before .if1 .left, c .before .before .before .before .before .before .before .before .before .before .before .before .before .before .before .before .before .before .before .before .before .before .before .arity-of .ensures)) (c .before .before .before .before .before .before .before .before .before .before .before .before .before .before .before .before .before .before .before .before .before .argument-of .result) (c .before .before .before .before .before .before .before .before .before .before .before .before .before .before .before .before .before .before .before .before .before .argument-of .ensures) .1, c .before .before .before .before .before .before .before .before .before .before .before .before .before .before .before .before .before .copy .kept .1 .1 .0)) (c .before .before .before .before .before .before .before .before .before .before .before .before .rows .kept .1 .1 .1 .1 .1 .0) ∙ c .before .before .before .before .before .before .before .before .before .before .before .before .before .before .before .before .before .copy .kept .1 .1 .0)))
+    (λ c. omega (arith, args-read (c .before .before .before .before .before .before .before .before .before .before .before .before .before .before .before .before .before .before .before .before .before .before .before .before .before .before .before .before .before .before .before .before .before .before .pre .1) (omega (arith, c .before .before .before .before .before .before .before .before .before .before .before .before .before .before .before .before .before .before .before .before .before .before .before .before .before .before .before .before .if1 .left, c .before .before .before .before .before .before .before .before .before .before .before .before .before .before .before .before .before .before .before .before .before .before .before .before .before .before .before .before .before .arity-of .ensures)) (c .before .before .before .before .before .before .before .before .before .before .before .before .before .before .before .before .before .before .before .before .before .before .before .before .before .before .before .argument-of .result) (c .before .before .before .before .before .before .before .before .before .before .before .before .before .before .before .before .before .before .before .before .before .before .before .before .before .before .before .argument-of .ensures) (number-of (c .before .before .before .before .before .before .before .before .before .before .before .before .before .before .before .before .before .before .before .before .before .before .before .before .before .before .full-of .result)) (c .before .before .before .before .before .before .before .before .before .before .before .before .before .before .before .before .before .before .before .before .before .before .before .before .before .before .full-of .ensures) _ _ (c .before .before .before .before .before .before .before .before .before .before .before .before .before .before .before .before .before .before .rows .result .used) (c .before .before .before .before .before .before .before .before .before .before .before .before .before .before .before .before .before .before .rows .result .read) (simp (length-take, length-drop) (omega (arith, c .before .before .before .before .before .before .before .before .before .before .before .before .before .before .before .before .before .before .before .before .before .before .before .copy .kept .1 .1 .0))) refl (c .before .before .before .before .before .before .before .before .before .before .before .before .before .before .before .before .before .before .rows .last .1 .1 .1 .1 .1 .0) (c .before .before .before .before .before .before .before .before .before .before .before .before .before .before .before .before .before .before .rows .ensures) (c .before .before .before .before .before .before .before .before .before .before .before .before .before .before .before .before .before .before .before .before .before .before .before .copy .last .1 .1 .0) (c .before .before .before .before .before .before .before .before .before .before .before .before .before .before .before .before .before .before .before .before .before .before .before .copy .ensures) (c .before .before .before .before .before .before .before .before .before .before .before .before .before .before .before .before .before .before .before .before .before .before .before .copy .kept .1 .1 .0) _ (c .before .before .before .before .before .before .before .before .before .before .before .next-rows .result) (c .before .before .before .before .before .before .before .before .before .before .before .before .before .before .before .before .before .before .rows .kept .1 .1 .1 .1 .1 .1 .0) (c .before .before .before .before .before .before .before .before .before .before .before .next-rows .last .1 .1 .1 .1 .1 .0) (c .before .before .before .before .before .before .before .before .before .before .before .next-rows .kept .1 .1 .1 .1 .1 .0 ∙ c .before .before .before .before .before .before .before .before .before .before .before .before .before .before .before .before .before .before .rows .kept .1 .1 .1 .1 .1 .1 .0) (c .before .before .before .before .before .before .before .before .before .before .before .next-rows .ensures) _ (c .before .before .before .before .before .args2 .result .used) (c .before .before .before .before .before .args2 .result .read) (back-length (c .before .before .before .before .before .before .before .before .before .before .before .before .before .before .before .before .before .before .before .before .before .before .before .copy .last .1 .1 .0) (c .before .before .before .before .before .before .before .before .before .before .before .before .before .before .before .before .before .before .rows .last .1 .1 .1 .1 .1 .0) (c .before .before .before .before .before .before .before .before .before .before .before .before .before .before .before .before .before .before .before .before .before .before .before .before .before .before .before .before .before .before .before .before .before .before .args .used + 1) (omega (arith, begun-fits (c .before .before .before .before .before .before .before .before .before .before .before .before .before .before .before .before .before .before .before .before .before .before .before .before .before .before .before .before .before .before .before .before .before .before .pre .1) (omega (arith, c .before .before .before .before .before .before .before .before .before .before .before .before .before .before .before .before .before .before .before .before .before .before .before .before .before .before .before .before .if1 .left, c .before .before .before .before .before .before .before .before .before .before .before .before .before .before .before .before .before .before .before .before .before .before .before .before .before .before .before .before .before .arity-of .ensures)) (c .before .before .before .before .before .before .before .before .before .before .before .before .before .before .before .before .before .before .before .before .before .before .before .before .before .before .before .argument-of .result) (c .before .before .before .before .before .before .before .before .before .before .before .before .before .before .before .before .before .before .before .before .before .before .before .before .before .before .before .argument-of .ensures) .1, c .before .before .before .before .before .before .before .before .before .before .before .before .before .before .before .before .before .before .before .before .before .before .before .copy .kept .1 .1 .0)) (c .before .before .before .before .before .before .before .before .before .before .before .before .before .before .before .before .before .before .rows .kept .1 .1 .1 .1 .1 .0) ∙ c .before .before .before .before .before .before .before .before .before .before .before .before .before .before .before .before .before .before .before .before .before .before .before .copy .kept .1 .1 .0) (c .before .before .before .before .before .args2 .last .1 .1 .1 .1 .1 .1 .0) (c .before .before .before .before .before .args2 .ensures), c .before .before .before .before .before .before .before .before .before .before .before .before .before .before .before .before .before .before .before .before .before .before .before .before .before .before .before .before .before .before .before .before .before .before .good))
     (λ c. omega arith)
     (λ c. omega arith)
-    (λ c g. args-made g (omega (arith, c .before .before .before .before .before .before .before .before .before .before .before .before .before .before .before .before .before .before .before .before .before .before .before .before .before .before .before .before .if1 .left, c .before .before .before .before .before .before .before .before .before .before .before .before .before .before .before .before .before .before .before .before .before .before .before .before .before .before .before .before .before .arity-of .ensures)) (c .before .before .before .before .before .before .before .before .before .before .before .before .before .before .before .before .before .before .before .before .before .before .before .before .before .before .before .argument-of .result) (c .before .before .before .before .before .before .before .before .before .before .before .before .before .before .before .before .before .before .before .before .before .before .before .before .before .before .before .argument-of .ensures) (c .before .before .before .before .before .before .before .before .before .before .before .before .before .before .before .before .before .before .before .before .before .before .before .before .before .before .full-of .result) (c .before .before .before .before .before .before .before .before .before .before .before .before .before .before .before .before .before .before .before .before .before .before .before .before .before .before .full-of .ensures) _ _ (c .before .before .before .before .before .before .before .before .before .before .before .before .before .before .before .before .before .before .rows .result .used) (c .before .before .before .before .before .before .before .before .before .before .before .before .before .before .before .before .before .before .rows .result .read) (simp (length-take, length-drop) (omega (arith, c .before .before .before .before .before .before .before .before .before .before .before .before .before .before .before .before .before .before .before .before .before .before .before .copy .kept .1 .1 .0))) refl (c .before .before .before .before .before .before .before .before .before .before .before .before .before .before .before .before .before .before .rows .last .1 .1 .1 .1 .1 .0) (c .before .before .before .before .before .before .before .before .before .before .before .before .before .before .before .before .before .before .rows .ensures) (c .before .before .before .before .before .before .before .before .before .before .before .before .before .before .before .before .before .before .before .before .before .before .before .copy .last .1 .1 .0) (c .before .before .before .before .before .before .before .before .before .before .before .before .before .before .before .before .before .before .before .before .before .before .before .copy .ensures) (c .before .before .before .before .before .before .before .before .before .before .before .before .before .before .before .before .before .before .before .before .before .before .before .copy .kept .1 .1 .0) _ (c .before .before .before .before .before .before .before .before .before .before .before .next-rows .result) (c .before .before .before .before .before .before .before .before .before .before .before .before .before .before .before .before .before .before .rows .kept .1 .1 .1 .1 .1 .1 .0) (c .before .before .before .before .before .before .before .before .before .before .before .next-rows .last .1 .1 .1 .1 .1 .0) (c .before .before .before .before .before .before .before .before .before .before .before .next-rows .kept .1 .1 .1 .1 .1 .0 ∙ c .before .before .before .before .before .before .before .before .before .before .before .before .before .before .before .before .before .before .rows .kept .1 .1 .1 .1 .1 .1 .0) (c .before .before .before .before .before .before .before .before .before .before .before .next-rows .ensures) _ (c .before .before .before .before .before .args2 .result .used) (c .before .before .before .before .before .args2 .result .read) (back-length (c .before .before .before .before .before .before .before .before .before .before .before .before .before .before .before .before .before .before .before .before .before .before .before .copy .last .1 .1 .0) (c .before .before .before .before .before .before .before .before .before .before .before .before .before .before .before .before .before .before .rows .last .1 .1 .1 .1 .1 .0) (c .before .before .before .before .before .before .before .before .before .before .before .before .before .before .before .before .before .before .before .before .before .before .before .before .before .before .before .before .before .before .before .before .before .before .args .used + 1) (omega (arith, begun-fits g (omega (arith, c .before .before .before .before .before .before .before .before .before .before .before .before .before .before .before .before .before .before .before .before .before .before .before .before .before .before .before .before .if1 .left, c .before .before .before .before .before .before .before .before .before .before .before .before .before .before .before .before .before .before .before .before .before .before .before .before .before .before .before .before .before .arity-of .ensures)) (c .before .before .before .before .before .before .before .before .before .before .before .before .before .before .before .before .before .before .before .before .before .before .before .before .before .before .before .argument-of .result) (c .before .before .before .before .before .before .before .before .before .before .before .before .before .before .before .before .before .before .before .before .before .before .before .before .before .before .before .argument-of .ensures) .1, c .before .before .before .before .before .before .before .before .before .before .before .before .before .before .before .before .before .before .before .before .before .before .before .copy .kept .1 .1 .0)) (c .before .before .before .before .before .before .before .before .before .before .before .before .before .before .before .before .before .before .rows .kept .1 .1 .1 .1 .1 .0) ∙ c .before .before .before .before .before .before .before .before .before .before .before .before .before .before .before .before .before .before .before .before .before .before .before .copy .kept .1 .1 .0) (c .before .before .before .before .before .args2 .last .1 .1 .1 .1 .1 .1 .0) (c .before .before .before .before .before .args2 .ensures)))
+    (λ c g. args-made g (omega (arith, c .before .before .before .before .before .before .before .before .before .before .before .before .before .before .before .before .before .before .before .before .before .before .before .before .before .before .before .before .if1 .left, c .before .before .before .before .before .before .before .before .before .before .before .before .before .before .before .before .before .before .before .before .before .before .before .before .before .before .before .before .before .arity-of .ensures)) (c .before .before .before .before .before .before .before .before .before .before .before .before .before .before .before .before .before .before .before .before .before .before .before .before .before .before .before .argument-of .result) (c .before .before .before .before .before .before .before .before .before .before .before .before .before .before .before .before .before .before .before .before .before .before .before .before .before .before .before .argument-of .ensures) (number-of (c .before .before .before .before .before .before .before .before .before .before .before .before .before .before .before .before .before .before .before .before .before .before .before .before .before .before .full-of .result)) (c .before .before .before .before .before .before .before .before .before .before .before .before .before .before .before .before .before .before .before .before .before .before .before .before .before .before .full-of .ensures) _ _ (c .before .before .before .before .before .before .before .before .before .before .before .before .before .before .before .before .before .before .rows .result .used) (c .before .before .before .before .before .before .before .before .before .before .before .before .before .before .before .before .before .before .rows .result .read) (simp (length-take, length-drop) (omega (arith, c .before .before .before .before .before .before .before .before .before .before .before .before .before .before .before .before .before .before .before .before .before .before .before .copy .kept .1 .1 .0))) refl (c .before .before .before .before .before .before .before .before .before .before .before .before .before .before .before .before .before .before .rows .last .1 .1 .1 .1 .1 .0) (c .before .before .before .before .before .before .before .before .before .before .before .before .before .before .before .before .before .before .rows .ensures) (c .before .before .before .before .before .before .before .before .before .before .before .before .before .before .before .before .before .before .before .before .before .before .before .copy .last .1 .1 .0) (c .before .before .before .before .before .before .before .before .before .before .before .before .before .before .before .before .before .before .before .before .before .before .before .copy .ensures) (c .before .before .before .before .before .before .before .before .before .before .before .before .before .before .before .before .before .before .before .before .before .before .before .copy .kept .1 .1 .0) _ (c .before .before .before .before .before .before .before .before .before .before .before .next-rows .result) (c .before .before .before .before .before .before .before .before .before .before .before .before .before .before .before .before .before .before .rows .kept .1 .1 .1 .1 .1 .1 .0) (c .before .before .before .before .before .before .before .before .before .before .before .next-rows .last .1 .1 .1 .1 .1 .0) (c .before .before .before .before .before .before .before .before .before .before .before .next-rows .kept .1 .1 .1 .1 .1 .0 ∙ c .before .before .before .before .before .before .before .before .before .before .before .before .before .before .before .before .before .before .rows .kept .1 .1 .1 .1 .1 .1 .0) (c .before .before .before .before .before .before .before .before .before .before .before .next-rows .ensures) _ (c .before .before .before .before .before .args2 .result .used) (c .before .before .before .before .before .args2 .result .read) (back-length (c .before .before .before .before .before .before .before .before .before .before .before .before .before .before .before .before .before .before .before .before .before .before .before .copy .last .1 .1 .0) (c .before .before .before .before .before .before .before .before .before .before .before .before .before .before .before .before .before .before .rows .last .1 .1 .1 .1 .1 .0) (c .before .before .before .before .before .before .before .before .before .before .before .before .before .before .before .before .before .before .before .before .before .before .before .before .before .before .before .before .before .before .before .before .before .before .args .used + 1) (omega (arith, begun-fits g (omega (arith, c .before .before .before .before .before .before .before .before .before .before .before .before .before .before .before .before .before .before .before .before .before .before .before .before .before .before .before .before .if1 .left, c .before .before .before .before .before .before .before .before .before .before .before .before .before .before .before .before .before .before .before .before .before .before .before .before .before .before .before .before .before .arity-of .ensures)) (c .before .before .before .before .before .before .before .before .before .before .before .before .before .before .before .before .before .before .before .before .before .before .before .before .before .before .before .argument-of .result) (c .before .before .before .before .before .before .before .before .before .before .before .before .before .before .before .before .before .before .before .before .before .before .before .before .before .before .before .argument-of .ensures) .1, c .before .before .before .before .before .before .before .before .before .before .before .before .before .before .before .before .before .before .before .before .before .before .before .copy .kept .1 .1 .0)) (c .before .before .before .before .before .before .before .before .before .before .before .before .before .before .before .before .before .before .rows .kept .1 .1 .1 .1 .1 .0) ∙ c .before .before .before .before .before .before .before .before .before .before .before .before .before .before .before .before .before .before .before .before .before .before .before .copy .kept .1 .1 .0) (c .before .before .before .before .before .args2 .last .1 .1 .1 .1 .1 .1 .0) (c .before .before .before .before .before .args2 .ensures)))
     (λ t. head-rows-lts.spec
     (place-of-reads.Asked, place-of-reads.Learnt, only-reads.Asked, only-reads.Learnt, one-reads.Asked, one-reads.Learnt, args-below t, args.Post, without-reads.Asked, without-reads.Learnt, others-reads.Asked, others-reads.Learnt)
     (head-rows-at t)
     head-rows.Post
     (λ c κs. head-place (c .before .before .before .before .pre .1))
     (λ c κs. omega (arith, c .place-of .ensures .1))
-    (λ c κs. head-room (c .before .before .before .before .before .before .before .pre .1))
+    (λ c κs. (head-room (c .before .before .before .before .before .before .before .pre .1), omega (arith, c .before .before .before .before .before .before .before .fits .head .fits)))
     (λ c. omega (arith, c .before .before .before .before .before .before .before .before .before .before .pre .1 .own-is, some-word (c .before .before .before .before .before .before .before .before .before .before .pre .1 .pat)))
     (λ c. omega (arith, c .before .before .before .before .before .before .before .before .before .before .pre .1 .own-is, some-word (c .before .before .before .before .before .before .before .before .before .before .pre .1 .pat)))
     (λ c. omega (arith, c .before .before .before .before .before .before .before .before .before .before .pre .1 .own-is, some-word (c .before .before .before .before .before .before .before .before .before .before .pre .1 .pat)))
@@ -173,7 +177,7 @@ pub +added+args+head-rows+multiplied+rows-spec : {M : Type 1} → statement M
     (λ c κs. others-given (c .before .before .before .before .before .before .before .before .before .before .before .before .before .before .before .before .before .before .before .before .before .before .before .pre .1) (c .before .before .before .before .before .before .before .before .before .before .before .before .before .before .before .before .before .before .place-of .result) _ (c .before .before .before .before .before .before .before .before .before .before .before .before .before .before .before .one .result) (c .before .before .before .before .before .before .before .before .before .before .before .before .before .before .before .one .last .1 .1 .1 .0) (c .before .before .before .before .before .before .before .before .before .before .before .before .before .before .before .before .before .before .place-of .ensures .0) (c .before .before .before .before .before .before .before .before .before .before .before .before .before .before .before .before .before .only .ensures) (c .before .before .before .before .before .before .before .before .before .before .before .before .before .before .before .one .ensures) (c .before .before .before .before .before .before .before .before .before .before .before .before .before .before .before .one .kept .1 .1 .1 .0) _ (c .before .before .before .before .before .before .before .before .before .args2 .result .used) (c .before .before .before .before .before .before .before .before .before .args2 .result .read) refl (c .before .before .before .before .before .before .before .before .before .args2 .last .1 .1 .1 .1 .1 .1 .0) (c .before .before .before .before .before .before .before .before .before .args2 .ensures) (c .before .before .before .if1 .left) _ (c .before .before .before .before .before .before .before .before .before .args2 .kept .1 .1 .1 .1 .1 .1 .1 .0))
     (λ c. omega arith)
     (λ c. omega arith)
-    (λ c g. minus-made g (c .before .before .before .before .before .before .before .before .before .before .before .before .before .before .before .before .before .before .before .before .before .before .before .place-of .result) _ (c .before .before .before .before .before .before .before .before .before .before .before .before .before .before .before .before .before .before .before .before .one .result) (c .before .before .before .before .before .before .before .before .before .before .before .before .before .before .before .before .before .before .before .before .one .last .1 .1 .1 .0) (c .before .before .before .before .before .before .before .before .before .before .before .before .before .before .before .before .before .before .before .before .before .before .before .place-of .ensures .0) (c .before .before .before .before .before .before .before .before .before .before .before .before .before .before .before .before .before .before .before .before .before .before .only .ensures) (c .before .before .before .before .before .before .before .before .before .before .before .before .before .before .before .before .before .before .before .before .one .ensures) (c .before .before .before .before .before .before .before .before .before .before .before .before .before .before .before .before .before .before .before .before .one .kept .1 .1 .1 .0) _ (c .before .before .before .before .before .before .before .before .before .before .before .before .before .before .args2 .result .used) (c .before .before .before .before .before .before .before .before .before .before .before .before .before .before .args2 .result .read) refl (c .before .before .before .before .before .before .before .before .before .before .before .before .before .before .args2 .last .1 .1 .1 .1 .1 .1 .0) (c .before .before .before .before .before .before .before .before .before .before .before .before .before .before .args2 .ensures) (c .before .before .before .before .before .before .before .before .if1 .left) (c .before .before .before .before .before .before .before .without .result) (c .before .before .before .before .others .result) _ (c .before .before .before .before .others .last .1 .1 .1 .0) (c .before .before .before .before .before .before .before .before .before .before .before .before .before .before .args2 .kept .1 .1 .1 .1 .1 .1 .1 .0) (c .before .before .before .before .before .before .before .without .ensures) (c .before .before .before .before .others .ensures)))
+    (λ c g. minus-made g (c .before .before .before .before .before .before .before .before .before .before .before .before .before .before .before .before .before .before .before .before .before .before .before .place-of .result) _ (c .before .before .before .before .before .before .before .before .before .before .before .before .before .before .before .before .before .before .before .before .one .result) (c .before .before .before .before .before .before .before .before .before .before .before .before .before .before .before .before .before .before .before .before .one .last .1 .1 .1 .0) (c .before .before .before .before .before .before .before .before .before .before .before .before .before .before .before .before .before .before .before .before .before .before .before .place-of .ensures .0) (c .before .before .before .before .before .before .before .before .before .before .before .before .before .before .before .before .before .before .before .before .before .before .only .ensures) (c .before .before .before .before .before .before .before .before .before .before .before .before .before .before .before .before .before .before .before .before .one .ensures) (c .before .before .before .before .before .before .before .before .before .before .before .before .before .before .before .before .before .before .before .before .one .kept .1 .1 .1 .0) _ (c .before .before .before .before .before .before .before .before .before .before .before .before .before .before .args2 .result .used) (c .before .before .before .before .before .before .before .before .before .before .before .before .before .before .args2 .result .read) refl (c .before .before .before .before .before .before .before .before .before .before .before .before .before .before .args2 .last .1 .1 .1 .1 .1 .1 .0) (c .before .before .before .before .before .before .before .before .before .before .before .before .before .before .args2 .ensures) (c .before .before .before .before .before .before .before .before .if1 .left) (number-of (c .before .before .before .before .before .before .before .without .result)) (c .before .before .before .before .others .result) _ (c .before .before .before .before .others .last .1 .1 .1 .0) (c .before .before .before .before .before .before .before .before .before .before .before .before .before .before .args2 .kept .1 .1 .1 .1 .1 .1 .1 .0) (c .before .before .before .before .before .before .before .without .ensures) (c .before .before .before .before .others .ensures)))
     (λ t. multiplied-lts.spec
     (rows-below t, rows.Post, times-reads.Asked, times-reads.Learnt)
     (multiplied-at t)
@@ -200,7 +204,7 @@ pub +added+args+head-rows+multiplied+rows-spec : {M : Type 1} → statement M
     (λ c. back-length (c .before .before .before .before .before .before .before .before .before .before .before .before .before .before .before .before .before .before .before .before .rows .last .1 .1 .1 .1 .1 .0) (c .before .before .before .before .before .before .before .before .before .before .rows2 .last .1 .1 .1 .1 .1 .0) (c .before .before .before .before .before .before .before .before .before .before .before .before .before .before .before .before .before .before .before .before .rows .result .used + 1) (mult-bounds (c .before .before .before .before .before .before .before .before .before .before .before .before .before .before .before .before .before .before .before .before .before .before .before .before .before .before .before .before .pre .1 .pat) (c .before .before .before .before .before .before .before .before .before .before .before .before .before .before .before .before .before .before .before .before .before .before .before .before .before .before .before .before .pre .1 .word) _ (c .before .before .before .before .before .before .before .before .before .before .before .before .before .before .before .before .before .before .before .before .before .before .before .before .before .before .before .before .pre .1 .own-is) (c .before .before .before .before .before .before .before .before .before .before .before .before .before .before .before .before .before .before .before .before .rows .result .used) (c .before .before .before .before .before .before .before .before .before .before .before .before .before .before .before .before .before .before .before .before .rows .result .read) (c .before .before .before .before .before .before .before .before .before .before .before .before .before .before .before .before .before .before .before .before .rows .last .1 .1 .1 .1 .1 .0) (c .before .before .before .before .before .before .before .before .before .before .before .before .before .before .before .before .before .before .before .before .rows .ensures) .1) (c .before .before .before .before .before .before .before .before .before .before .rows2 .kept .1 .1 .1 .1 .1 .0) ∙ c .before .before .before .before .before .before .before .before .before .before .before .before .before .before .before .before .before .before .before .before .rows .kept .1 .1 .1 .1 .1 .0)
     (λ c g. mult-made (g .pat) (g .word) _ (g .own-is) (c .before .before .before .before .before .before .before .before .before .before .before .before .before .before .before .before .before .before .before .before .rows .result .used) (c .before .before .before .before .before .before .before .before .before .before .before .before .before .before .before .before .before .before .before .before .rows .result .read) (c .before .before .before .before .before .before .before .before .before .before .before .before .before .before .before .before .before .before .before .before .rows .last .1 .1 .1 .1 .1 .0) (c .before .before .before .before .before .before .before .before .before .before .before .before .before .before .before .before .before .before .before .before .rows .ensures) _ _ (c .before .before .before .before .before .before .before .before .before .before .rows2 .result .used) (c .before .before .before .before .before .before .before .before .before .before .rows2 .result .read) (c .before .before .before .before .before .before .before .before .before .before .before .before .before .before .before .before .before .before .before .before .rows .kept .1 .1 .1 .1 .1 .0) (c .before .before .before .before .before .before .before .before .before .before .before .before .before .before .before .before .before .before .before .before .rows .kept .1 .1 .1 .1 .1 .1 .0) refl (c .before .before .before .before .before .before .before .before .before .before .rows2 .last .1 .1 .1 .1 .1 .0) (c .before .before .before .before .before .before .before .before .before .before .rows2 .ensures) (c .before .before .before .before .before .before .before .before .before .before .rows2 .kept .1 .1 .1 .1 .1 .0) (c .before .before .before .before .before .before .before .before .before .before .rows2 .last .1 .1 .1 .1 .1 .1 .0) _ (c .before .before .before .times .result) (c .before .before .before .before .before .before .before .before .before .before .rows2 .kept .1 .1 .1 .1 .1 .1 .0 ∙ c .before .before .before .before .before .before .before .before .before .before .before .before .before .before .before .before .before .before .before .before .rows .kept .1 .1 .1 .1 .1 .1 .0) (c .before .before .before .times .ensures)))
     (λ t. rows-lts.spec
-    (classify-reads.Asked, classify-reads.Learnt, own-words-reads.Asked, own-words-reads.Learnt, making-of-reads.Asked, making-of-reads.Learnt, head-rows-below t, head-rows.Post, multiplied-below t, multiplied.Post, added-below t, added.Post, one-reads.Asked, one-reads.Learnt, nothing-reads.Asked, nothing-reads.Learnt, rows-below t, rows.Post)
+    (classify-reads.Asked, classify-reads.Learnt, own-words-reads.Asked, own-words-reads.Learnt, making-of-reads.Asked, making-of-reads.Learnt, head-rows-below t, head-rows.Post, multiplied-below t, multiplied.Post, added-below t, added.Post, one-reads.Asked, one-reads.Learnt, nothing-reads.Asked, nothing-reads.Learnt, rows-below t, rows.Post, range-rows-reads.Asked, range-rows-reads.Learnt)
     (rows-at t)
     rows.Post
     (λ c. some-word (c .before .before .before .before .before .pre .1))
@@ -208,35 +212,39 @@ pub +added+args+head-rows+multiplied+rows-spec : {M : Type 1} → statement M
     (λ c κs. tt)
     (λ c κs. variable-small (getD (c .before .before .before .before .before .before .before .args .p .now) 0 0) _ (c .before .classify .ensures))
     (λ c. search needs)
-    (λ c κs. (omega (arith, c .before .before .before .before .before .before .before .before .before .before .before .before .before .pre .0), record { pat = c .before .before .before .before .before .before .before .before .before .before .before .before .before .pre .1; word = stepped (c .before .before .before .before .before .before .before .before .before .before .before .before .before .args .p .now) (c .before .before .before .before .before .before .before .before .before .before .before .before .before .args .plus) (c .before .before .before .before .before .before .before .classify .ensures) (c .before .before .before .before .before .making-of .ensures) (c .before .before .before .s .given .1); own-is = c .before .before .before .before .before .before .own-words .ensures }))
+    (λ c κs. (omega (arith, c .before .before .before .before .before .before .before .before .before .before .before .before .before .pre .0), record { pat = c .before .before .before .before .before .before .before .before .before .before .before .before .before .pre .1; word = stepped (c .before .before .before .before .before .before .before .before .before .before .before .before .before .args .p .now) (c .before .before .before .before .before .before .before .before .before .before .before .before .before .args .plus) (c .before .before .before .before .before .before .before .classify .ensures) (c .before .before .before .before .before .making-of .ensures) (c .before .before .before .s .given .1); own-is = one-word (form-of (c .before .before .before .before .before .before .before .classify .result)) (c .before .before .before .before .before .before .before .before .before .before .before .before .before .args .plus) (c .before .before .before .before .before .making-of .ensures) (c .before .before .before .s .given .1) (λ z. omega (arith, z)) (c .before .before .before .before .before .before .own-words .ensures) }))
     (λ c. search needs)
-    (λ c κs. (omega (arith, c .before .before .before .before .before .before .before .before .before .before .before .before .pre .0), record { pat = c .before .before .before .before .before .before .before .before .before .before .before .before .pre .1; word = stepped (c .before .before .before .before .before .before .before .before .before .before .before .before .args .p .now) (c .before .before .before .before .before .before .before .before .before .before .before .before .args .plus) (c .before .before .before .before .before .before .classify .ensures) (c .before .before .before .before .making-of .ensures) (c .before .before .enum-told .given .1); own-is = c .before .before .before .before .before .own-words .ensures }))
+    (λ c κs. (omega (arith, c .before .before .before .before .before .before .before .before .before .before .before .before .pre .0), record { pat = c .before .before .before .before .before .before .before .before .before .before .before .before .pre .1; word = stepped (c .before .before .before .before .before .before .before .before .before .before .before .before .args .p .now) (c .before .before .before .before .before .before .before .before .before .before .before .before .args .plus) (c .before .before .before .before .before .before .classify .ensures) (c .before .before .before .before .making-of .ensures) (c .before .before .enum-told .given .1); own-is = one-word (form-of (c .before .before .before .before .before .before .classify .result)) (c .before .before .before .before .before .before .before .before .before .before .before .before .args .plus) (c .before .before .before .before .making-of .ensures) (c .before .before .enum-told .given .1) (λ z. omega (arith, z)) (c .before .before .before .before .before .own-words .ensures) }))
     (λ c. search needs)
-    (λ c κs. (omega (arith, c .before .before .before .before .before .before .before .before .before .before .before .before .pre .0), record { pat = c .before .before .before .before .before .before .before .before .before .before .before .before .pre .1; word = stepped (c .before .before .before .before .before .before .before .before .before .before .before .before .args .p .now) (c .before .before .before .before .before .before .before .before .before .before .before .before .args .plus) (c .before .before .before .before .before .before .classify .ensures) (c .before .before .before .before .making-of .ensures) (c .before .before .enum-told2 .given .1); own-is = c .before .before .before .before .before .own-words .ensures }))
+    (λ c κs. (omega (arith, c .before .before .before .before .before .before .before .before .before .before .before .before .pre .0), record { pat = c .before .before .before .before .before .before .before .before .before .before .before .before .pre .1; word = stepped (c .before .before .before .before .before .before .before .before .before .before .before .before .args .p .now) (c .before .before .before .before .before .before .before .before .before .before .before .before .args .plus) (c .before .before .before .before .before .before .classify .ensures) (c .before .before .before .before .making-of .ensures) (c .before .before .enum-told2 .given .1); own-is = one-word (form-of (c .before .before .before .before .before .before .classify .result)) (c .before .before .before .before .before .before .before .before .before .before .before .before .args .plus) (c .before .before .before .before .making-of .ensures) (c .before .before .enum-told2 .given .1) (λ z. omega (arith, z)) (c .before .before .before .before .before .own-words .ensures) }))
     (λ c. search needs)
     (λ c κs. one-given (c .before .before .before .before .before .before .before .before .before .before .before .before .pre .1) _ (stepped (c .before .before .before .before .before .before .before .before .before .before .before .before .args .p .now) (c .before .before .before .before .before .before .before .before .before .before .before .before .args .plus) (c .before .before .before .before .before .before .classify .ensures) (c .before .before .before .before .making-of .ensures) (c .before .before .s2 .given .1)))
     (λ c. search needs)
     (λ c κs. none-given (c .before .before .before .before .before .before .before .before .before .before .before .pre .1) (stepped (c .before .before .before .before .before .before .before .before .before .before .before .args .p .now) (c .before .before .before .before .before .before .before .before .before .before .before .args .plus) (c .before .before .before .before .before .classify .ensures) (c .before .before .before .making-of .ensures) (c .before .enum-told3 .given .1)))
     (λ c. search needs)
-    (λ c. omega (arith, c .before .before .before .own-words .ensures, some-word (c .before .before .before .before .before .before .before .before .before .before .pre .1)))
-    (λ c. omega (arith, c .before .before .before .own-words .ensures, some-word (c .before .before .before .before .before .before .before .before .before .before .pre .1)))
-    (λ c. omega (arith, c .before .before .before .own-words .ensures, some-word (c .before .before .before .before .before .before .before .before .before .before .pre .1)))
+    (λ c. omega (arith, one-word (form-of (c .before .before .before .before .classify .result)) (c .before .before .before .before .before .before .before .before .before .before .args .plus) (c .before .before .making-of .ensures) (c .enum-told4 .given .1) (λ z. omega (arith, z)) (c .before .before .before .own-words .ensures), some-word (c .before .before .before .before .before .before .before .before .before .before .pre .1)))
+    (λ c. omega (arith, one-word (form-of (c .before .before .before .before .classify .result)) (c .before .before .before .before .before .before .before .before .before .before .args .plus) (c .before .before .making-of .ensures) (c .enum-told4 .given .1) (λ z. omega (arith, z)) (c .before .before .before .own-words .ensures), some-word (c .before .before .before .before .before .before .before .before .before .before .pre .1)))
+    (λ c. omega (arith, one-word (form-of (c .before .before .before .before .classify .result)) (c .before .before .before .before .before .before .before .before .before .before .args .plus) (c .before .before .making-of .ensures) (c .enum-told4 .given .1) (λ z. omega (arith, z)) (c .before .before .before .own-words .ensures), some-word (c .before .before .before .before .before .before .before .before .before .before .pre .1)))
     (λ c. omega arith)
-    (λ c κs. (simp (length-take, length-drop) (omega (arith, c .before .before .before .before .before .before .own-words .ensures, c .before .before .before .before .before .before .before .before .before .before .before .before .before .pre .0, some-word (c .before .before .before .before .before .before .before .before .before .before .before .before .before .pre .1))), neg-given (c .before .before .before .before .before .before .before .before .before .before .before .before .before .pre .1) (stepped (c .before .before .before .before .before .before .before .before .before .before .before .before .before .args .p .now) (c .before .before .before .before .before .before .before .before .before .before .before .before .before .args .plus) (c .before .before .before .before .before .before .before .classify .ensures) (c .before .before .before .before .before .making-of .ensures) (c .before .before .before .enum-told4 .given .1)) _ (c .before .before .before .before .before .before .own-words .ensures)))
-    (λ c. omega (arith, neg-made (c .before .before .before .before .before .before .before .before .before .before .before .before .before .before .before .before .before .before .before .pre .1) (stepped (c .before .before .before .before .before .before .before .before .before .before .before .before .before .before .before .before .before .before .before .args .p .now) (c .before .before .before .before .before .before .before .before .before .before .before .before .before .before .before .before .before .before .before .args .plus) (c .before .before .before .before .before .before .before .before .before .before .before .before .before .classify .ensures) (c .before .before .before .before .before .before .before .before .before .before .before .making-of .ensures) (c .before .before .before .before .before .before .before .before .before .enum-told4 .given .1)) _ (c .before .before .before .before .before .before .before .before .before .before .before .before .own-words .ensures) (c .before .before .before .before .before .rows .result .used) (c .before .before .before .before .before .rows .result .read) (c .before .before .before .before .before .rows .last .1 .1 .1 .1 .1 .0) (c .before .before .before .before .before .rows .ensures) .1, c .before .before .before .before .before .before .before .before .before .before .before .before .before .before .before .before .before .before .before .good))
-    (λ c. omega arith)
-    (λ c. omega arith)
-    (λ c g. c .before .before .before .before .head-rows .ensures (record { pat = g; word = stepped (c .before .before .before .before .before .before .before .before .before .before .before .before .before .before .before .before .before .before .args .p .now) (c .before .before .before .before .before .before .before .before .before .before .before .before .before .before .before .before .before .before .args .plus) (c .before .before .before .before .before .before .before .before .before .before .before .before .classify .ensures) (c .before .before .before .before .before .before .before .before .before .before .making-of .ensures) (c .before .before .before .before .before .before .before .before .s .given .1); own-is = c .before .before .before .before .before .before .before .before .before .before .before .own-words .ensures }))
-    (λ c. omega arith)
-    (λ c. omega arith)
-    (λ c g. c .before .before .before .before .multiplied .ensures (record { pat = g; word = stepped (c .before .before .before .before .before .before .before .before .before .before .before .before .before .before .before .before .before .args .p .now) (c .before .before .before .before .before .before .before .before .before .before .before .before .before .before .before .before .before .args .plus) (c .before .before .before .before .before .before .before .before .before .before .before .classify .ensures) (c .before .before .before .before .before .before .before .before .before .making-of .ensures) (c .before .before .before .before .before .before .before .enum-told .given .1); own-is = c .before .before .before .before .before .before .before .before .before .before .own-words .ensures }))
+    (λ c κs. (simp (length-take, length-drop) (omega (arith, one-word (form-of (c .before .before .before .before .before .before .before .classify .result)) (c .before .before .before .before .before .before .before .before .before .before .before .before .before .args .plus) (c .before .before .before .before .before .making-of .ensures) (c .before .before .before .enum-told4 .given .1) (λ z. omega (arith, z)) (c .before .before .before .before .before .before .own-words .ensures), c .before .before .before .before .before .before .before .before .before .before .before .before .before .pre .0, some-word (c .before .before .before .before .before .before .before .before .before .before .before .before .before .pre .1))), neg-given (c .before .before .before .before .before .before .before .before .before .before .before .before .before .pre .1) (stepped (c .before .before .before .before .before .before .before .before .before .before .before .before .before .args .p .now) (c .before .before .before .before .before .before .before .before .before .before .before .before .before .args .plus) (c .before .before .before .before .before .before .before .classify .ensures) (c .before .before .before .before .before .making-of .ensures) (c .before .before .before .enum-told4 .given .1)) _ (one-word (form-of (c .before .before .before .before .before .before .before .classify .result)) (c .before .before .before .before .before .before .before .before .before .before .before .before .before .args .plus) (c .before .before .before .before .before .making-of .ensures) (c .before .before .before .enum-told4 .given .1) (λ z. omega (arith, z)) (c .before .before .before .before .before .before .own-words .ensures))))
+    (λ c. omega (arith, neg-made (c .before .before .before .before .before .before .before .before .before .before .before .before .before .before .before .before .before .before .before .pre .1) (stepped (c .before .before .before .before .before .before .before .before .before .before .before .before .before .before .before .before .before .before .before .args .p .now) (c .before .before .before .before .before .before .before .before .before .before .before .before .before .before .before .before .before .before .before .args .plus) (c .before .before .before .before .before .before .before .before .before .before .before .before .before .classify .ensures) (c .before .before .before .before .before .before .before .before .before .before .before .making-of .ensures) (c .before .before .before .before .before .before .before .before .before .enum-told4 .given .1)) _ (one-word (form-of (c .before .before .before .before .before .before .before .before .before .before .before .before .before .classify .result)) (c .before .before .before .before .before .before .before .before .before .before .before .before .before .before .before .before .before .before .before .args .plus) (c .before .before .before .before .before .before .before .before .before .before .before .making-of .ensures) (c .before .before .before .before .before .before .before .before .before .enum-told4 .given .1) (λ z. omega (arith, z)) (c .before .before .before .before .before .before .before .before .before .before .before .before .own-words .ensures)) (c .before .before .before .before .before .rows .result .used) (c .before .before .before .before .before .rows .result .read) (c .before .before .before .before .before .rows .last .1 .1 .1 .1 .1 .0) (c .before .before .before .before .before .rows .ensures) .1, c .before .before .before .before .before .before .before .before .before .before .before .before .before .before .before .before .before .before .before .good))
+    (λ c. search needs)
+    (λ c κs. range-given (c .before .before .before .before .before .before .before .before .before .before .before .pre .1) (stepped (c .before .before .before .before .before .before .before .before .before .before .before .args .p .now) (c .before .before .before .before .before .before .before .before .before .before .before .args .plus) (c .before .before .before .before .before .classify .ensures) (c .before .before .before .making-of .ensures) (c .before .enum-told5 .given .1)))
     (λ c. omega arith)
     (λ c. omega arith)
-    (λ c g. c .before .before .before .before .added .ensures (record { pat = g; word = stepped (c .before .before .before .before .before .before .before .before .before .before .before .before .before .before .before .before .before .args .p .now) (c .before .before .before .before .before .before .before .before .before .before .before .before .before .before .before .before .before .args .plus) (c .before .before .before .before .before .before .before .before .before .before .before .classify .ensures) (c .before .before .before .before .before .before .before .before .before .making-of .ensures) (c .before .before .before .before .before .before .before .enum-told2 .given .1); own-is = c .before .before .before .before .before .before .before .before .before .before .own-words .ensures }))
+    (λ c g. c .before .before .before .before .head-rows .ensures (record { pat = g; word = stepped (c .before .before .before .before .before .before .before .before .before .before .before .before .before .before .before .before .before .before .args .p .now) (c .before .before .before .before .before .before .before .before .before .before .before .before .before .before .before .before .before .before .args .plus) (c .before .before .before .before .before .before .before .before .before .before .before .before .classify .ensures) (c .before .before .before .before .before .before .before .before .before .before .making-of .ensures) (c .before .before .before .before .before .before .before .before .s .given .1); own-is = one-word (form-of (c .before .before .before .before .before .before .before .before .before .before .before .before .classify .result)) (c .before .before .before .before .before .before .before .before .before .before .before .before .before .before .before .before .before .before .args .plus) (c .before .before .before .before .before .before .before .before .before .before .making-of .ensures) (c .before .before .before .before .before .before .before .before .s .given .1) (λ z. omega (arith, z)) (c .before .before .before .before .before .before .before .before .before .before .before .own-words .ensures) }))
+    (λ c. omega arith)
+    (λ c. omega arith)
+    (λ c g. c .before .before .before .before .multiplied .ensures (record { pat = g; word = stepped (c .before .before .before .before .before .before .before .before .before .before .before .before .before .before .before .before .before .args .p .now) (c .before .before .before .before .before .before .before .before .before .before .before .before .before .before .before .before .before .args .plus) (c .before .before .before .before .before .before .before .before .before .before .before .classify .ensures) (c .before .before .before .before .before .before .before .before .before .making-of .ensures) (c .before .before .before .before .before .before .before .enum-told .given .1); own-is = one-word (form-of (c .before .before .before .before .before .before .before .before .before .before .before .classify .result)) (c .before .before .before .before .before .before .before .before .before .before .before .before .before .before .before .before .before .args .plus) (c .before .before .before .before .before .before .before .before .before .making-of .ensures) (c .before .before .before .before .before .before .before .enum-told .given .1) (λ z. omega (arith, z)) (c .before .before .before .before .before .before .before .before .before .before .own-words .ensures) }))
+    (λ c. omega arith)
+    (λ c. omega arith)
+    (λ c g. c .before .before .before .before .added .ensures (record { pat = g; word = stepped (c .before .before .before .before .before .before .before .before .before .before .before .before .before .before .before .before .before .args .p .now) (c .before .before .before .before .before .before .before .before .before .before .before .before .before .before .before .before .before .args .plus) (c .before .before .before .before .before .before .before .before .before .before .before .classify .ensures) (c .before .before .before .before .before .before .before .before .before .making-of .ensures) (c .before .before .before .before .before .before .before .enum-told2 .given .1); own-is = one-word (form-of (c .before .before .before .before .before .before .before .before .before .before .before .classify .result)) (c .before .before .before .before .before .before .before .before .before .before .before .before .before .before .before .before .before .args .plus) (c .before .before .before .before .before .before .before .before .before .making-of .ensures) (c .before .before .before .before .before .before .before .enum-told2 .given .1) (λ z. omega (arith, z)) (c .before .before .before .before .before .before .before .before .before .before .own-words .ensures) }))
     (λ c. c .before .before .one .kept .1 .1 .1 .0)
-    (λ c g. one-made g _ (stepped (c .before .before .before .before .before .before .before .before .before .before .before .before .before .before .before .args .p .now) (c .before .before .before .before .before .before .before .before .before .before .before .before .before .before .before .args .plus) (c .before .before .before .before .before .before .before .before .before .classify .ensures) (c .before .before .before .before .before .before .before .making-of .ensures) (c .before .before .before .before .before .s2 .given .1)) (c .before .before .one .result) _ (c .before .before .one .last .1 .1 .1 .0) (c .before .before .before .before .before .before .before .before .own-words .ensures) (c .before .before .one .ensures))
+    (λ c g. one-made g _ (stepped (c .before .before .before .before .before .before .before .before .before .before .before .before .before .before .before .args .p .now) (c .before .before .before .before .before .before .before .before .before .before .before .before .before .before .before .args .plus) (c .before .before .before .before .before .before .before .before .before .classify .ensures) (c .before .before .before .before .before .before .before .making-of .ensures) (c .before .before .before .before .before .s2 .given .1)) (c .before .before .one .result) _ (c .before .before .one .last .1 .1 .1 .0) (one-word (form-of (c .before .before .before .before .before .before .before .before .before .classify .result)) (c .before .before .before .before .before .before .before .before .before .before .before .before .before .before .before .args .plus) (c .before .before .before .before .before .before .before .making-of .ensures) (c .before .before .before .before .before .s2 .given .1) (λ z. omega (arith, z)) (c .before .before .before .before .before .before .before .before .own-words .ensures)) (c .before .before .one .ensures))
     (λ c. c .before .before .nothing .kept .0)
-    (λ c g. none-made g (stepped (c .before .before .before .before .before .before .before .before .before .before .before .before .before .before .args .p .now) (c .before .before .before .before .before .before .before .before .before .before .before .before .before .before .args .plus) (c .before .before .before .before .before .before .before .before .classify .ensures) (c .before .before .before .before .before .before .making-of .ensures) (c .before .before .before .before .enum-told3 .given .1)) (c .before .before .nothing .result) _ (c .before .before .nothing .last .0) (c .before .before .before .before .before .before .before .own-words .ensures) (c .before .before .nothing .ensures))
+    (λ c g. none-made g (stepped (c .before .before .before .before .before .before .before .before .before .before .before .before .before .before .args .p .now) (c .before .before .before .before .before .before .before .before .before .before .before .before .before .before .args .plus) (c .before .before .before .before .before .before .before .before .classify .ensures) (c .before .before .before .before .before .before .making-of .ensures) (c .before .before .before .before .enum-told3 .given .1)) (c .before .before .nothing .result) _ (c .before .before .nothing .last .0) (one-word (form-of (c .before .before .before .before .before .before .before .before .classify .result)) (c .before .before .before .before .before .before .before .before .before .before .before .before .before .before .args .plus) (c .before .before .before .before .before .before .making-of .ensures) (c .before .before .before .before .enum-told3 .given .1) (λ z. omega (arith, z)) (c .before .before .before .before .before .before .before .own-words .ensures)) (c .before .before .nothing .ensures))
     (λ c. c .before .before .before .before .before .rows .kept .1 .1 .1 .1 .1 .0)
     (λ c. c .before .before .before .before .before .rows .kept .1 .1 .1 .1 .1 .1 .0)
-    (λ c g. neg-made g (stepped (c .before .before .before .before .before .before .before .before .before .before .before .before .before .before .before .before .before .before .before .args .p .now) (c .before .before .before .before .before .before .before .before .before .before .before .before .before .before .before .before .before .before .before .args .plus) (c .before .before .before .before .before .before .before .before .before .before .before .before .before .classify .ensures) (c .before .before .before .before .before .before .before .before .before .before .before .making-of .ensures) (c .before .before .before .before .before .before .before .before .before .enum-told4 .given .1)) _ (c .before .before .before .before .before .before .before .before .before .before .before .before .own-words .ensures) (c .before .before .before .before .before .rows .result .used) (c .before .before .before .before .before .rows .result .read) (c .before .before .before .before .before .rows .last .1 .1 .1 .1 .1 .0) (c .before .before .before .before .before .rows .ensures) .0))
+    (λ c g. neg-made g (stepped (c .before .before .before .before .before .before .before .before .before .before .before .before .before .before .before .before .before .before .before .args .p .now) (c .before .before .before .before .before .before .before .before .before .before .before .before .before .before .before .before .before .before .before .args .plus) (c .before .before .before .before .before .before .before .before .before .before .before .before .before .classify .ensures) (c .before .before .before .before .before .before .before .before .before .before .before .making-of .ensures) (c .before .before .before .before .before .before .before .before .before .enum-told4 .given .1)) _ (one-word (form-of (c .before .before .before .before .before .before .before .before .before .before .before .before .before .classify .result)) (c .before .before .before .before .before .before .before .before .before .before .before .before .before .before .before .before .before .before .before .args .plus) (c .before .before .before .before .before .before .before .before .before .before .before .making-of .ensures) (c .before .before .before .before .before .before .before .before .before .enum-told4 .given .1) (λ z. omega (arith, z)) (c .before .before .before .before .before .before .before .before .before .before .before .before .own-words .ensures)) (c .before .before .before .before .before .rows .result .used) (c .before .before .before .before .before .rows .result .read) (c .before .before .before .before .before .rows .last .1 .1 .1 .1 .1 .0) (c .before .before .before .before .before .rows .ensures) .0)
+    (λ c. c .before .before .range-rows .kept .1 .1 .1 .1 .0)
+    (λ c g. range-made g (stepped (c .before .before .before .before .before .before .before .before .before .before .before .before .before .before .args .p .now) (c .before .before .before .before .before .before .before .before .before .before .before .before .before .before .args .plus) (c .before .before .before .before .before .before .before .before .classify .ensures) (c .before .before .before .before .before .before .making-of .ensures) (c .before .before .before .before .enum-told5 .given .1)) (c .before .before .range-rows .result) _ (c .before .before .range-rows .last .1 .1 .1 .1 .0) (c .before .before .before .before .before .before .before .own-words .ensures ∙ ap own-words (c .before .before .before .before .before .before .before .before .classify .ensures)) (c .before .before .range-rows .ensures)))

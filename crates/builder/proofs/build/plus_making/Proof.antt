@@ -21,6 +21,7 @@ plus-making-spec =
     (λ c. search needs)
     (λ c κs. let h = rw (c .before .w2 .given .1) at (c .before .before .before .pre) in omega arith)
     (λ c. search needs)
+    (λ c. search needs)
     (λ c. rw (c .before .w .given .1))
     (λ c. search needs)
     (λ c. search needs)
@@ -28,4 +29,5 @@ plus-making-spec =
     (λ c. search needs)
     (λ c. search needs)
     (λ c. rw (c .before .before .w2 .given .1) (ap One (only-one 0 (c .before .before .w2 .given .0 .0) _ _ (omega arith) (c .only .ensures))))
+    (λ c. search needs)
     (λ c. search needs))

@@ -1,14 +1,11 @@
 -- `cell::cell::combine` meets its contract: one turn takes the first column of both rows. Assumes nothing.
-use mathlib.Core.Path.{_≡_, refl, sym, ap, _∙_}
-use Prim.Native.Nat.{ℕ, _+_, _-_, _≤_, _<_}
+use mathlib.Core.Path.{_≡_, refl, _∙_}
+use Prim.Native.Nat.{_+_, _-_}
 use native.Mathlib.Omega.{arith}
-use borrow.Author.Needs.{needs}
-use lib.ListN.{length, length-set}
-use Rattle.cell.specs.Cursor.{look-at, next-of, join-of, opens-of, put-cell}
+use lib.ListN.{length}
+use Rattle.cell.proofs.CursorFacts.{joined-fits}
 use Rattle.cell.proofs.LockstepFacts.{Given, as-cells, of-rows}
-use Rattle.sets.proofs.ListSets.{no-members}
-use Rattle.sets.proofs.SetLaws.{size-some}
-use Rattle.cell.specs.Lockstep.{GivenRows, Result}
+use Rattle.sets.proofs.HeadSets.{empty-is, some-is}
 use Rattle.cell.proofs.Turns.{Now, Front, Turned, start, finish, front, known-of, out-of, turned, again, less}
 use Rattle.cell.proofs.cell.combine.Statement.{statement}
 use Rattle.cell.proofs.cell.combine.Tie as tie
@@ -40,7 +37,7 @@ turned-of c g =
     let l = t .before .loop in
     turned g (l .x) (l .y) (l .n) (l .left) (l .out) (c .before .before .before .before .before .before .before .before .before .look .result) (c .before .before .before .before .before .before .before .before .look2 .result) (c .before .before .before .before .before .before .before .join .result)
     (c .before .before .before .before .before .before .before .before .before .look .ensures) (c .before .before .before .before .before .before .before .before .look2 .ensures) (c .before .before .before .before .before .before .before .join .ensures) (t .loop-test .taken)
-    (c .opens .result) (l .inv .1 g) (size-some _ _ (c .before .before .before .before .before .before .size .ensures .0) (c .before .before .before .before .before .if1 .left)) (c .opens .ensures)
+    (c .opens .result) (l .inv .1 g) (some-is _ (c .before .before .before .before .before .before .is-empty .ensures) (c .before .before .before .before .before .if1 .left)) (c .opens .ensures)
 
 loop-holds : tie.Need-loop-holds Inv-loop μ-loop
 loop-holds c = (refl, λ g. start g)
@@ -60,10 +57,17 @@ returns c = λ r.
     let t = c .before .before .before .before .before in
     let l = t .before .loop in
     of-rows r _ _ _ (out-of g (l .x) (l .y) (l .n) (l .left) (l .out) (c .before .before .before .before .look .result) (c .before .before .before .look2 .result) (c .before .before .join .result)
-    (c .before .before .before .before .look .ensures) (c .before .before .before .look2 .ensures) (c .before .before .join .ensures) (t .loop-test .taken) (l .inv .1 g) (no-members _ (c .before .size .ensures .1 (c .if1 .taken))))
+    (c .before .before .before .before .look .ensures) (c .before .before .before .look2 .ensures) (c .before .before .join .ensures) (t .loop-test .taken) (l .inv .1 g) (empty-is _ (c .before .is-empty .ensures) (c .if1 .taken)))
 
 put-requires : tie.Need-put-requires Inv-loop μ-loop
-put-requires c κs = let t = c .before .before .before .before .before .before in omega (arith, in-front t .room, t .before .loop .inv .0)
+put-requires c κs =
+    let j = c .before .before .before in
+    let t = j .before .before .before in
+    let l = t .before .loop in
+    let e = t .before .before .before in (
+      omega (arith, in-front t .room, l .inv .0),
+      joined-fits (entry (t .before) .args .a .now) (entry (t .before) .args .b .now) (λ i. e .before .shared-slice-known2 .given i .fits) (λ i. e .shared-slice-known3 .given i .fits) (l .x) (l .y) _ _ _ (j .before .before .look .ensures) (j .before .look2 .ensures) (j .join .ensures),
+    )
 
 add-n : tie.Need-add-n Inv-loop μ-loop
 add-n c = let t = turn-of c in omega (arith, in-front t .room, entry (t .before) .good .1 .1 .1 .0)

@@ -1,7 +1,6 @@
 -- `cell::cell::opens` meets its contract. Assumes nothing.
 use borrow.Author.Needs.{needs}
 use borrow.Author.Tests.{lt-ltb, le-ltb}
-use mathlib.Core.Path.{_∙_}
 use native.Mathlib.Omega.{arith}
 use Rattle.cell.proofs.cell.opens.Statement.{statement}
 use Rattle.cell.proofs.cell.opens.Tie as tie

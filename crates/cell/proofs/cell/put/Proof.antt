@@ -1,62 +1,32 @@
-use lib.ListN.{length-set}
+-- `cell::cell::put` meets its contract: the words of a set are those of its number. Assumes nothing.
+use mathlib.Core.Path.{ap₂, sym}
+use Prim.Native.Nat.{ℕ, _+_}
 use native.Mathlib.Omega.{arith}
 use borrow.Author.Needs.{needs}
+use lib.ListN.{length-set, set}
+use Rattle.sets.proofs.HeadSets.{low-is, high-is}
+use Rattle.cell.specs.Cell.{first-word}
 use Rattle.cell.proofs.cell.put.Statement.{statement}
 use Rattle.cell.proofs.cell.put.Tie as tie
-use Rattle.cell.proofs.cell.put.Reads as reads
-use Rattle.cell.proofs.cell.put.Lts as lts
 
--- src/lib.rt:115:5
-mul-out : tie.Need-mul-out
-mul-out c = search needs
-
--- src/lib.rt:115:5
-slice-write-out : tie.Need-slice-write-out
-slice-write-out c = search needs
-
--- src/lib.rt:116:9
-add-out : tie.Need-add-out
-add-out c = search needs
-
--- src/lib.rt:116:5
-mul-out-2 : tie.Need-mul-out-2
-mul-out-2 c = search needs
-
--- src/lib.rt:116:5
-slice-write-out-2 : tie.Need-slice-write-out-2
-slice-write-out-2 c = simp length-set (omega arith)
-
--- src/lib.rt:117:9
-add-out-2 : tie.Need-add-out-2
-add-out-2 c = search needs
-
--- src/lib.rt:117:5
-mul-out-3 : tie.Need-mul-out-3
-mul-out-3 c = search needs
-
--- src/lib.rt:117:5
-slice-write-out-3 : tie.Need-slice-write-out-3
-slice-write-out-3 c = simp length-set (omega arith)
-
--- src/lib.rt:111:1
-same-length : tie.Need-same-length
-same-length c = search needs
-
--- src/lib.rt:111:1
 returns : tie.Need-returns
-returns c = search needs
+returns c =
+    let g = c .before .before .before .args in
+    ap₂ (λ (a b : ℕ). set (set (set (g .out .now) (g .at) (first-word (g .c .tag) (g .c .vars))) (g .at + 1) a) (g .at + 2) b) (sym (low-is (g .c .allowed) (omega arith))) (sym (high-is (g .c .allowed) (omega arith)))
 
 pub put-spec : {M : Type 1} → statement M
 put-spec =
     tie.close
     (tie.spec
-    mul-out
-    slice-write-out
-    add-out
-    mul-out-2
-    slice-write-out-2
-    add-out-2
-    mul-out-3
-    slice-write-out-3
-    same-length
+    (λ c. search needs)
+    (λ c. search needs)
+    (λ c. search needs)
+    (λ c. search needs)
+    (λ c. search needs)
+    (λ c. search needs)
+    (λ c. simp length-set (omega arith))
+    (λ c. search needs)
+    (λ c. search needs)
+    (λ c. simp length-set (omega arith))
+    (λ c. search needs)
     returns)

@@ -1,8 +1,6 @@
 -- `cell::cell::step` meets its contract. Assumes nothing.
 use borrow.Author.Needs.{needs}
-use native.Mathlib.Omega.{arith}
-use borrow.Author.Tests.{lt-ltb, le-ltb, lt-leb, le-leb}
-use mathlib.Core.Path.{_≡_, refl, sym, ap, _∙_}
+use borrow.Author.Tests.{lt-ltb, le-ltb}
 use Rattle.cell.proofs.cell.step.Statement.{statement}
 use Rattle.cell.proofs.cell.step.Tie as tie
 

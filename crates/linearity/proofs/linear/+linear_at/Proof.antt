@@ -8,7 +8,7 @@ use Rattle.pattern.specs.Given.{Opens}
 use Rattle.pattern.specs.Linearity.{side-of}
 use Rattle.pattern.specs.Word.{form-of}
 use Rattle.linearity.proofs.LinearSteps.{Left, start, part-open, part-le, turn, turn-not, turn-joint, ends-linear}
-use Rattle.pattern.proofs.Opened.{word-there}
+use Rattle.pattern.proofs.Opened.{word-there, own-in, some-own}
 use Rattle.pattern.proofs.ReadSteps.{small, variable-small}
 use borrow.Fn.Kinds.{In}
 use borrow.Fn.PlainCycle.{Measures, is, falls, and}
@@ -74,7 +74,7 @@ pub +linear-at-spec : {M : Type 1} → statement M
     (λ c κs. tt)
     (λ c κs. variable-small (getD (c .before .before .before .before .before .before .before .args .p .now) 0 0) _ (c .before .before .before .classify .ensures))
     (λ c κs. tt)
-    (λ c. (omega arith, omega (arith, c .own-words .ensures), rw (c .own-words .ensures) (word-there (c .before .before .before .before .before .before .before .before .before .pre .1)), λ g. rw (c .own-words .ensures) (start (side-of (c .before .before .before .before .before .before .before .before .before .args .plus)) g (form-of (c .before .before .before .before .before .classify .result)) (c .before .before .before .before .before .classify .ensures) (side-of (c .before .before .before .side-behind .result)) (c .before .before .joint-of .result) (c .before .own-set .result) (c .before .before .before .before .parts .result) (c .before .before .before .side-behind .ensures) (c .before .before .joint-of .ensures) (c .before .own-set .ensures) (c .before .before .before .before .parts .ensures))))
+    (λ c. (omega arith, omega (arith, c .own-words .ensures, some-own (form-of (c .before .before .before .before .before .classify .result))), rw (c .own-words .ensures) (own-in (c .before .before .before .before .before .before .before .before .before .pre .1) (form-of (c .before .before .before .before .before .classify .result)) (c .before .before .before .before .before .classify .ensures)), λ g. rw (c .own-words .ensures) (start (side-of (c .before .before .before .before .before .before .before .before .before .args .plus)) g (form-of (c .before .before .before .before .before .classify .result)) (c .before .before .before .before .before .classify .ensures) (side-of (c .before .before .before .side-behind .result)) (c .before .before .joint-of .result) (c .before .own-set .result) (c .before .before .before .before .parts .result) (c .before .before .before .side-behind .ensures) (c .before .before .joint-of .ensures) (c .before .own-set .ensures) (c .before .before .before .before .parts .ensures))))
     (λ c. omega arith)
     (λ c. omega arith)
     (λ c. omega arith)

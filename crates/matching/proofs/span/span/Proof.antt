@@ -6,6 +6,9 @@ use lib.ListN.{length, getD}
 use Rattle.signature.proofs.KnownFacts.{long}
 use Rattle.pattern.specs.Given.{Opens}
 use Rattle.pattern.specs.Pattern.{pattern-code}
+use Rattle.pattern.specs.Read.{form}
+use Rattle.pattern.specs.Word.{form-of}
+use Rattle.pattern.proofs.Opened.{some-own}
 use Rattle.pattern.proofs.ReadSteps.{small}
 use Rattle.matching.proofs.SpanLaws.{Left, left-start, left-done, left-next}
 use Rattle.matching.proofs.span.span.Statement.{statement}
@@ -24,8 +27,8 @@ span-spec =
     Inv-loop
     μ-loop
     (λ c o. left-start o)
-    (λ c. let s = left-next (c .before .before .before .before .pre .known) _ refl (c .loop-test .taken) (c .before .loop .inv (c .before .before .before .before .pre)) in omega (arith, s .below, s .within, c .before .before .before .before .good))
-    (λ c. let s = left-next (c .before .before .before .before .before .pre .known) _ refl (c .before .loop-test .taken) (c .before .before .loop .inv (c .before .before .before .before .before .pre)) in omega (arith, s .below, s .within))
+    (λ c. let s = left-next (c .before .before .before .before .pre .known) _ refl (c .loop-test .taken) (c .before .loop .inv (c .before .before .before .before .pre)) in omega (arith, s .below, s .within, some-own (form (getD (c .before .before .before .before .args .p .now) (c .before .loop .at) 0)), c .before .before .before .before .good))
+    (λ c. let s = left-next (c .before .before .before .before .before .pre .known) _ refl (c .before .loop-test .taken) (c .before .before .loop .inv (c .before .before .before .before .before .pre)) in omega (arith, s .below, s .within, some-own (form (getD (c .before .before .before .before .before .args .p .now) (c .before .before .loop .at) 0))))
     (λ c κs. tt)
     (λ c. omega arith)
     (λ c κs. (long (c .before .before .before .before .before .before .pre .known), small (getD (c .before .before .before .before .before .before .args .p .now) (c .before .before .before .loop .at) 0) _ (c .classify .ensures)))
@@ -33,6 +36,6 @@ span-spec =
     (λ c. let s = left-next (c .before .before .before .before .before .before .before .pre .known) _ (c .before .classify .ensures) (c .before .before .before .loop-test .taken) (c .before .before .before .before .loop .inv (c .before .before .before .before .before .before .before .pre)) in omega (arith, s .few, c .parts .ensures, c .before .before .before .before .before .before .before .good))
     (λ c κs. tt)
     (λ c. let s = left-next (c .before .before .before .before .before .before .before .before .pre .known) _ (c .before .before .classify .ensures) (c .before .before .before .before .loop-test .taken) (c .before .before .before .before .before .loop .inv (c .before .before .before .before .before .before .before .before .pre)) in omega (arith, c .own-words .ensures, s .below, s .within, c .before .before .before .before .before .before .before .before .good))
-    (λ c. let s = left-next (c .before .before .before .before .before .before .before .before .pre .known) _ (c .before .before .classify .ensures) (c .before .before .before .before .loop-test .taken) (c .before .before .before .before .before .loop .inv (c .before .before .before .before .before .before .before .before .pre)) in omega (arith, c .own-words .ensures, s .below, s .within))
+    (λ c. let s = left-next (c .before .before .before .before .before .before .before .before .pre .known) _ (c .before .before .classify .ensures) (c .before .before .before .before .loop-test .taken) (c .before .before .before .before .before .loop .inv (c .before .before .before .before .before .before .before .before .pre)) in omega (arith, c .own-words .ensures, s .below, s .within, some-own (form-of (c .before .before .classify .result))))
     (λ c o. rw (c .before .parts .ensures, c .own-words .ensures) (left-next (o .known) _ (c .before .before .classify .ensures) (c .before .before .before .before .loop-test .taken) (c .before .before .before .before .before .loop .inv o) .next))
     (λ c o. left-done (c .loop-test .left) (c .before .loop .inv o)))

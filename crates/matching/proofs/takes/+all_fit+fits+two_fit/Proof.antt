@@ -6,9 +6,10 @@ use lib.ListN.{length, length-take, length-drop}
 use borrow.Author.Needs.{needs}
 use Rattle.signature.proofs.KnownFacts.{long}
 use Rattle.pattern.specs.Decide.{decide, is-fit}
-use Rattle.pattern.specs.Word.{form-of}
-use Rattle.matching.proofs.FitSteps.{wild-fits, absurd-fails, var-fits, answer, not-answer, first-answers, second-answers, all-stop, all-go}
-use Rattle.matching.proofs.GivenSteps.{opens, starts, word-there, value-there, pattern-long, value-long, never, not-of, and-of, or-of, first-of, second-of, head-known, head-no, head-of, none-left, uncons}
+use Rattle.pattern.specs.Word.{form-of, own-words}
+use Rattle.pattern.proofs.Opened.{own-in}
+use Rattle.matching.proofs.FitSteps.{wild-fits, absurd-fails, var-fits, answer, not-answer, first-answers, second-answers, all-stop, all-go, range-answer}
+use Rattle.matching.proofs.GivenSteps.{opens, starts, word-there, value-there, pattern-long, value-long, never, not-of, and-of, or-of, first-of, second-of, head-known, head-no, head-of, none-left, uncons, range-there}
 use borrow.Fn.Kinds.{In}
 use borrow.Fn.PlainCycle.{Measures, is, falls, and}
 use Rattle.matching.proofs.takes.all_fit.Reads as all-fit
@@ -23,6 +24,7 @@ use Rattle.matching.proofs.takes.+all_fit+fits+two_fit.Lts-two_fit as t
 use Rattle.matching.proofs.span.span.Reads as span-span-reads
 use Rattle.pattern.proofs.token.classify.Reads as classify-reads
 use Rattle.pattern.proofs.token.own_words.Reads as own-words-reads
+use Rattle.pattern.proofs.range.within.Reads as within-reads
 use Rattle.booking.proofs.walk.span.Reads as booking-span-reads
 use Rattle.signature.proofs.decoded.arity_of.Reads as arity-of-reads
 use Rattle.matching.proofs.takes.+all_fit+fits+two_fit.{statement}
@@ -97,6 +99,8 @@ pub +all-fit+fits+two-fit-spec : {M : Type 1} → statement M
       two-fit.Post,
       fits-below t,
       fits.Post,
+      within-reads.Asked,
+      within-reads.Learnt,
     )
     (fits-at t)
     fits.Post
@@ -108,44 +112,50 @@ pub +all-fit+fits+two-fit-spec : {M : Type 1} → statement M
     (λ c g i. sym (ap is-fit (head-no g (c .before .before .before .w .given .0 .0) (sym (c .before .before .before .before .before .before .classify .ensures) ∙ ap form-of (c .before .before .before .w .given .1)) (c .if1 .taken) i)))
     (λ c. omega (arith, head-known (c .before .before .before .before .before .before .before .before .before .before .before .pre .1) (c .before .before .before .w .given .0 .0) (sym (c .before .before .before .before .before .before .classify .ensures) ∙ ap form-of (c .before .before .before .w .given .1))))
     (λ c κs. (long (c .before .before .before .before .before .before .before .before .before .before .before .pre .1 .known), head-known (c .before .before .before .before .before .before .before .before .before .before .before .pre .1) (c .before .before .before .w .given .0 .0) (sym (c .before .before .before .before .before .before .classify .ensures) ∙ ap form-of (c .before .before .before .w .given .1))))
-    (λ c. omega (arith, c .before .before .before .before .before .before .own-words .ensures, word-there (c .before .before .before .before .before .before .before .before .before .before .before .before .pre .1)))
-    (λ c. omega (arith, c .before .before .before .before .before .before .own-words .ensures, word-there (c .before .before .before .before .before .before .before .before .before .before .before .before .pre .1)))
-    (λ c. omega (arith, c .before .before .before .before .before .before .own-words .ensures, word-there (c .before .before .before .before .before .before .before .before .before .before .before .before .pre .1)))
+    (λ c. omega (arith, c .before .before .before .before .before .before .own-words .ensures, own-in (opens (c .before .before .before .before .before .before .before .before .before .before .before .before .pre .1)) (form-of (c .before .before .before .before .before .before .before .classify .result)) (c .before .before .before .before .before .before .before .classify .ensures), c .before .before .before .before .before .before .before .before .before .before .before .before .good))
+    (λ c. omega (arith, c .before .before .before .before .before .before .own-words .ensures, own-in (opens (c .before .before .before .before .before .before .before .before .before .before .before .before .pre .1)) (form-of (c .before .before .before .before .before .before .before .classify .result)) (c .before .before .before .before .before .before .before .classify .ensures), c .before .before .before .before .before .before .before .before .before .before .before .before .good))
+    (λ c. omega (arith, c .before .before .before .before .before .before .own-words .ensures, own-in (opens (c .before .before .before .before .before .before .before .before .before .before .before .before .pre .1)) (form-of (c .before .before .before .before .before .before .before .classify .result)) (c .before .before .before .before .before .before .before .classify .ensures), c .before .before .before .before .before .before .before .before .before .before .before .before .good))
     (λ c. omega arith)
     (λ c. omega (arith, value-there (c .before .before .before .before .before .before .before .before .before .before .before .before .before .pre .1)))
     (λ c. omega (arith, value-there (c .before .before .before .before .before .before .before .before .before .before .before .before .before .pre .1)))
     (λ c. omega arith)
-    (λ c κs. rw (c .before .before .before .before .before .before .before .before .own-words .ensures) (simp length-take (omega (arith, c .before .before .before .before .before .before .before .before .before .before .before .before .before .before .pre .0, word-there (c .before .before .before .before .before .before .before .before .before .before .before .before .before .before .pre .1))), head-of (c .before .before .before .before .before .before .before .before .before .before .before .before .before .before .pre .1) (c .before .before .before .before .before .before .w .given .0 .0) (sym (c .before .before .before .before .before .before .before .before .before .classify .ensures) ∙ ap form-of (c .before .before .before .before .before .before .w .given .1)) _ (c .before .before .arity-of .ensures) (c .before .before .before .if1 .left) .0))
+    (λ c κs. rw (c .before .before .before .before .before .before .before .before .own-words .ensures ∙ ap (λ x. own-words (form-of x)) (c .before .before .before .before .before .before .w .given .1)) (simp length-take (omega (arith, c .before .before .before .before .before .before .before .before .before .before .before .before .before .before .pre .0, word-there (c .before .before .before .before .before .before .before .before .before .before .before .before .before .before .pre .1))), head-of (c .before .before .before .before .before .before .before .before .before .before .before .before .before .before .pre .1) (c .before .before .before .before .before .before .w .given .0 .0) (sym (c .before .before .before .before .before .before .before .before .before .classify .ensures) ∙ ap form-of (c .before .before .before .before .before .before .w .given .1)) _ (c .before .before .arity-of .ensures) (c .before .before .before .if1 .left) .0))
     (λ c. search needs)
-    (λ c. omega (arith, c .before .before .own-words .ensures, word-there (c .before .before .before .before .before .before .before .before .pre .1)))
-    (λ c. omega (arith, c .before .before .own-words .ensures, word-there (c .before .before .before .before .before .before .before .before .pre .1)))
-    (λ c. omega (arith, c .before .before .own-words .ensures, word-there (c .before .before .before .before .before .before .before .before .pre .1)))
+    (λ c. omega (arith, c .before .before .own-words .ensures, own-in (opens (c .before .before .before .before .before .before .before .before .pre .1)) (form-of (c .before .before .before .classify .result)) (c .before .before .before .classify .ensures), c .before .before .before .before .before .before .before .before .good))
+    (λ c. omega (arith, c .before .before .own-words .ensures, own-in (opens (c .before .before .before .before .before .before .before .before .pre .1)) (form-of (c .before .before .before .classify .result)) (c .before .before .before .classify .ensures), c .before .before .before .before .before .before .before .before .good))
+    (λ c. omega (arith, c .before .before .own-words .ensures, own-in (opens (c .before .before .before .before .before .before .before .before .pre .1)) (form-of (c .before .before .before .classify .result)) (c .before .before .before .classify .ensures), c .before .before .before .before .before .before .before .before .good))
     (λ c. omega arith)
-    (λ c κs. rw (c .before .before .before .own-words .ensures) (simp length-take (omega (arith, c .before .before .before .before .before .before .before .before .before .pre .0, word-there (c .before .before .before .before .before .before .before .before .before .pre .1))), and-of (c .before .before .before .before .before .before .before .before .before .pre .1) (sym (c .before .before .before .before .classify .ensures) ∙ ap form-of (c .before .enum-told .given .1)) .0))
+    (λ c κs. rw (c .before .before .before .own-words .ensures ∙ ap (λ x. own-words (form-of x)) (c .before .enum-told .given .1)) (simp length-take (omega (arith, c .before .before .before .before .before .before .before .before .before .pre .0, word-there (c .before .before .before .before .before .before .before .before .before .pre .1))), and-of (c .before .before .before .before .before .before .before .before .before .pre .1) (sym (c .before .before .before .before .classify .ensures) ∙ ap form-of (c .before .enum-told .given .1)) .0))
     (λ c. search needs)
-    (λ c. omega (arith, c .before .before .own-words .ensures, word-there (c .before .before .before .before .before .before .before .before .pre .1)))
-    (λ c. omega (arith, c .before .before .own-words .ensures, word-there (c .before .before .before .before .before .before .before .before .pre .1)))
-    (λ c. omega (arith, c .before .before .own-words .ensures, word-there (c .before .before .before .before .before .before .before .before .pre .1)))
+    (λ c. omega (arith, c .before .before .own-words .ensures, own-in (opens (c .before .before .before .before .before .before .before .before .pre .1)) (form-of (c .before .before .before .classify .result)) (c .before .before .before .classify .ensures), c .before .before .before .before .before .before .before .before .good))
+    (λ c. omega (arith, c .before .before .own-words .ensures, own-in (opens (c .before .before .before .before .before .before .before .before .pre .1)) (form-of (c .before .before .before .classify .result)) (c .before .before .before .classify .ensures), c .before .before .before .before .before .before .before .before .good))
+    (λ c. omega (arith, c .before .before .own-words .ensures, own-in (opens (c .before .before .before .before .before .before .before .before .pre .1)) (form-of (c .before .before .before .classify .result)) (c .before .before .before .classify .ensures), c .before .before .before .before .before .before .before .before .good))
     (λ c. omega arith)
-    (λ c κs. rw (c .before .before .before .own-words .ensures) (simp length-take (omega (arith, c .before .before .before .before .before .before .before .before .before .pre .0, word-there (c .before .before .before .before .before .before .before .before .before .pre .1))), or-of (c .before .before .before .before .before .before .before .before .before .pre .1) (sym (c .before .before .before .before .classify .ensures) ∙ ap form-of (c .before .enum-told2 .given .1)) .0))
+    (λ c κs. rw (c .before .before .before .own-words .ensures ∙ ap (λ x. own-words (form-of x)) (c .before .enum-told2 .given .1)) (simp length-take (omega (arith, c .before .before .before .before .before .before .before .before .before .pre .0, word-there (c .before .before .before .before .before .before .before .before .before .pre .1))), or-of (c .before .before .before .before .before .before .before .before .before .pre .1) (sym (c .before .before .before .before .classify .ensures) ∙ ap form-of (c .before .enum-told2 .given .1)) .0))
     (λ c. search needs)
     (λ c. search needs)
     (λ c. search needs)
-    (λ c. omega (arith, c .before .before .own-words .ensures, word-there (c .before .before .before .before .before .before .before .before .pre .1)))
-    (λ c. omega (arith, c .before .before .own-words .ensures, word-there (c .before .before .before .before .before .before .before .before .pre .1)))
-    (λ c. omega (arith, c .before .before .own-words .ensures, word-there (c .before .before .before .before .before .before .before .before .pre .1)))
+    (λ c. omega (arith, c .before .before .own-words .ensures, own-in (opens (c .before .before .before .before .before .before .before .before .pre .1)) (form-of (c .before .before .before .classify .result)) (c .before .before .before .classify .ensures), c .before .before .before .before .before .before .before .before .good))
+    (λ c. omega (arith, c .before .before .own-words .ensures, own-in (opens (c .before .before .before .before .before .before .before .before .pre .1)) (form-of (c .before .before .before .classify .result)) (c .before .before .before .classify .ensures), c .before .before .before .before .before .before .before .before .good))
+    (λ c. omega (arith, c .before .before .own-words .ensures, own-in (opens (c .before .before .before .before .before .before .before .before .pre .1)) (form-of (c .before .before .before .classify .result)) (c .before .before .before .classify .ensures), c .before .before .before .before .before .before .before .before .good))
     (λ c. omega arith)
-    (λ c κs. rw (c .before .before .before .own-words .ensures) (simp length-take (omega (arith, c .before .before .before .before .before .before .before .before .before .pre .0, word-there (c .before .before .before .before .before .before .before .before .before .pre .1))), not-of (c .before .before .before .before .before .before .before .before .before .pre .1) (sym (c .before .before .before .before .classify .ensures) ∙ ap form-of (c .before .enum-told5 .given .1)) .0))
+    (λ c κs. rw (c .before .before .before .own-words .ensures ∙ ap (λ x. own-words (form-of x)) (c .before .enum-told5 .given .1)) (simp length-take (omega (arith, c .before .before .before .before .before .before .before .before .before .pre .0, word-there (c .before .before .before .before .before .before .before .before .before .pre .1))), not-of (c .before .before .before .before .before .before .before .before .before .pre .1) (sym (c .before .before .before .before .classify .ensures) ∙ ap form-of (c .before .enum-told5 .given .1)) .0))
     (λ c. search needs)
     (λ c. search needs)
-    (λ c g i. let h = head-of g (c .before .before .before .before .before .before .before .w .given .0 .0) (sym (c .before .before .before .before .before .before .before .before .before .before .classify .ensures) ∙ ap form-of (c .before .before .before .before .before .before .before .w .given .1)) _ (c .before .before .before .arity-of .ensures) (c .before .before .before .before .if1 .left) in answer _ _ _ (h .1 i) ((rw (c .before .before .before .before .before .before .before .before .before .own-words .ensures) at (c .all-fit .ensures)) (h .0) _))
-    (λ c g i. let h = and-of g (sym (c .before .before .before .before .before .classify .ensures) ∙ ap form-of (c .before .before .enum-told .given .1)) in answer _ _ _ (h .1 i) ((rw (c .before .before .before .before .own-words .ensures) at (c .two-fit .ensures)) (h .0) i))
-    (λ c g i. let h = or-of g (sym (c .before .before .before .before .before .classify .ensures) ∙ ap form-of (c .before .before .enum-told2 .given .1)) in answer _ _ _ (h .1 i) ((rw (c .before .before .before .before .own-words .ensures) at (c .two-fit2 .ensures)) (h .0) i))
+    (λ c. omega (arith, range-there (c .before .before .before .before .before .before .before .before .before .pre .1) (sym (c .before .before .before .before .classify .ensures) ∙ ap form-of (c .before .enum-told6 .given .1))))
+    (λ c. omega (arith, range-there (c .before .before .before .before .before .before .before .before .before .before .pre .1) (sym (c .before .before .before .before .before .classify .ensures) ∙ ap form-of (c .before .before .enum-told6 .given .1))))
+    (λ c. omega (arith, value-there (c .before .before .before .before .before .before .before .before .before .before .before .pre .1)))
+    (λ c κs. tt)
+    (λ c. search needs)
+    (λ c g i. let h = head-of g (c .before .before .before .before .before .before .before .w .given .0 .0) (sym (c .before .before .before .before .before .before .before .before .before .before .classify .ensures) ∙ ap form-of (c .before .before .before .before .before .before .before .w .given .1)) _ (c .before .before .before .arity-of .ensures) (c .before .before .before .before .if1 .left) in answer _ _ _ (h .1 i) ((rw (c .before .before .before .before .before .before .before .before .before .own-words .ensures ∙ ap (λ x. own-words (form-of x)) (c .before .before .before .before .before .before .before .w .given .1)) at (c .all-fit .ensures)) (h .0) _))
+    (λ c g i. let h = and-of g (sym (c .before .before .before .before .before .classify .ensures) ∙ ap form-of (c .before .before .enum-told .given .1)) in answer _ _ _ (h .1 i) ((rw (c .before .before .before .before .own-words .ensures ∙ ap (λ x. own-words (form-of x)) (c .before .before .enum-told .given .1)) at (c .two-fit .ensures)) (h .0) i))
+    (λ c g i. let h = or-of g (sym (c .before .before .before .before .before .classify .ensures) ∙ ap form-of (c .before .before .enum-told2 .given .1)) in answer _ _ _ (h .1 i) ((rw (c .before .before .before .before .own-words .ensures ∙ ap (λ x. own-words (form-of x)) (c .before .before .enum-told2 .given .1)) at (c .two-fit2 .ensures)) (h .0) i))
     (λ c g i. sym (ap is-fit (wild-fits g i (sym (c .before .before .before .classify .ensures) ∙ ap form-of (c .enum-told3 .given .1)))))
     (λ c g i. sym (ap is-fit (absurd-fails g i (sym (c .before .before .before .classify .ensures) ∙ ap form-of (c .enum-told4 .given .1)))))
-    (λ c g i. let h = not-of g (sym (c .before .before .before .before .before .classify .ensures) ∙ ap form-of (c .before .before .enum-told5 .given .1)) in not-answer (decide (h .0 .pattern) (h .0 .value) i) _ _ (h .1 i) ((rw (c .before .before .before .before .own-words .ensures) at (c .fits2 .ensures)) (h .0) i))
+    (λ c g i. let h = not-of g (sym (c .before .before .before .before .before .classify .ensures) ∙ ap form-of (c .before .before .enum-told5 .given .1)) in not-answer (decide (h .0 .pattern) (h .0 .value) i) _ _ (h .1 i) ((rw (c .before .before .before .before .own-words .ensures ∙ ap (λ x. own-words (form-of x)) (c .before .before .enum-told5 .given .1)) at (c .fits2 .ensures)) (h .0) i))
     (λ c g i. sym (ap is-fit (var-fits g i _ (sym (c .before .before .before .before .classify .ensures) ∙ ap form-of (c .before .w2 .given .1)))))
-    (λ c g i. never g (sym (c .before .before .before .classify .ensures) ∙ ap form-of (c .enum-told6 .given .1))))
+    (λ c g i. range-answer g (sym (c .before .before .before .before .before .before .before .classify .ensures) ∙ ap form-of (c .before .before .before .before .enum-told6 .given .1)) i _ (c .within .ensures))
+    (λ c g i. never g (sym (c .before .before .before .classify .ensures) ∙ ap form-of (c .enum-told7 .given .1))))
     λ t. two-fit-lts.spec
     (fits-below t, fits.Post, span-span-reads.Asked, span-span-reads.Learnt)
     (two-fit-at t)

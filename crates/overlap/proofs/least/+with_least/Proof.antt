@@ -1,18 +1,18 @@
 -- The proof of the cycle of calls {with_least}. The measure is the room that is left. Assumes nothing.
-use mathlib.Core.Path.{_≡_, refl, sym, _∙_}
+use mathlib.Core.Path.{_≡_, refl, _∙_}
 use Prim.Native.Nat.{ℕ, _+_, _-_, _<_, _≤_}
 use native.Mathlib.Omega.{arith}
 use lib.ListN.{length, length-take, length-drop, length-set}
 use Rattle.cell.proofs.Walk.{back, back-length}
 use Rattle.overlap.specs.Least.{GivenHead}
-use Rattle.overlap.proofs.LeastFacts.{Now, start, arity-here, tag-here, arity-small, argument-there, whole, given, turn, end}
+use Rattle.overlap.proofs.LeastFacts.{Now, start, arity-here, tag-here, constructor-here, arity-small, argument-there, whole, given, turn, end}
 use borrow.Fn.Kinds.{In}
 use borrow.Fn.PlainCycle.{Measures, is, falls, and}
 use Rattle.overlap.proofs.least.with_least.Reads as with-least
 use Rattle.overlap.proofs.least.with_least.Kinds as with-least-kinds
 use Rattle.overlap.proofs.least.+with_least.Lts-with_least as with-least-lts
 use Rattle.signature.proofs.decoded.argument_of.Reads as argument-of-reads
-use Rattle.signature.proofs.decoded.arity_of.Reads as arity-of-reads
+use Rattle.signature.proofs.decoded.head_arity.Reads as head-arity-reads
 use Rattle.signature.proofs.decoded.least_head_of.Reads as least-head-of-reads
 use Rattle.overlap.proofs.least.+with_least.{statement}
 use Rattle.overlap.proofs.least.+with_least.Tie.{close}
@@ -32,14 +32,14 @@ Inv-loop t c out₀ n at₀ j₀ out at j = (length out ≡ length out₀) × (1
 abbrev μ-loop : with-least-lts.MeasureT-loop
 μ-loop t c out₀ n at₀ j₀ out at j = n - j
 
-abbrev entry : {t : ℕ} → with-least-lts.At-loop (arity-of-reads.Asked, arity-of-reads.Learnt, argument-of-reads.Asked, argument-of-reads.Learnt, least-head-of-reads.Asked, least-head-of-reads.Learnt, with-least-below t, with-least.Post) (with-least-at t) with-least.Post Inv-loop μ-loop → with-least-lts.Start (arity-of-reads.Asked, arity-of-reads.Learnt, argument-of-reads.Asked, argument-of-reads.Learnt, least-head-of-reads.Asked, least-head-of-reads.Learnt, with-least-below t, with-least.Post) (with-least-at t) with-least.Post Inv-loop μ-loop
+abbrev entry : {t : ℕ} → with-least-lts.At-loop (head-arity-reads.Asked, head-arity-reads.Learnt, argument-of-reads.Asked, argument-of-reads.Learnt, least-head-of-reads.Asked, least-head-of-reads.Learnt, with-least-below t, with-least.Post) (with-least-at t) with-least.Post Inv-loop μ-loop → with-least-lts.Start (head-arity-reads.Asked, head-arity-reads.Learnt, argument-of-reads.Asked, argument-of-reads.Learnt, least-head-of-reads.Asked, least-head-of-reads.Learnt, with-least-below t, with-least.Post) (with-least-at t) with-least.Post Inv-loop μ-loop
 entry c = c .before .before .before .before
 
 -- an argument is left
-more : {t : ℕ} (c : with-least-lts.In-loop (arity-of-reads.Asked, arity-of-reads.Learnt, argument-of-reads.Asked, argument-of-reads.Learnt, least-head-of-reads.Asked, least-head-of-reads.Learnt, with-least-below t, with-least.Post) (with-least-at t) with-least.Post Inv-loop μ-loop) → let e = entry (c .before) in (g : GivenHead (e .args .t .now) (e .args .c) (e .args .out .now)) → c .before .loop .j < length (g .ks)
-more c g = omega (arith, c .loop-test .taken, c .before .before .arity-of .ensures, arity-here g)
+more : {t : ℕ} (c : with-least-lts.In-loop (head-arity-reads.Asked, head-arity-reads.Learnt, argument-of-reads.Asked, argument-of-reads.Learnt, least-head-of-reads.Asked, least-head-of-reads.Learnt, with-least-below t, with-least.Post) (with-least-at t) with-least.Post Inv-loop μ-loop) → let e = entry (c .before) in (g : GivenHead (e .args .t .now) (e .args .c) (e .args .out .now)) → c .before .loop .j < length (g .ks)
+more c g = omega (arith, c .loop-test .taken, c .before .before .head-arity .ensures, arity-here g)
 
-turned : {t : ℕ} (c : with-least-lts.After-slice-known2 (arity-of-reads.Asked, arity-of-reads.Learnt, argument-of-reads.Asked, argument-of-reads.Learnt, least-head-of-reads.Asked, least-head-of-reads.Learnt, with-least-below t, with-least.Post) (with-least-at t) with-least.Post Inv-loop μ-loop) → let l = c .before .before .before .before .before .before .before in let e = entry l in
+turned : {t : ℕ} (c : with-least-lts.After-slice-known2 (head-arity-reads.Asked, head-arity-reads.Learnt, argument-of-reads.Asked, argument-of-reads.Learnt, least-head-of-reads.Asked, least-head-of-reads.Learnt, with-least-below t, with-least.Post) (with-least-at t) with-least.Post Inv-loop μ-loop) → let l = c .before .before .before .before .before .before .before in let e = entry l in
     (g : GivenHead (e .args .t .now) (e .args .c) (e .args .out .now)) → Now g (l .loop .at + c .before .before .with-least .result) (l .loop .j + 1) (back (l .loop .out) (l .loop .at) (c .before .before .with-least .last .1 .1 .0))
 turned c g =
     let i = c .before .before .before .before .before .before in
@@ -47,10 +47,10 @@ turned c g =
     turn g (l .loop .at) (l .loop .j) (l .loop .out) (c .before .before .before .before .before .argument-of .result) (c .before .before .before .before .least-head-of .result) (c .before .before .with-least .result) (c .before .before .with-least .last .1 .1 .0)
     (l .loop .inv .4 g) (more i g) (c .before .before .before .before .before .argument-of .ensures) (c .before .before .before .before .least-head-of .ensures) (c .before .before .with-least .ensures)
 
-abbrev top : {t : ℕ} → with-least-lts.After-slice-known2 (arity-of-reads.Asked, arity-of-reads.Learnt, argument-of-reads.Asked, argument-of-reads.Learnt, least-head-of-reads.Asked, least-head-of-reads.Learnt, with-least-below t, with-least.Post) (with-least-at t) with-least.Post Inv-loop μ-loop → with-least-lts.At-loop (arity-of-reads.Asked, arity-of-reads.Learnt, argument-of-reads.Asked, argument-of-reads.Learnt, least-head-of-reads.Asked, least-head-of-reads.Learnt, with-least-below t, with-least.Post) (with-least-at t) with-least.Post Inv-loop μ-loop
+abbrev top : {t : ℕ} → with-least-lts.After-slice-known2 (head-arity-reads.Asked, head-arity-reads.Learnt, argument-of-reads.Asked, argument-of-reads.Learnt, least-head-of-reads.Asked, least-head-of-reads.Learnt, with-least-below t, with-least.Post) (with-least-at t) with-least.Post Inv-loop μ-loop → with-least-lts.At-loop (head-arity-reads.Asked, head-arity-reads.Learnt, argument-of-reads.Asked, argument-of-reads.Learnt, least-head-of-reads.Asked, least-head-of-reads.Learnt, with-least-below t, with-least.Post) (with-least-at t) with-least.Post Inv-loop μ-loop
 top c = c .before .before .before .before .before .before .before
 
-within : {t : ℕ} (c : with-least-lts.After-slice-known2 (arity-of-reads.Asked, arity-of-reads.Learnt, argument-of-reads.Asked, argument-of-reads.Learnt, least-head-of-reads.Asked, least-head-of-reads.Learnt, with-least-below t, with-least.Post) (with-least-at t) with-least.Post Inv-loop μ-loop) → let l = top c in let o = back (l .loop .out) (l .loop .at) (c .before .before .with-least .last .1 .1 .0) in
+within : {t : ℕ} (c : with-least-lts.After-slice-known2 (head-arity-reads.Asked, head-arity-reads.Learnt, argument-of-reads.Asked, argument-of-reads.Learnt, least-head-of-reads.Asked, least-head-of-reads.Learnt, with-least-below t, with-least.Post) (with-least-at t) with-least.Post Inv-loop μ-loop) → let l = top c in let o = back (l .loop .out) (l .loop .at) (c .before .before .with-least .last .1 .1 .0) in
     (length o ≡ length (entry l .args .out .now)) × (1 ≤ l .loop .at + c .before .before .with-least .result) × (l .loop .at + c .before .before .with-least .result ≤ length (entry l .args .out .now))
 within c = let g = entry (top c) .pre .1 in whole g _ _ _ (turned c g)
 
@@ -59,15 +59,15 @@ pub +with-least-spec : {M : Type 1} → statement M
     close
     μ-with-least
     λ t. with-least-lts.spec
-    (arity-of-reads.Asked, arity-of-reads.Learnt, argument-of-reads.Asked, argument-of-reads.Learnt, least-head-of-reads.Asked, least-head-of-reads.Learnt, with-least-below t, with-least.Post)
+    (head-arity-reads.Asked, head-arity-reads.Learnt, argument-of-reads.Asked, argument-of-reads.Learnt, least-head-of-reads.Asked, least-head-of-reads.Learnt, with-least-below t, with-least.Post)
     (with-least-at t)
     with-least.Post
     Inv-loop
     μ-loop
     (λ c κs. let g = c .before .before .pre .1 in (g .known .decoded .long, tag-here g))
-    (λ c. omega (arith, c .arity-of .ensures))
+    (λ c. omega (arith, c .head-arity .ensures))
     (λ c. let g = c .before .before .before .pre .1 in (refl, omega arith, omega (arith, g .room), omega arith, λ g. start g))
-    (λ c κs. let g = entry (c .before) .pre .1 in (g .known .decoded .long, tag-here g, omega (arith, more c g, arity-small g)))
+    (λ c κs. let g = entry (c .before) .pre .1 in (g .known .decoded .long, constructor-here g (c .before .loop .j) (more c g), omega (arith, more c g, arity-small g)))
     (λ c. let g = entry (c .before .before) .pre .1 in omega (arith, argument-there g (c .before .before .loop .j) (more (c .before) g), c .argument-of .ensures))
     (λ c κs. let g = entry (c .before .before) .pre .1 in (g .known .decoded .long, omega (arith, argument-there g (c .before .before .loop .j) (more (c .before) g), c .argument-of .ensures)))
     (λ c. let l = c .before .before .before in omega (arith, l .loop .inv .2, entry l .good))
@@ -90,4 +90,4 @@ pub +with-least-spec : {M : Type 1} → statement M
     ))
     (λ c. let l = c .before in omega (arith, l .loop .inv .0, l .loop .inv .1, l .loop .inv .2))
     (λ c. length-set (c .before .loop .out) 0 _ ∙ c .before .loop .inv .0)
-    (λ c g. let l = c .before in end g (l .loop .at) (l .loop .j) (l .loop .out) (l .loop .inv .4 g) (omega (arith, c .loop-test .left, l .before .arity-of .ensures, arity-here g)))
+    (λ c g. let l = c .before in end g (l .loop .at) (l .loop .j) (l .loop .out) (l .loop .inv .4 g) (omega (arith, c .loop-test .left, l .before .head-arity .ensures, arity-here g)))

@@ -1,9 +1,9 @@
 -- `overlap::least::lowest_value` meets its contract. Assumes nothing.
-use mathlib.Core.Path.{ap, _∙_}
+use mathlib.Core.Path.{ap}
 use Prim.Native.Nat.{ℕ, _+_}
 use native.Mathlib.Omega.{arith}
 use borrow.Author.Needs.{needs}
-use Rattle.overlap.proofs.LeastFacts.{tag-here}
+use Rattle.overlap.proofs.LeastFacts.{word-here}
 use Rattle.overlap.proofs.PlaceFacts.{some-allowed, kind-small, head-given, placed}
 use Rattle.overlap.proofs.least.lowest_value.Statement.{statement}
 use Rattle.overlap.proofs.least.lowest_value.Tie as tie
@@ -11,7 +11,7 @@ use Rattle.overlap.proofs.least.lowest_value.Tie as tie
 add-c : tie.Need-add-c
 add-c c =
     let g = c .before .before .before .before .pre in
-    omega (arith, tag-here (head-given g (c .before .first-of .result + c .lowest .result) (c .lowest .result) (c .lowest .ensures) (ap (λ (n : ℕ). n + c .lowest .result) (c .before .first-of .ensures))))
+    omega (arith, word-here (head-given g (c .before .first-of .result + c .lowest .result) (c .lowest .result) (c .lowest .ensures) (ap (λ (n : ℕ). n + c .lowest .result) (c .before .first-of .ensures))))
 
 with-least-requires : tie.Need-with-least-requires
 with-least-requires c κs =

@@ -1,10 +1,9 @@
 -- `overlap::pair::rows_meet` meets its contract. Assumes nothing.
-use Prim.Native.Nat.{ℕ, _+_, _-_, _≤_}
+use Prim.Native.Nat.{_+_, _-_, _≤_}
 use native.Mathlib.Omega.{arith}
 use lib.ListN.{length}
 use Rattle.cell.proofs.Turns.{Front}
-use Rattle.sets.proofs.ListSets.{no-members}
-use Rattle.sets.proofs.SetLaws.{size-some}
+use Rattle.sets.proofs.HeadSets.{empty-is, some-is}
 use Rattle.overlap.specs.Pair.{TwoRows}
 use Rattle.overlap.proofs.Lockstep.{Now, Step, given, begin, all-met, in-front, known-here, none-met, few-left, step}
 use Rattle.overlap.proofs.pair.rows_meet.Statement.{statement}
@@ -35,7 +34,7 @@ few c =
     let l = t .before .loop in
     let j = c .before .before .before in
     few-left (entry (t .before) .pre) (l .x) (l .y) (l .left) (here (t .before)) (t .loop-test .taken) (j .before .before .look .result) (j .before .look2 .result) (j .join .result)
-    (j .before .before .look .ensures) (j .before .look2 .ensures) (j .join .ensures) (c .opens .result) (size-some _ _ (c .before .before .size .ensures .0) (c .before .if1 .left)) (c .opens .ensures)
+    (j .before .before .look .ensures) (j .before .look2 .ensures) (j .join .ensures) (c .opens .result) (some-is _ (c .before .before .is-empty .ensures) (c .before .if1 .left)) (c .opens .ensures)
 
 stepped : (c : tie.After-next2 Inv-loop μ-loop) → let t = turn-of (c .before .before) in let e = entry (t .before) in let l = t .before .loop in
     (g : TwoRows (e .args .t .now) (e .args .a .now) (e .args .b .now)) → Step g (l .x) (l .y) (l .left) (c .before .before .opens .result) (c .before .next .result) (c .next2 .result)
@@ -45,7 +44,7 @@ stepped c g =
     let l = t .before .loop in
     let j = o .before .before .before in
     step g (l .x) (l .y) (l .left) (l .inv g) (t .loop-test .taken) (j .before .before .look .result) (j .before .look2 .result) (j .join .result)
-    (j .before .before .look .ensures) (j .before .look2 .ensures) (j .join .ensures) (o .opens .result) (size-some _ _ (o .before .before .size .ensures .0) (o .before .if1 .left)) (o .opens .ensures)
+    (j .before .before .look .ensures) (j .before .look2 .ensures) (j .join .ensures) (o .opens .result) (some-is _ (o .before .before .is-empty .ensures) (o .before .if1 .left)) (o .opens .ensures)
     (c .before .next .result) (c .next2 .result) (c .before .next .ensures) (c .next2 .ensures)
 
 returns : tie.Need-returns Inv-loop μ-loop
@@ -54,7 +53,7 @@ returns c = λ g.
     let t = j .before .before .before in
     let l = t .before .loop in
     none-met g (l .x) (l .y) (l .left) (l .inv g) (t .loop-test .taken) (j .before .before .look .result) (j .before .look2 .result) (j .join .result)
-    (j .before .before .look .ensures) (j .before .look2 .ensures) (j .join .ensures) (no-members _ (c .before .size .ensures .1 (c .if1 .taken)))
+    (j .before .before .look .ensures) (j .before .look2 .ensures) (j .join .ensures) (empty-is _ (c .before .is-empty .ensures) (c .if1 .taken))
 
 opens-requires : tie.Need-opens-requires Inv-loop μ-loop
 opens-requires c κs =

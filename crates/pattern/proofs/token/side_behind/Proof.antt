@@ -21,6 +21,8 @@ side-behind-spec =
     (λ c. search needs)
     (λ c. search needs)
     (λ c. search needs)
+    (λ c. search needs)
     (λ c. rw (c .enum-told5 .given .1) (other-side (c .before .before .args .plus)))
+    (λ c. search needs)
     (λ c. search needs)
     (λ c. search needs))

@@ -6,8 +6,9 @@ use lib.ListN.{length, getD}
 use borrow.Author.Needs.{needs}
 use Rattle.signature.proofs.Booleans.{not-true, not-false}
 use Rattle.pattern.specs.Word.{form-of}
+use Rattle.pattern.proofs.Opened.{some-own}
 use Rattle.pattern.proofs.ReadSteps.{small}
-use Rattle.reading.proofs.Steps.{Left, few-parts, empty, refused, start, end-le, next, next-bad, turns-end}
+use Rattle.reading.proofs.Steps.{Left, few-parts, kind-small, kind-there, empty, refused, cut-short, start, end-le, next, next-bad, turns-end}
 use borrow.Fn.Kinds.{In}
 use borrow.Fn.PlainCycle.{Measures, is, falls, and}
 use Rattle.reading.proofs.read.read_one.Reads as read-one
@@ -58,28 +59,29 @@ pub +read-one-spec : {M : Type 1} → statement M
     (λ c. empty (c .before .before .before .args .t .now) (c .before .before .before .args .k) (c .before .before .before .args .p .now) (c .if1 .taken))
     (λ c. omega arith)
     (λ c κs. tt)
-    (λ c κs. (c .before .before .before .before .before .pre .1 .decoded .long, small (getD (c .before .before .before .before .before .args .p .now) 0 0) _ (c .classify .ensures)))
-    (λ c. refused (c .before .before .before .before .before .before .before .args .t .now) (c .before .before .before .before .before .before .before .args .k) (c .before .before .before .before .before .before .before .args .p .now) (form-of (c .before .before .classify .result)) (omega arith) (c .before .before .classify .ensures) (sym (c .before .may-begin .ensures) ∙ not-true _ (c .if2 .taken)))
-    (λ c κs. (c .before .before .before .before .before .before .before .pre .1 .decoded .long, small (getD (c .before .before .before .before .before .before .before .args .p .now) 0 0) _ (c .before .before .classify .ensures)))
+    (λ c κs. (c .before .before .before .before .before .pre .1 .0 .decoded .long, small (getD (c .before .before .before .before .before .args .p .now) 0 0) _ (c .classify .ensures), kind-small (c .before .before .before .before .before .args .t .now) (c .before .before .before .before .before .pre .1 .0) (c .before .before .before .before .before .args .k) (c .before .before .before .before .before .pre .1 .1)))
+    (λ c. refused (c .before .before .before .before .before .before .before .args .t .now) (c .before .before .before .before .before .before .before .args .k) (c .before .before .before .before .before .before .before .args .p .now) (form-of (c .before .before .classify .result)) (c .before .before .before .before .before .before .before .pre .1 .1) (omega arith) (c .before .before .classify .ensures) (sym (c .before .may-begin .ensures) ∙ not-true _ (c .if2 .taken)))
+    (λ c κs. (c .before .before .before .before .before .before .before .pre .1 .0 .decoded .long, small (getD (c .before .before .before .before .before .before .before .args .p .now) 0 0) _ (c .before .before .classify .ensures)))
     (λ c. omega arith)
     (λ c κs. tt)
-    (λ c. (omega (arith, c .own-words .ensures), omega (arith, c .own-words .ensures), omega arith, rw (c .own-words .ensures) (start (c .before .before .before .before .before .before .before .before .before .args .t .now) (c .before .before .before .before .before .before .before .before .before .args .k) (c .before .before .before .before .before .before .before .before .before .args .p .now) (form-of (c .before .before .before .before .classify .result)) (omega arith) (c .before .before .before .before .classify .ensures))))
+    (λ c. cut-short (c .before .before .before .before .before .before .before .before .before .before .args .t .now) (c .before .before .before .before .before .before .before .before .before .before .args .k) (c .before .before .before .before .before .before .before .before .before .before .args .p .now) (form-of (c .before .before .before .before .before .classify .result)) (omega arith) (c .before .before .before .before .before .classify .ensures) (omega (arith, c .before .own-words .ensures, c .if3 .taken)))
+    (λ c. (omega (arith, c .before .own-words .ensures, some-own (form-of (c .before .before .before .before .before .classify .result))), omega (arith, c .if3 .left), omega arith, rw (c .before .own-words .ensures) (start (c .before .before .before .before .before .before .before .before .before .before .args .t .now) (c .before .before .before .before .before .before .before .before .before .before .args .k) (c .before .before .before .before .before .before .before .before .before .before .args .p .now) (form-of (c .before .before .before .before .before .classify .result)) (omega arith) (c .before .before .before .before .before .classify .ensures) (omega (arith, c .before .own-words .ensures, c .if3 .left)))))
     (λ c. omega arith)
     (λ c. omega arith)
     (λ c. omega arith)
     (λ c. omega arith)
-    (λ c κs. (c .before .before .before .before .before .before .before .before .before .before .before .before .pre .1 .decoded .long, small (getD (c .before .before .before .before .before .before .before .before .before .before .before .before .args .p .now) 0 0) _ (c .before .before .before .before .before .before .before .classify .ensures), omega (arith, c .before .before .before .before .parts .ensures, few-parts (c .before .before .before .before .before .before .before .before .before .before .before .before .args .t .now) (c .before .before .before .before .before .before .before .before .before .before .before .before .pre .1) (form-of (c .before .before .before .before .before .before .before .classify .result)) (c .before .before .before .before .before .before .before .before .before .before .before .before .args .k) (sym (c .before .before .before .before .before .before .may-begin .ensures) ∙ not-false _ (c .before .before .before .before .before .if2 .left)))))
-    (λ c κs. (omega (arith, c .before .read-one-arg .given .2), c .before .before .before .before .before .before .before .before .before .before .before .before .before .pre .1))
+    (λ c κs. (c .before .before .before .before .before .before .before .before .before .before .before .before .before .pre .1 .0 .decoded .long, small (getD (c .before .before .before .before .before .before .before .before .before .before .before .before .before .args .p .now) 0 0) _ (c .before .before .before .before .before .before .before .before .classify .ensures), omega (arith, c .before .before .before .before .before .parts .ensures, few-parts (c .before .before .before .before .before .before .before .before .before .before .before .before .before .args .t .now) (c .before .before .before .before .before .before .before .before .before .before .before .before .before .pre .1 .0) (form-of (c .before .before .before .before .before .before .before .before .classify .result)) (c .before .before .before .before .before .before .before .before .before .before .before .before .before .args .k) (c .before .before .before .before .before .before .before .before .before .before .before .before .before .pre .1 .1) (sym (c .before .before .before .before .before .before .before .may-begin .ensures) ∙ not-false _ (c .before .before .before .before .before .before .if2 .left)))))
+    (λ c κs. (omega (arith, c .before .read-one-arg .given .2), (c .before .before .before .before .before .before .before .before .before .before .before .before .before .before .pre .1 .0, rw (c .part-kind .ensures) (kind-there (c .before .before .before .before .before .before .before .before .before .before .before .before .before .before .args .t .now) (c .before .before .before .before .before .before .before .before .before .before .before .before .before .before .pre .1 .0) (form-of (c .before .before .before .before .before .before .before .before .before .classify .result)) (c .before .before .before .before .before .before .before .before .before .before .before .before .before .before .args .k) (c .before .before .before .loop .j) (c .before .before .before .before .before .before .before .before .before .before .before .before .before .before .pre .1 .1) (sym (c .before .before .before .before .before .before .before .before .may-begin .ensures) ∙ not-false _ (c .before .before .before .before .before .before .before .if2 .left)) (omega (arith, c .before .before .loop-test .taken, c .before .before .before .before .before .before .parts .ensures))))))
     (λ c. search needs)
     (λ c. search needs)
-    (λ c. let l = c .before .before .before .before .before .before .loop in next-bad (c .before .before .before .before .before .before .before .before .before .before .before .before .before .before .before .before .args .t .now) (c .before .before .before .before .before .before .before .before .before .before .before .before .before .before .before .before .args .k) (form-of (c .before .before .before .before .before .before .before .before .before .before .before .classify .result)) (c .before .before .before .before .before .before .before .before .before .before .before .before .before .before .before .before .args .p .now) (l .at) (l .j) _ (c .before .before .before .before .before .before .before .before .parts .ensures) (c .before .before .before .part-kind .result) _ (c .before .before .before .before .before .loop-test .taken) (omega arith) (l .inv .0) (l .inv .1) (c .before .before .before .part-kind .ensures) (c .before .before .read-one .ensures) (c .enum-told .given .1) (l .inv .3) (sym (c .before .before .before .before .before .before .before .before .before .before .may-begin .ensures) ∙ not-false _ (c .before .before .before .before .before .before .before .before .before .if2 .left)))
-    (λ c. let l = c .before .before .before .before .before .before .before .loop in let h = end-le (c .before .before .before .before .before .before .before .before .before .before .before .before .before .before .before .before .before .args .t .now) (c .before .before .before .before .before .before .before .before .before .before .before .before .before .before .before .before .before .args .k) (form-of (c .before .before .before .before .before .before .before .before .before .before .before .before .classify .result)) (c .before .before .before .before .before .before .before .before .before .before .before .before .before .before .before .before .before .args .p .now) (l .at) (l .j) _ (c .before .before .before .before .before .before .before .before .before .parts .ensures) (c .before .m .given .0 .0) (c .before .before .before .before .part-kind .result) _ (l .inv .1) (c .before .before .before .before .before .before .before .before .before .before .before .before .before .before .before .before .before .pre .1) (c .before .before .before .read-one .ensures) (c .before .m .given .1) in omega arith)
+    (λ c. let l = c .before .before .before .before .before .before .loop in next-bad (c .before .before .before .before .before .before .before .before .before .before .before .before .before .before .before .before .before .args .t .now) (c .before .before .before .before .before .before .before .before .before .before .before .before .before .before .before .before .before .args .k) (form-of (c .before .before .before .before .before .before .before .before .before .before .before .before .classify .result)) (c .before .before .before .before .before .before .before .before .before .before .before .before .before .before .before .before .before .args .p .now) (l .at) (l .j) _ (c .before .before .before .before .before .before .before .before .before .parts .ensures) (c .before .before .before .part-kind .result) _ (c .before .before .before .before .before .loop-test .taken) (omega arith) (l .inv .0) (l .inv .1) (c .before .before .before .part-kind .ensures) (c .before .before .read-one .ensures) (c .enum-told .given .1) (l .inv .3) (c .before .before .before .before .before .before .before .before .before .before .before .before .before .before .before .before .before .pre .1 .1) (sym (c .before .before .before .before .before .before .before .before .before .before .before .may-begin .ensures) ∙ not-false _ (c .before .before .before .before .before .before .before .before .before .before .if2 .left)))
+    (λ c. let l = c .before .before .before .before .before .before .before .loop in let h = end-le (c .before .before .before .before .before .before .before .before .before .before .before .before .before .before .before .before .before .before .args .t .now) (c .before .before .before .before .before .before .before .before .before .before .before .before .before .before .before .before .before .before .args .k) (form-of (c .before .before .before .before .before .before .before .before .before .before .before .before .before .classify .result)) (c .before .before .before .before .before .before .before .before .before .before .before .before .before .before .before .before .before .before .args .p .now) (l .at) (l .j) _ (c .before .before .before .before .before .before .before .before .before .before .parts .ensures) (c .before .m .given .0 .0) (c .before .before .before .before .part-kind .result) _ (l .inv .1) (c .before .before .before .before .before .before .before .before .before .before .before .before .before .before .before .before .before .before .pre .1 .0) (c .before .before .before .read-one .ensures) (c .before .m .given .1) in omega arith)
     (λ c. omega arith)
     (λ c. omega arith)
     (λ c. let l = c .before .before .before .before .before .before .before .loop in (
       omega arith,
-      end-le (c .before .before .before .before .before .before .before .before .before .before .before .before .before .before .before .before .before .args .t .now) (c .before .before .before .before .before .before .before .before .before .before .before .before .before .before .before .before .before .args .k) (form-of (c .before .before .before .before .before .before .before .before .before .before .before .before .classify .result)) (c .before .before .before .before .before .before .before .before .before .before .before .before .before .before .before .before .before .args .p .now) (l .at) (l .j) _ (c .before .before .before .before .before .before .before .before .before .parts .ensures) (c .before .m .given .0 .0) (c .before .before .before .before .part-kind .result) _ (l .inv .1) (c .before .before .before .before .before .before .before .before .before .before .before .before .before .before .before .before .before .pre .1) (c .before .before .before .read-one .ensures) (c .before .m .given .1),
+      end-le (c .before .before .before .before .before .before .before .before .before .before .before .before .before .before .before .before .before .before .args .t .now) (c .before .before .before .before .before .before .before .before .before .before .before .before .before .before .before .before .before .before .args .k) (form-of (c .before .before .before .before .before .before .before .before .before .before .before .before .before .classify .result)) (c .before .before .before .before .before .before .before .before .before .before .before .before .before .before .before .before .before .before .args .p .now) (l .at) (l .j) _ (c .before .before .before .before .before .before .before .before .before .before .parts .ensures) (c .before .m .given .0 .0) (c .before .before .before .before .part-kind .result) _ (l .inv .1) (c .before .before .before .before .before .before .before .before .before .before .before .before .before .before .before .before .before .before .pre .1 .0) (c .before .before .before .read-one .ensures) (c .before .m .given .1),
       omega arith,
-      next (c .before .before .before .before .before .before .before .before .before .before .before .before .before .before .before .before .before .args .t .now) (c .before .before .before .before .before .before .before .before .before .before .before .before .before .before .before .before .before .args .k) (form-of (c .before .before .before .before .before .before .before .before .before .before .before .before .classify .result)) (c .before .before .before .before .before .before .before .before .before .before .before .before .before .before .before .before .before .args .p .now) (l .at) (l .j) _ (c .before .before .before .before .before .before .before .before .before .parts .ensures) (c .before .m .given .0 .0) (c .before .before .before .before .part-kind .result) _ (c .before .before .before .before .before .before .loop-test .taken) (l .inv .0) (l .inv .1) (c .before .before .before .before .part-kind .ensures) (c .before .before .before .read-one .ensures) (c .before .m .given .1) (l .inv .3),
+      next (c .before .before .before .before .before .before .before .before .before .before .before .before .before .before .before .before .before .before .args .t .now) (c .before .before .before .before .before .before .before .before .before .before .before .before .before .before .before .before .before .before .args .k) (form-of (c .before .before .before .before .before .before .before .before .before .before .before .before .before .classify .result)) (c .before .before .before .before .before .before .before .before .before .before .before .before .before .before .before .before .before .before .args .p .now) (l .at) (l .j) _ (c .before .before .before .before .before .before .before .before .before .before .parts .ensures) (c .before .m .given .0 .0) (c .before .before .before .before .part-kind .result) _ (c .before .before .before .before .before .before .loop-test .taken) (l .inv .0) (l .inv .1) (c .before .before .before .before .part-kind .ensures) (c .before .before .before .read-one .ensures) (c .before .m .given .1) (l .inv .3),
     ))
-    (λ c. let l = c .before .loop in turns-end (c .before .before .before .before .before .before .before .before .before .before .before .args .t .now) (c .before .before .before .before .before .before .before .before .before .before .before .args .k) (form-of (c .before .before .before .before .before .before .classify .result)) (c .before .before .before .before .before .before .before .before .before .before .before .args .p .now) (l .at) (l .j) _ (c .before .before .before .parts .ensures) (c .loop-test .left) (omega arith) (l .inv .1) (l .inv .3) (sym (c .before .before .before .before .before .may-begin .ensures) ∙ not-false _ (c .before .before .before .before .if2 .left)))
+    (λ c. let l = c .before .loop in turns-end (c .before .before .before .before .before .before .before .before .before .before .before .before .args .t .now) (c .before .before .before .before .before .before .before .before .before .before .before .before .args .k) (form-of (c .before .before .before .before .before .before .before .classify .result)) (c .before .before .before .before .before .before .before .before .before .before .before .before .args .p .now) (l .at) (l .j) _ (c .before .before .before .before .parts .ensures) (c .loop-test .left) (omega arith) (l .inv .1) (l .inv .3) (c .before .before .before .before .before .before .before .before .before .before .before .before .pre .1 .1) (sym (c .before .before .before .before .before .before .may-begin .ensures) ∙ not-false _ (c .before .before .before .before .before .if2 .left)))

@@ -1,6 +1,6 @@
 -- `read::well_formed` meets its contract. Assumes nothing.
 use borrow.Author.Needs.{needs}
-use Rattle.reading.proofs.Steps.{too-long, whole-at, whole-bad}
+use Rattle.reading.proofs.Steps.{kind-zero, too-long, whole-at, whole-bad}
 use Rattle.reading.proofs.read.well_formed.Statement.{statement}
 use Rattle.reading.proofs.read.well_formed.Tie as tie
 
@@ -9,7 +9,7 @@ well-formed-spec =
     tie.close
     (tie.spec
     (λ c g. too-long _ (c .before .before .before .args .p .now) g (c .if1 .taken))
-    (λ c κs. search needs)
+    (λ c κs. (c .before .before .before .pre, kind-zero (c .before .before .before .args .t .now) (c .before .before .before .pre)))
     (λ c. search needs)
     (λ c. search needs)
     (λ c g. whole-at _ (c .before .before .before .before .before .before .before .args .p .now) g _ _ (c .before .before .before .before .if1 .left) (c .before .before .before .read-one .ensures) (c .before .e .given .1))

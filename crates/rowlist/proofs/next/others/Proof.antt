@@ -1,5 +1,6 @@
 -- `rowlist::next::others` meets its contract. Assumes nothing.
 use native.Mathlib.Omega.{arith}
+use Rattle.sets.specs.Heads.{number-of}
 use Rattle.rowlist.proofs.Others.{others-fit, skip-fits, left-fits, others-made}
 use Rattle.rowlist.proofs.next.others.Statement.{statement}
 use Rattle.rowlist.proofs.next.others.Tie as tie
@@ -16,9 +17,9 @@ others-spec = tie.close (tie.spec
     (λ c. omega (arith, skip-fits (c .before .before .before .before .before .before .before .before .before .before .before .before .pre) (c .before .before .before .before .before .before .before .copy .last .1 .1 .0) (c .before .before .before .before .before .before .before .copy .ensures) .1))
     (λ c. omega (arith, skip-fits (c .before .before .before .before .before .before .before .before .before .before .before .before .before .pre) (c .before .before .before .before .before .before .before .before .copy .last .1 .1 .0) (c .before .before .before .before .before .before .before .before .copy .ensures) .1))
     (λ c. omega arith)
-    (λ c κs. (left-fits (c .before .before .before .before .before .before .before .before .before .before .before .before .before .before .before .pre) (c .before .before .before .before .before .before .before .before .before .before .copy .last .1 .1 .0) (c .before .before .before .before .before .before .before .before .before .before .copy .ensures) (c .before .before .before .before .before .before .before .before .before .before .before .before .before .before .before .args .tag) (c .before .before .before .before .before .before .before .before .before .before .before .before .before .before .before .args .rest) (c .before .before .before .before .before .other-row .result) (c .before .before .before .before .before .other-row .ensures .0) .0, omega (arith, left-fits (c .before .before .before .before .before .before .before .before .before .before .before .before .before .before .before .pre) (c .before .before .before .before .before .before .before .before .before .before .copy .last .1 .1 .0) (c .before .before .before .before .before .before .before .before .before .before .copy .ensures) (c .before .before .before .before .before .before .before .before .before .before .before .before .before .before .before .args .tag) (c .before .before .before .before .before .before .before .before .before .before .before .before .before .before .before .args .rest) (c .before .before .before .before .before .other-row .result) (c .before .before .before .before .before .other-row .ensures .0) .1, c .before .before .before .before .before .other-row .kept .1 .1 .0)))
-    (λ c. omega (arith, left-fits (c .before .before .before .before .before .before .before .before .before .before .before .before .before .before .before .before .before .before .pre) (c .before .before .before .before .before .before .before .before .before .before .before .before .before .copy .last .1 .1 .0) (c .before .before .before .before .before .before .before .before .before .before .before .before .before .copy .ensures) (c .before .before .before .before .before .before .before .before .before .before .before .before .before .before .before .before .before .before .args .tag) (c .before .before .before .before .before .before .before .before .before .before .before .before .before .before .before .before .before .before .args .rest) (c .before .before .before .before .before .before .before .before .other-row .result) (c .before .before .before .before .before .before .before .before .other-row .ensures .0) .1, c .before .before .before .before .before .before .before .before .before .before .before .before .before .before .before .before .before .before .good))
-    (λ c. omega (arith, left-fits (c .before .before .before .before .before .before .before .before .before .before .before .before .before .before .before .before .before .before .pre) (c .before .before .before .before .before .before .before .before .before .before .before .before .before .copy .last .1 .1 .0) (c .before .before .before .before .before .before .before .before .before .before .before .before .before .copy .ensures) (c .before .before .before .before .before .before .before .before .before .before .before .before .before .before .before .before .before .before .args .tag) (c .before .before .before .before .before .before .before .before .before .before .before .before .before .before .before .before .before .before .args .rest) (c .before .before .before .before .before .before .before .before .other-row .result) (c .before .before .before .before .before .before .before .before .other-row .ensures .0) .2))
+    (λ c κs. (left-fits (c .before .before .before .before .before .before .before .before .before .before .before .before .before .before .before .pre) (c .before .before .before .before .before .before .before .before .before .before .copy .last .1 .1 .0) (c .before .before .before .before .before .before .before .before .before .before .copy .ensures) (c .before .before .before .before .before .before .before .before .before .before .before .before .before .before .before .args .tag) (number-of (c .before .before .before .before .before .before .before .before .before .before .before .before .before .before .before .args .rest)) (c .before .before .before .before .before .other-row .result) (c .before .before .before .before .before .other-row .ensures .0) .0, omega (arith, left-fits (c .before .before .before .before .before .before .before .before .before .before .before .before .before .before .before .pre) (c .before .before .before .before .before .before .before .before .before .before .copy .last .1 .1 .0) (c .before .before .before .before .before .before .before .before .before .before .copy .ensures) (c .before .before .before .before .before .before .before .before .before .before .before .before .before .before .before .args .tag) (number-of (c .before .before .before .before .before .before .before .before .before .before .before .before .before .before .before .args .rest)) (c .before .before .before .before .before .other-row .result) (c .before .before .before .before .before .other-row .ensures .0) .1, c .before .before .before .before .before .other-row .kept .1 .1 .0)))
+    (λ c. omega (arith, left-fits (c .before .before .before .before .before .before .before .before .before .before .before .before .before .before .before .before .before .before .pre) (c .before .before .before .before .before .before .before .before .before .before .before .before .before .copy .last .1 .1 .0) (c .before .before .before .before .before .before .before .before .before .before .before .before .before .copy .ensures) (c .before .before .before .before .before .before .before .before .before .before .before .before .before .before .before .before .before .before .args .tag) (number-of (c .before .before .before .before .before .before .before .before .before .before .before .before .before .before .before .before .before .before .args .rest)) (c .before .before .before .before .before .before .before .before .other-row .result) (c .before .before .before .before .before .before .before .before .other-row .ensures .0) .1, c .before .before .before .before .before .before .before .before .before .before .before .before .before .before .before .before .before .before .good))
+    (λ c. omega (arith, left-fits (c .before .before .before .before .before .before .before .before .before .before .before .before .before .before .before .before .before .before .pre) (c .before .before .before .before .before .before .before .before .before .before .before .before .before .copy .last .1 .1 .0) (c .before .before .before .before .before .before .before .before .before .before .before .before .before .copy .ensures) (c .before .before .before .before .before .before .before .before .before .before .before .before .before .before .before .before .before .before .args .tag) (number-of (c .before .before .before .before .before .before .before .before .before .before .before .before .before .before .before .before .before .before .args .rest)) (c .before .before .before .before .before .before .before .before .other-row .result) (c .before .before .before .before .before .before .before .before .other-row .ensures .0) .2))
     (λ c. omega arith)
     (λ c. omega arith)
-    (λ c g. others-made g (c .before .before .before .before .before .before .before .before .before .before .before .before .before .copy .last .1 .1 .0) (c .before .before .before .before .before .before .before .before .before .before .before .before .before .copy .ensures) (c .before .before .before .before .before .before .before .before .before .before .before .before .before .before .before .before .before .before .args .tag) (c .before .before .before .before .before .before .before .before .before .before .before .before .before .before .before .before .before .before .args .rest) (c .before .before .before .before .before .before .before .before .other-row .result) (c .before .before .before .before .before .before .before .before .other-row .last .1 .1 .0) (c .before .before .copy2 .last .1 .1 .0) (c .before .before .before .before .before .before .before .before .other-row .ensures) (c .before .before .copy2 .ensures)))
+    (λ c g. others-made g (c .before .before .before .before .before .before .before .before .before .before .before .before .before .copy .last .1 .1 .0) (c .before .before .before .before .before .before .before .before .before .before .before .before .before .copy .ensures) (c .before .before .before .before .before .before .before .before .before .before .before .before .before .before .before .before .before .before .args .tag) (number-of (c .before .before .before .before .before .before .before .before .before .before .before .before .before .before .before .before .before .before .args .rest)) (c .before .before .before .before .before .before .before .before .other-row .result) (c .before .before .before .before .before .before .before .before .other-row .last .1 .1 .0) (c .before .before .copy2 .last .1 .1 .0) (c .before .before .before .before .before .before .before .before .other-row .ensures) (c .before .before .copy2 .ensures)))

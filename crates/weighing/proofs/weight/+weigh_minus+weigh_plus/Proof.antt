@@ -7,7 +7,7 @@ use Rattle.pattern.specs.Given.{Opens}
 use Rattle.pattern.specs.Side.{plus, minus}
 use Rattle.weighing.specs.Weighing.{over-weight}
 use Rattle.pattern.specs.Word.{form-of}
-use Rattle.pattern.proofs.Opened.{word-there}
+use Rattle.pattern.proofs.Opened.{word-there, own-in, some-own}
 use Rattle.pattern.proofs.ReadSteps.{small}
 use Rattle.weighing.proofs.WeightSteps.{Left, start, start-low, behind-not, swap-is, swap-heavy, part-open, part-le, turn, turn-heavy, ends-heavy, ends-light}
 use borrow.Fn.Kinds.{In}
@@ -88,11 +88,11 @@ pub +weigh-minus+weigh-plus-spec : {M : Type 1} → statement M
     (λ c κs. tt)
     (λ c. search needs)
     (λ c. search needs)
-    (λ c. omega (arith, c .before .before .before .own-words .ensures, word-there (c .before .before .before .before .before .before .before .before .pre .1)))
-    (λ c. omega (arith, c .before .before .before .own-words .ensures, word-there (c .before .before .before .before .before .before .before .before .pre .1)))
-    (λ c. omega (arith, c .before .before .before .own-words .ensures, word-there (c .before .before .before .before .before .before .before .before .pre .1)))
-    (λ c. omega (arith, c .before .before .before .own-words .ensures, word-there (c .before .before .before .before .before .before .before .before .pre .1)))
-    (λ c κs. (omega (arith, c .before .before .before .before .own-words .ensures, c .weigh-plus-arg .given .2, word-there (c .before .before .before .before .before .before .before .before .before .pre .1)), rw (c .before .before .before .before .own-words .ensures) (behind-not minus (c .before .before .before .before .before .before .before .before .before .pre .1) (form-of (c .before .before .before .before .before .classify .result)) (c .before .before .before .before .before .classify .ensures) (c .before .before .before .minus-head .result) (c .before .before .before .minus-head .ensures) (c .before .enum-told .given .1))))
+    (λ c. omega (arith, c .before .before .before .own-words .ensures, own-in (c .before .before .before .before .before .before .before .before .pre .1) (form-of (c .before .before .before .before .classify .result)) (c .before .before .before .before .classify .ensures), c .before .before .before .before .before .before .before .before .good))
+    (λ c. omega (arith, c .before .before .before .own-words .ensures, own-in (c .before .before .before .before .before .before .before .before .pre .1) (form-of (c .before .before .before .before .classify .result)) (c .before .before .before .before .classify .ensures), c .before .before .before .before .before .before .before .before .good))
+    (λ c. omega (arith, c .before .before .before .own-words .ensures, own-in (c .before .before .before .before .before .before .before .before .pre .1) (form-of (c .before .before .before .before .classify .result)) (c .before .before .before .before .classify .ensures), c .before .before .before .before .before .before .before .before .good))
+    (λ c. omega (arith, c .before .before .before .own-words .ensures, own-in (c .before .before .before .before .before .before .before .before .pre .1) (form-of (c .before .before .before .before .classify .result)) (c .before .before .before .before .classify .ensures), c .before .before .before .before .before .before .before .before .good))
+    (λ c κs. (omega (arith, c .before .before .before .before .own-words .ensures, some-own (form-of (c .before .before .before .before .before .classify .result)), c .weigh-plus-arg .given .2, word-there (c .before .before .before .before .before .before .before .before .before .pre .1)), rw (c .before .before .before .before .own-words .ensures) (behind-not minus (c .before .before .before .before .before .before .before .before .before .pre .1) (form-of (c .before .before .before .before .before .classify .result)) (c .before .before .before .before .before .classify .ensures) (c .before .before .before .minus-head .result) (c .before .before .before .minus-head .ensures) (c .before .enum-told .given .1))))
     (λ c. search needs)
     (λ c. search needs)
     (λ c g. swap-heavy minus g (form-of (c .before .before .before .before .before .before .before .before .classify .result)) (c .before .before .before .before .before .before .before .before .classify .ensures) (c .before .before .before .before .before .before .minus-head .result) (c .before .before .before .before .before .before .minus-head .ensures) (c .before .before .before .before .enum-told .given .1) _ (rw (c .before .before .before .before .before .before .before .own-words .ensures) at (c .before .before .weigh-plus .ensures)) (c .enum-told2 .given .1))
@@ -101,8 +101,8 @@ pub +weigh-minus+weigh-plus-spec : {M : Type 1} → statement M
     (λ c κs. (c .before .before .before .before .before .before .before .before .before .pre .1 .known .decoded .long, small (getD (c .before .before .before .before .before .before .before .before .before .args .p .now) 0 0) _ (c .before .before .before .before .before .classify .ensures)))
     (λ c. (
       omega arith,
-      omega (arith, c .before .before .before .before .before .own-words .ensures),
-      rw (c .before .before .before .before .before .own-words .ensures) (word-there (c .before .before .before .before .before .before .before .before .before .before .pre .1)),
+      omega (arith, c .before .before .before .before .before .own-words .ensures, some-own (form-of (c .before .before .before .before .before .before .classify .result))),
+      rw (c .before .before .before .before .before .own-words .ensures) (own-in (c .before .before .before .before .before .before .before .before .before .before .pre .1) (form-of (c .before .before .before .before .before .before .classify .result)) (c .before .before .before .before .before .before .classify .ensures)),
       let h = start-low minus (c .before .before .before .before .before .before .before .before .before .before .pre .1) (form-of (c .before .before .before .before .before .before .classify .result)) (c .before .before .before .before .before .before .classify .ensures) (c .before .before .before .before .minus-head .result) (c .before .before .before .before .minus-head .ensures) (c .before .before .start .given .0 .0) (c .before .before .start .given .0 .1 .0) (c .before .before .start .given .1) in omega arith,
       λ g. rw (c .before .before .before .before .before .own-words .ensures) (start minus g (form-of (c .before .before .before .before .before .before .classify .result)) (c .before .before .before .before .before .before .classify .ensures) (c .before .before .before .before .minus-head .result) (c .before .before .before .before .minus-head .ensures) (c .before .before .start .given .0 .0) (c .parts .result) (c .before .before .start .given .0 .1 .0) (c .before .before .start .given .1) (c .parts .ensures)),
     ))
@@ -153,11 +153,11 @@ pub +weigh-minus+weigh-plus-spec : {M : Type 1} → statement M
     (λ c κs. tt)
     (λ c. search needs)
     (λ c. search needs)
-    (λ c. omega (arith, c .before .before .before .own-words .ensures, word-there (c .before .before .before .before .before .before .before .before .pre .1)))
-    (λ c. omega (arith, c .before .before .before .own-words .ensures, word-there (c .before .before .before .before .before .before .before .before .pre .1)))
-    (λ c. omega (arith, c .before .before .before .own-words .ensures, word-there (c .before .before .before .before .before .before .before .before .pre .1)))
-    (λ c. omega (arith, c .before .before .before .own-words .ensures, word-there (c .before .before .before .before .before .before .before .before .pre .1)))
-    (λ c κs. (omega (arith, c .before .before .before .before .own-words .ensures, c .weigh-minus-arg .given .2, word-there (c .before .before .before .before .before .before .before .before .before .pre .1)), rw (c .before .before .before .before .own-words .ensures) (behind-not plus (c .before .before .before .before .before .before .before .before .before .pre .1) (form-of (c .before .before .before .before .before .classify .result)) (c .before .before .before .before .before .classify .ensures) (c .before .before .before .plus-head .result) (c .before .before .before .plus-head .ensures) (c .before .enum-told .given .1))))
+    (λ c. omega (arith, c .before .before .before .own-words .ensures, own-in (c .before .before .before .before .before .before .before .before .pre .1) (form-of (c .before .before .before .before .classify .result)) (c .before .before .before .before .classify .ensures), c .before .before .before .before .before .before .before .before .good))
+    (λ c. omega (arith, c .before .before .before .own-words .ensures, own-in (c .before .before .before .before .before .before .before .before .pre .1) (form-of (c .before .before .before .before .classify .result)) (c .before .before .before .before .classify .ensures), c .before .before .before .before .before .before .before .before .good))
+    (λ c. omega (arith, c .before .before .before .own-words .ensures, own-in (c .before .before .before .before .before .before .before .before .pre .1) (form-of (c .before .before .before .before .classify .result)) (c .before .before .before .before .classify .ensures), c .before .before .before .before .before .before .before .before .good))
+    (λ c. omega (arith, c .before .before .before .own-words .ensures, own-in (c .before .before .before .before .before .before .before .before .pre .1) (form-of (c .before .before .before .before .classify .result)) (c .before .before .before .before .classify .ensures), c .before .before .before .before .before .before .before .before .good))
+    (λ c κs. (omega (arith, c .before .before .before .before .own-words .ensures, some-own (form-of (c .before .before .before .before .before .classify .result)), c .weigh-minus-arg .given .2, word-there (c .before .before .before .before .before .before .before .before .before .pre .1)), rw (c .before .before .before .before .own-words .ensures) (behind-not plus (c .before .before .before .before .before .before .before .before .before .pre .1) (form-of (c .before .before .before .before .before .classify .result)) (c .before .before .before .before .before .classify .ensures) (c .before .before .before .plus-head .result) (c .before .before .before .plus-head .ensures) (c .before .enum-told .given .1))))
     (λ c. search needs)
     (λ c. search needs)
     (λ c g. swap-heavy plus g (form-of (c .before .before .before .before .before .before .before .before .classify .result)) (c .before .before .before .before .before .before .before .before .classify .ensures) (c .before .before .before .before .before .before .plus-head .result) (c .before .before .before .before .before .before .plus-head .ensures) (c .before .before .before .before .enum-told .given .1) _ (rw (c .before .before .before .before .before .before .before .own-words .ensures) at (c .before .before .weigh-minus .ensures)) (c .enum-told2 .given .1))
@@ -166,8 +166,8 @@ pub +weigh-minus+weigh-plus-spec : {M : Type 1} → statement M
     (λ c κs. (c .before .before .before .before .before .before .before .before .before .pre .1 .known .decoded .long, small (getD (c .before .before .before .before .before .before .before .before .before .args .p .now) 0 0) _ (c .before .before .before .before .before .classify .ensures)))
     (λ c. (
       omega arith,
-      omega (arith, c .before .before .before .before .before .own-words .ensures),
-      rw (c .before .before .before .before .before .own-words .ensures) (word-there (c .before .before .before .before .before .before .before .before .before .before .pre .1)),
+      omega (arith, c .before .before .before .before .before .own-words .ensures, some-own (form-of (c .before .before .before .before .before .before .classify .result))),
+      rw (c .before .before .before .before .before .own-words .ensures) (own-in (c .before .before .before .before .before .before .before .before .before .before .pre .1) (form-of (c .before .before .before .before .before .before .classify .result)) (c .before .before .before .before .before .before .classify .ensures)),
       let h = start-low plus (c .before .before .before .before .before .before .before .before .before .before .pre .1) (form-of (c .before .before .before .before .before .before .classify .result)) (c .before .before .before .before .before .before .classify .ensures) (c .before .before .before .before .plus-head .result) (c .before .before .before .before .plus-head .ensures) (c .before .before .start .given .0 .0) (c .before .before .start .given .0 .1 .0) (c .before .before .start .given .1) in omega arith,
       λ g. rw (c .before .before .before .before .before .own-words .ensures) (start plus g (form-of (c .before .before .before .before .before .before .classify .result)) (c .before .before .before .before .before .before .classify .ensures) (c .before .before .before .before .plus-head .result) (c .before .before .before .before .plus-head .ensures) (c .before .before .start .given .0 .0) (c .parts .result) (c .before .before .start .given .0 .1 .0) (c .before .before .start .given .1) (c .parts .ensures)),
     ))

@@ -23,19 +23,20 @@ in-front : (c : tie.In-loop Inv-loop μ-loop) → let l = c .before .loop in Fro
 in-front c = let l = c .before .loop in let g = entry (c .before) .pre in front g (l .i) (l .n) (l .left) (l .out) (l .inv .1 g) (c .loop-test .taken)
 
 abbrev in-turn : tie.After-slice-known2 Inv-loop μ-loop → tie.In-loop Inv-loop μ-loop
-in-turn c = c .before .before .before .before .before .before .before
+in-turn c = c .before .before .before .before .before .before
 
 turned : (c : tie.After-slice-known2 Inv-loop μ-loop) → let l = in-turn c .before .loop in let e = entry (in-turn c .before) in let p = c .before .before .place in
-    (g : GivenRow (e .args .t .now) (e .args .row .now) (e .args .out .now)) → Now g (l .i + 3) (l .n + p .result) (l .left - 1 + c .before .before .before .before .before .opens .result) (back (l .out) (l .n) (p .last .1 .1 .1 .0))
+    (g : GivenRow (e .args .t .now) (e .args .row .now) (e .args .out .now)) → Now g (l .i + 3) (l .n + p .result) (l .left - 1 + c .before .before .before .before .opens .result) (back (l .out) (l .n) (p .last .1 .1 .1 .0))
 turned c g =
     let i = in-turn c in
     let l = i .before .loop in
+    let o = c .before .before .before .before in
     let p = c .before .before .place in
-    turn g (l .i) (l .n) (l .left) (l .out) (c .before .before .before .before .before .opens .result) (p .result) _ (l .inv .1 g) (i .loop-test .taken) (c .before .before .before .before .before .opens .ensures) (p .ensures .0) (p .ensures .1)
+    turn g (l .i) (l .n) (l .left) (l .out) (o .before .cell-at .result) (o .opens .result) (p .result) _ (l .inv .1 g) (i .loop-test .taken) (o .before .cell-at .ensures) (o .opens .ensures) (p .ensures .0) (p .ensures .1)
 
 -- the room is kept
 after : (c : tie.After-slice-known2 Inv-loop μ-loop) → let l = in-turn c .before .loop in let e = entry (in-turn c .before) in let p = c .before .before .place in
-    (length (back (l .out) (l .n) (p .last .1 .1 .1 .0)) ≡ length (e .args .out .now)) × (l .n + p .result + (l .left - 1 + c .before .before .before .before .before .opens .result) ≤ length (e .args .out .now))
+    (length (back (l .out) (l .n) (p .last .1 .1 .1 .0)) ≡ length (e .args .out .now)) × (l .n + p .result + (l .left - 1 + c .before .before .before .before .opens .result) ≤ length (e .args .out .now))
 after c = let g = entry (in-turn c .before) .pre in few g _ _ _ _ (turned c g)
 
 pub fill-spec : {M : Type 1} → statement M
@@ -45,17 +46,13 @@ fill-spec =
     Inv-loop
     μ-loop
     (λ c. (refl, λ g. start g))
-    (λ c. omega (arith, in-front c .see))
-    (λ c. omega (arith, in-front (c .before) .see))
+    (λ c κs. in-front c .see)
     (λ c κs h. entry (c .before .before) .pre .known .decoded .long)
-    (λ c. omega (arith, in-front (c .before .before) .see, entry (c .before .before .before) .good))
-    (λ c. omega (arith, in-front (c .before .before) .see))
-    (λ c. omega (arith, in-front (c .before .before .before) .see))
-    (λ c. omega (arith, in-front (c .before .before .before) .room))
-    (λ c. omega (arith, in-front (c .before .before .before) .room))
-    (λ c. omega (arith, in-front (c .before .before .before) .room))
-    (λ c. omega (arith, in-front (c .before .before .before) .room))
-    (λ c κs. let f = in-front (c .before .before .before .before) in (simp (length-take, length-drop) (omega (arith, f .room)), f .place))
+    (λ c. omega (arith, in-front (c .before .before) .room, entry (c .before .before .before) .good))
+    (λ c. omega (arith, in-front (c .before .before) .room))
+    (λ c. omega (arith, in-front (c .before .before) .room))
+    (λ c. omega (arith, in-front (c .before .before) .room))
+    (λ c κs. let f = in-front (c .before .before .before) in (simp (length-take, length-drop) (omega (arith, f .room)), f .place (c .before .before .cell-at .result) (c .before .before .cell-at .ensures)))
     (λ c. omega (arith, after c .1, entry (in-turn c .before) .good))
     (λ c. omega (arith, in-turn c .loop-test .taken))
     (λ c. omega (arith, after c .1, entry (in-turn c .before) .good))
