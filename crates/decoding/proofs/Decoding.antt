@@ -15,8 +15,8 @@ use Rattle.signature.specs.Lawful.{SignatureWords}
 use Rattle.signature.specs.Read.{read-constructors, read-signature, count-kinds, stands-alone, lawful, lawful-kinds, least, Signed}
 use Rattle.signature.specs.Signature.{Signature, Constructor, numbers, levels, is-number-kind, heads}
 use Rattle.signature.specs.Decoded.{Decoded, stride, kinds-at, kind-of, arity-of, argument-of, first-of, count-of, least-head-of, head-kind, least-head}
-use Rattle.decoding.specs.Decoding.{row, rows, SameBelow, Arities, RowsRead, InOrder, kinds-or-0, alone-by, Fit, KindsNoted, Marked, sizes-after, lowest}
-use Rattle.signature.proofs.Booleans.{and-false}
+use Rattle.decoding.specs.Decoding.{row, rows, SameBelow, Arities, RowsRead, InOrder, kinds-or-0, alone-by, row-stands, Fit, KindsNoted, Marked, sizes-after, lowest}
+use Rattle.signature.proofs.Booleans.{and-left, and-right, and-false, and-pairs}
 use Rattle.signature.proofs.Members.{some-when}
 use Rattle.signature.proofs.ListFacts.{at-count, at-count-is, at-out, test-at}
 use Rattle.signature.proofs.Counting.{counted-length}
@@ -91,14 +91,10 @@ kinds-known (some j) m e l = go (leb j kind-limit) refl
     go true q = ap some (sym (e ∙ (rw q)))
     go false q = absurd (let z : m ≡ 0 = e ∙ (rw q) in omega arith)
 
-second-not : (a b c d : Bool) → b ≡ false → (a && b && c && d) ≡ false
-second-not true b c d e = rw e
-second-not false b c d e = refl
-
-third-not : (a b c d : Bool) → c ≡ false → (a && b && c && d) ≡ false
-third-not true true c d e = rw e
-third-not true false c d e = refl
-third-not false b c d e = refl
+middle-not : (a b c d : Bool) → (b && c) ≡ false → (a && b && c && d) ≡ false
+middle-not true true c d e = rw e
+middle-not true false c d e = refl
+middle-not false b c d e = refl
 
 not-ordered : (sig : Signature) → 0 ≡ kinds-or-0 (count-kinds sig) → lawful sig ≡ false
 not-ordered sig h = go (count-kinds sig) refl
@@ -121,6 +117,10 @@ all-same f g i (suc n) e = ap₂ _&&_ (e i (omega arith) (omega arith)) (all-sam
 all-rows : (f g : Constructor → Bool) (h : ℕ → Constructor) (i n : ℕ) → ((j : ℕ) → i ≤ j → j < i + n → f (h j) ≡ g (h j)) → all f (map h (count-up i n)) ≡ all g (map h (count-up i n))
 all-rows f g h i zero e = refl
 all-rows f g h i (suc n) e = ap₂ _&&_ (e i (omega arith) (omega arith)) (all-rows f g h (suc i) n (λ j l m. e j (omega arith) (omega arith)))
+
+all-pairs : (f g : Constructor → Bool) (cs : Signature) → all (λ c. f c && g c) cs ≡ (all f cs && all g cs)
+all-pairs f g [] = refl
+all-pairs f g (c ∷ cs) = ap (λ z. f c && g c && z) (all-pairs f g cs) ∙ and-pairs (f c) (g c) (all f cs) (all g cs)
 
 at-within : {A : Type 0} (xs : List A) (i : ℕ) (a : A) → getElem? xs i ≡ some a → i < length xs
 at-within xs i a e = go (decLe (length xs) i)
@@ -182,39 +182,36 @@ module _ {w : List ℕ} {n : ℕ} {u v : List ℕ} {m : ℕ} (k : Ranked w n u v
   pub many-rows : (x : List ℕ) (f : Bool) → f ≡ all (λ i. leb (count-of v i) row-limit) (count-up 0 m) → f ≡ false → Answer w false x
   many-rows x f e z = unlawful (k .begun) x (tested ∙ rw (few-is f e ∙ z))
 
-  alone-is : (a : Bool) → a ≡ all (alone-by v) (rows v 0 n) → Alone (rows u 0 n) ≡ a
-  alone-is a e = sym (e ∙ ap (λ z. all (alone-by v) z) same ∙ all-rows (alone-by v) (stands-alone (rows u 0 n)) (λ d. row u d) 0 n (λ j l z. ap (λ y. not (row u j .number) || eqb y 1) (k .order .noted kind-there (kind-of u j) (k .order .each kind-there j (omega arith)) .1)))
+  alone-same : all (alone-by v) (rows v 0 n) ≡ Alone (rows u 0 n)
+  alone-same = ap (λ z. all (alone-by v) z) same ∙ all-rows (alone-by v) (stands-alone (rows u 0 n)) (λ d. row u d) 0 n (λ j l z. ap (λ y. not (row u j .number) || eqb y 1) (k .order .noted kind-there (kind-of u j) (k .order .each kind-there j (omega arith)) .1))
 
-  pub not-alone : (x : List ℕ) (a : Bool) → a ≡ all (alone-by v) (rows v 0 n) → a ≡ false → Answer w false x
-  not-alone x a e z = unlawful (k .begun) x (tested ∙ second-not (Few (rows u 0 n) m) (Alone (rows u 0 n)) (There (rows u 0 n) m) (Small (rows u 0 n) m) (alone-is a e ∙ z))
+  stand-is : (s : Bool) → s ≡ all (row-stands v m) (rows v 0 n) → (Alone (rows u 0 n) && There (rows u 0 n) m) ≡ s
+  stand-is s e = sym (e ∙ all-pairs (alone-by v) (λ c. all (λ i. ltb i m) (c .args)) (rows v 0 n) ∙ ap₂ _&&_ alone-same (ap (λ z. There z m) same))
+
+  pub not-standing : (x : List ℕ) (s : Bool) → s ≡ all (row-stands v m) (rows v 0 n) → s ≡ false → Answer w false x
+  not-standing x s e z = unlawful (k .begun) x (tested ∙ middle-not (Few (rows u 0 n) m) (Alone (rows u 0 n)) (There (rows u 0 n) m) (Small (rows u 0 n) m) (stand-is s e ∙ z))
 
   pub kinds-low : (c : ℕ) → c < n → kind-of v c < kind-limit
   kinds-low c l = omega (arith, most, k .order .rows-same (stride * c) (omega (arith, most)), k .order .each kind-there c l, k .order .few)
 
-  there-is : (g : Bool) → g ≡ There (rows v 0 n) m → There (rows u 0 n) m ≡ g
-  there-is g e = sym (e ∙ ap (λ z. There z m) same)
-
-  pub no-kind : (x : List ℕ) (g : Bool) → g ≡ There (rows v 0 n) m → g ≡ false → Answer w false x
-  no-kind x g e z = unlawful (k .begun) x (tested ∙ third-not (Few (rows u 0 n) m) (Alone (rows u 0 n)) (There (rows u 0 n) m) (Small (rows u 0 n) m) (there-is g e ∙ z))
-
-  pub fit : (g : Bool) → g ≡ There (rows v 0 n) m → g ≡ true → Fit v n
-  fit g e z = record { long = k .order .long; few = most; each = λ c l. record { kind = omega (arith, most, k .order .rows-same (stride * c) (omega (arith, most)), k .order .each kind-there c l, k .order .few); arity = arities (k .begun) v m (k .order) c l; arguments = λ j i. omega (arith, k .order .few, argument c l j i) } }
+  pub fit : (s : Bool) → s ≡ all (row-stands v m) (rows v 0 n) → s ≡ true → Fit v n
+  fit s e z = record { long = k .order .long; few = most; each = λ c l. record { kind = kinds-low c l; arity = arities (k .begun) v m (k .order) c l; arguments = λ j i. omega (arith, k .order .few, argument c l j i) } }
     where
       argument : (c : ℕ) → c < n → (j : ℕ) → j < arity-of v c → argument-of v c j < m
       argument c l j i =
-          let p : all (λ i. ltb i m) (row v c .args) ≡ true = test-at (λ d. all (λ i. ltb i m) (d .args)) (rows v 0 n) c (row v c) (sym e ∙ z) (at-count (λ d. row v d) 0 n c l ∙ ap (λ i. some (row v i)) (zero-add c)) in
+          let p : all (λ i. ltb i m) (row v c .args) ≡ true = and-right (alone-by v (row v c)) _ (test-at (row-stands v m) (rows v 0 n) c (row v c) (sym e ∙ z) (at-count (λ d. row v d) 0 n c l ∙ ap (λ i. some (row v i)) (zero-add c))) in
           le-of (suc (argument-of v c j)) m (test-at (λ i. ltb i m) (row v c .args) j (argument-of v c j) p (at-count (λ i. getD v i 0) (stride * c + 2) (arity-of v c) j i))
 
   pub fit-after : (x : List ℕ) (r : Bool) → Fit v n → KindsNoted v n m x r → Fit x n
   fit-after x r f h = record { long = h .long; few = most; each = λ c l. let g = f .each c l in let a : arity-of x c ≡ arity-of v c = h .rows-same (stride * c + 1) (omega (arith, most)) in record { kind = omega (arith, h .rows-same (stride * c) (omega (arith, most)), g .kind); arity = omega (arith, g .arity); arguments = λ j i. omega (arith, h .rows-same (stride * c + 2 + j) (omega (arith, most, g .arity)), g .arguments j (omega arith)) } }
 
   -- the table is whole
-  module _ (x y : List ℕ) (f a g r : Bool) (ef : f ≡ all (λ i. leb (count-of v i) row-limit) (count-up 0 m)) (zf : f ≡ true) (ea : a ≡ all (alone-by v) (rows v 0 n)) (za : a ≡ true) (eg : g ≡ There (rows v 0 n) m) (zg : g ≡ true) (h : KindsNoted v n m x r) (o : Marked x n y) where
+  module _ (x y : List ℕ) (f s r : Bool) (ef : f ≡ all (λ i. leb (count-of v i) row-limit) (count-up 0 m)) (zf : f ≡ true) (es : s ≡ all (row-stands v m) (rows v 0 n)) (zs : s ≡ true) (h : KindsNoted v n m x r) (o : Marked x n y) where
     exist : Exist m (rows u 0 n)
-    exist = there-is g eg ∙ zg
+    exist = and-right (Alone (rows u 0 n)) (There (rows u 0 n) m) (stand-is s es ∙ zs)
 
     answer : r ≡ lawful (rows u 0 n)
-    answer = h .small ∙ ap (λ z. all (λ i. leb (getD (sizes-after small-size z) i 0) small-size) (count-up 0 m)) same ∙ sym (tested ∙ rw (few-is f ef ∙ zf, alone-is a ea ∙ za, exist) (small-same (rows u 0 n) m exist (k .order .few)))
+    answer = h .small ∙ ap (λ z. all (λ i. leb (getD (sizes-after small-size z) i 0) small-size) (count-up 0 m)) same ∙ sym (tested ∙ rw (few-is f ef ∙ zf, and-left (Alone (rows u 0 n)) (There (rows u 0 n) m) (stand-is s es ∙ zs), exist) (small-same (rows u 0 n) m exist (k .order .few)))
 
     kept : SameBelow kinds-at u x
     kept i l = h .rows-same i l ∙ k .order .rows-same i l
@@ -290,10 +287,10 @@ module _ {w : List ℕ} {n : ℕ} {u v : List ℕ} {m : ℕ} (k : Ranked w n u v
     }
 
     pub decoded : Answer w r y
-    decoded = (answer ∙ sym (ap is-some (signed (k .begun)) ∙ some-when (lawful sig) sig), λ s e. go s e (same-sig s e))
+    decoded = (answer ∙ sym (ap is-some (signed (k .begun)) ∙ some-when (lawful sig) sig), λ q e. go q e (same-sig q e))
       where
-        same-sig : (s : Signature) → read-signature w ≡ some s → sig ≡ s
-        same-sig s e = let (z, e₁, e₂) = bind-some (require (lawful sig)) (λ z. some sig) s (sym (signed (k .begun)) ∙ e) in some-inj sig s e₂
+        same-sig : (q : Signature) → read-signature w ≡ some q → sig ≡ q
+        same-sig q e = let (z, e₁, e₂) = bind-some (require (lawful sig)) (λ z. some sig) q (sym (signed (k .begun)) ∙ e) in some-inj sig q e₂
 
-        go : (s : Signature) → read-signature w ≡ some s → sig ≡ s → Decoded s y
-        go s e q = subst (λ z. Decoded z y) q (table (w, e ∙ ap some (sym q)))
+        go : (q : Signature) → read-signature w ≡ some q → sig ≡ q → Decoded q y
+        go q e p = subst (λ z. Decoded z y) p (table (w, e ∙ ap some (sym p)))

@@ -25,6 +25,12 @@ alone-not t c f e n = rw (eqb-no (flag-of t c) 1 (λ p. n (e ∙ p)))
 pub alone-count : (t : List ℕ) (c f j k x : ℕ) → f ≡ flag-of t c → f ≡ 1 → j ≡ kind-of t c → k ≡ j → x ≡ count-of t k → eqb x 1 ≡ alone-by t (row t c)
 alone-count t c f j k x e o p q r = rw (sym e ∙ o) (ap (λ z. eqb z 1) (r ∙ ap (count-of t) (q ∙ p)))
 
+pub stands-not : (a b : Bool) → a ≡ false → false ≡ (a && b)
+stands-not a b e = rw e
+
+pub stands-so : (a b r : Bool) → a ≡ true → r ≡ b → r ≡ (a && b)
+stands-so a b r e f = rw e f
+
 -- whether a row is marked, as the code finds it
 pub mark-not : (t : List ℕ) (c f : ℕ) → f ≡ flag-of t c → ¬ (f ≡ 1) → t ≡ mark-of t c
 mark-not t c f e n = rw (eqb-no (flag-of t c) 1 (λ p. n (e ∙ p)))

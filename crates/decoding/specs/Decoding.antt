@@ -2,7 +2,7 @@
 use mathlib.Core.Path.{_≡_}
 use mathlib.Core.List.{List, [], _∷_, map}
 use mathlib.Core.Option.{Option, none, some}
-use mathlib.Core.Bool.{Bool, true, false, cond, not, _||_}
+use mathlib.Core.Bool.{Bool, true, false, cond, not, _&&_, _||_}
 use Prim.Native.Nat.{ℕ, suc, _+_, _*_, _≤_, _<_, min}
 use lib.Dec.{eqb, ltb, leb}
 use lib.ListN.{length, getD, set, drop}
@@ -79,6 +79,10 @@ kinds-or-0 (some n) = cond (leb n kind-limit) n 0
 -- a row that declares a number kind is the only one of its kind, by the kinds' counts
 abbrev pub alone-by : List ℕ → Constructor → Bool
 alone-by t d = not (d .number) || eqb (count-of t (d .kind)) 1
+
+-- and its argument kinds exist, where there are so many kinds
+abbrev pub row-stands : List ℕ → ℕ → Constructor → Bool
+row-stands t kinds d = alone-by t d && all (λ k. ltb k kinds) (d .args)
 
 -- constructor c has been counted to kind k, which is new if it is the n-th
 pub record HeadNoted (t : List ℕ) (k c n : ℕ) (u : List ℕ) : Type 0 where

@@ -23,7 +23,7 @@ ghost use Rattle.signature.specs.Lists.{all, count-up, is-some};
 ghost use Rattle.signature.specs.Read.{read-signature, total};
 ghost use Rattle.signature.specs.Signature.{Signature};
 ghost use Rattle.signature.specs.Decoded.{Decoded, decoded-length, kind-of, arity-of, count-of};
-ghost use Rattle.decoding.specs.Decoding.{row, rows, argument-count, flag-by, alone-by, mark-of, Marked, Copied, RowRead, RowsRead, Arities, next-kinds, HeadNoted, InOrder, RowFit, Fit, Sizes, next-sizes, sizes-after, lowest, LeastNoted, KindsNoted};
+ghost use Rattle.decoding.specs.Decoding.{row, rows, argument-count, flag-by, alone-by, row-stands, mark-of, Marked, Copied, RowRead, RowsRead, Arities, next-kinds, HeadNoted, InOrder, RowFit, Fit, Sizes, next-sizes, sizes-after, lowest, LeastNoted, KindsNoted};
 
 pub const CONSTRUCTOR_LIMIT: usize = 256;
 
@@ -199,22 +199,7 @@ fn stands_alone(t: &[u16], c: usize) -> bool
     count_of(t, wide(kind_of(t, c))) == 1
 }
 
-// A row that declares a number kind is that kind's only row.
-fn numbers_alone(t: &[u16], n: usize) -> bool
-    requires { ⌜ (length (now t) ≡ decoded-length) × (n ≤ constructor-limit) × ((c : ℕ) → c < n → kind-of (now t) c < kind-limit) ⌝ }
-    ensures { λ r. ⌜ r ≡ all (alone-by (now (t .entry))) (rows (now (t .entry)) 0 n) ⌝ }
-{
-    let mut c = 0;
-    while c < n {
-        if !stands_alone(t, c) {
-            return false;
-        }
-        c += 1;
-    }
-    true
-}
-
-fn row_exists(t: &[u16], c: usize, kinds: usize) -> bool
+fn arguments_exist(t: &[u16], c: usize, kinds: usize) -> bool
     requires { ⌜ (length (now t) ≡ decoded-length) × (c < constructor-limit) × (arity-of (now t) c ≤ argument-limit) ⌝ }
     ensures { λ r. ⌜ r ≡ all (λ k. ltb k kinds) (row (now (t .entry)) c .args) ⌝ }
 {
@@ -229,13 +214,24 @@ fn row_exists(t: &[u16], c: usize, kinds: usize) -> bool
     true
 }
 
-fn arguments_exist(t: &[u16], n: usize, kinds: usize) -> bool
-    requires { ⌜ (length (now t) ≡ decoded-length) × (n ≤ constructor-limit) × Arities (now t) n ⌝ }
-    ensures { λ r. ⌜ r ≡ all (λ d. all (λ k. ltb k kinds) (d .args)) (rows (now (t .entry)) 0 n) ⌝ }
+fn row_stands(t: &[u16], c: usize, kinds: usize) -> bool
+    requires { ⌜ (length (now t) ≡ decoded-length) × (c < constructor-limit) × (arity-of (now t) c ≤ argument-limit) × (kind-of (now t) c < kind-limit) ⌝ }
+    ensures { λ r. ⌜ r ≡ row-stands (now (t .entry)) kinds (row (now (t .entry)) c) ⌝ }
+{
+    if !stands_alone(t, c) {
+        return false;
+    }
+    arguments_exist(t, c, kinds)
+}
+
+// Each row stands alone, if it declares a number kind, and its argument kinds exist.
+fn rows_stand(t: &[u16], n: usize, kinds: usize) -> bool
+    requires { ⌜ (length (now t) ≡ decoded-length) × (n ≤ constructor-limit) × Arities (now t) n × ((c : ℕ) → c < n → kind-of (now t) c < kind-limit) ⌝ }
+    ensures { λ r. ⌜ r ≡ all (row-stands (now (t .entry)) kinds) (rows (now (t .entry)) 0 n) ⌝ }
 {
     let mut c = 0;
     while c < n {
-        if !row_exists(t, c, kinds) {
+        if !row_stands(t, c, kinds) {
             return false;
         }
         c += 1;
@@ -425,10 +421,7 @@ pub fn decode(w: &[u16], t: &mut [u16]) -> bool
     if !few_rows(t, kinds) {
         return false;
     }
-    if !numbers_alone(t, n) {
-        return false;
-    }
-    if !arguments_exist(t, n, kinds) {
+    if !rows_stand(t, n, kinds) {
         return false;
     }
     let small = note_kinds(t, n, kinds);

@@ -1,5 +1,5 @@
 -- What the walk over the ranges of a pattern shows.
-use mathlib.Core.Path.{_≡_, refl, sym, ap, _∙_}
+use mathlib.Core.Path.{_≡_, refl, sym, ap, ap₂, _∙_}
 use mathlib.Core.List.{List, [], _∷_, _++_, append-nil}
 use mathlib.Core.Bool.{Bool, true, false, _&&_}
 use Prim.Native.Nat.{ℕ, _+_, _≤_, _<_}
@@ -9,30 +9,26 @@ use lib.ListN.{length, drop, getD, length-append, length-drop}
 use Rattle.signature.specs.Limits.{last-level}
 use Rattle.signature.specs.Signature.{Signature}
 use Rattle.signature.proofs.Booleans.{and-true, and-assoc}
-use Rattle.signature.proofs.Tests.{eqb-no, leb-yes, leb-no}
-use Rattle.pattern.specs.Limits.{range-word}
+use Rattle.signature.proofs.Tests.{leb-yes, leb-no}
 use Rattle.pattern.specs.Pattern.{Pattern, Patterns, pnil, pcons, head, and, or, wild, absurd-pat, neg, var, range, pattern-code, patterns-code}
 use Rattle.pattern.specs.Range.{right-range}
 use Rattle.pattern.specs.Ranged.{ranged, all-ranged}
 use Rattle.pattern.specs.Read.{Form, form}
-use Rattle.pattern.specs.WellFormed.{WellFormed, AllWellFormed, well-head, well-and, well-or, well-not, well-wild, well-absurd, well-var, well-range, well-nil, well-cons}
+use Rattle.pattern.specs.WellFormed.{AllWellFormed, well-nil, well-cons}
 use Rattle.pattern.specs.Word.{own-words}
-use Rattle.pattern.proofs.Opened.{shape, inner, own-rest, code-word, word-form, some-own, inner-well}
+use Rattle.pattern.proofs.Opened.{shape, inner, own-rest, code-word, some-own, inner-well}
 use Rattle.pattern.proofs.PatternBack.{pattern-words}
 use Rattle.pattern.proofs.ReadSteps.{part, to-end}
 use Rattle.pattern.proofs.Walk.{then, then-well, front-length, front-words, front-form, behind-front}
 use Rattle.reading.specs.Ranges.{Readable, right-front}
 
 -- the ends of a range, as the code compares them
-module _ (ws : List ℕ) where
-  pub no-range : (getD ws 0 0 ≡ range-word → ⊥) → true ≡ right-front ws
-  no-range h = rw (eqb-no (getD ws 0 0) range-word h)
+module _ (low high : ℕ) where
+  pub falling-range : high < low → false ≡ right-range low high
+  falling-range l = rw (leb-no low high l)
 
-  pub falling-range : getD ws 0 0 ≡ range-word → getD ws 2 0 < getD ws 1 0 → false ≡ right-front ws
-  falling-range e l = rw (e, leb-no (getD ws 1 0) (getD ws 2 0) l)
-
-  pub rising-range : getD ws 0 0 ≡ range-word → getD ws 1 0 ≤ getD ws 2 0 → leb (getD ws 2 0) last-level ≡ right-front ws
-  rising-range e l = rw (e, leb-yes (getD ws 1 0) (getD ws 2 0) l)
+  pub rising-range : low ≤ high → leb high last-level ≡ right-range low high
+  rising-range l = rw (leb-yes low high l)
 
 -- a pattern is right where it is no wrong range itself and its parts are right
 abbrev own-right : Pattern → Bool
@@ -62,16 +58,16 @@ then-ranged (pcons p ps) qs = ap (λ b. ranged p && b) (then-ranged ps qs) ∙ a
 all-by-parts : (p : Pattern) (ps : Patterns) → (ranged p && all-ranged ps) ≡ (own-right p && all-ranged (then (inner p) ps))
 all-by-parts p ps = ap (λ b. b && all-ranged ps) (by-parts p) ∙ sym (and-assoc (own-right p) (all-ranged (inner p)) (all-ranged ps)) ∙ ap (λ b. own-right p && b) (sym (then-ranged (inner p) ps))
 
-front-is : {sig : Signature} {k : ℕ} {p : Pattern} → WellFormed sig k p → (us : List ℕ) → right-front (code-word p ∷ (own-rest p ++ us)) ≡ own-right p
+front-is : (p : Pattern) (us : List ℕ) → right-front (shape p) (code-word p ∷ (own-rest p ++ us)) ≡ own-right p
 unfolding code-word
-front-is (well-head {c = c} l e s) us = rw (eqb-no c range-word (omega arith))
-front-is (well-and s u) us = refl
-front-is (well-or s u) us = refl
-front-is (well-not s) us = refl
-front-is well-wild us = refl
-front-is well-absurd us = refl
-front-is (well-var {x = x} l) us = rw (eqb-no (261 + x) range-word (omega arith))
-front-is (well-range e) us = refl
+front-is (head c ps) us = refl
+front-is (and p q) us = refl
+front-is (or p q) us = refl
+front-is wild us = refl
+front-is absurd-pat us = refl
+front-is (neg p) us = refl
+front-is (var x) us = refl
+front-is (range low high) us = refl
 
 -- patterns stand from `at` on to the end, and the whole is right where they are
 pub record Walked (sig : Signature) (ws : List ℕ) (p : Pattern) (at : ℕ) : Type 0 where
@@ -101,10 +97,10 @@ walk-end {sig} {ws} {p} {at} l w = go (w .well) (w .words) (w .so)
 
 -- the pattern at the front
 pub record Front (sig : Signature) (ws : List ℕ) (p : Pattern) (at : ℕ) (f : Form) : Type 0 where
-  pub long : getD (part ws at) 0 0 ≡ range-word → 2 < length (part ws at)
-  pub wrong : right-front (part ws at) ≡ false → false ≡ ranged p
+  pub long : own-words f ≤ length (part ws at)
+  pub wrong : right-front f (part ws at) ≡ false → false ≡ ranged p
   pub inside : at + own-words f ≤ length ws
-  pub next : right-front (part ws at) ≡ true → Walked sig ws p (at + own-words f)
+  pub next : right-front f (part ws at) ≡ true → Walked sig ws p (at + own-words f)
 
 pub walk-front : {sig : Signature} {ws : List ℕ} {p : Pattern} {at : ℕ} (f : Form) → f ≡ form (getD ws at 0) → at < length ws → Walked sig ws p at → Front sig ws p at f
 walk-front {sig} {ws} {p} {at} f i l w = go (w .well) (w .words) (w .so)
@@ -115,12 +111,11 @@ walk-front {sig} {ws} {p} {at} f i l w = go (w .well) (w .words) (w .so)
         let (js, v) = inner-well sig s in
         let is : f ≡ shape q = i ∙ front-form q qs ws [] at d s in
         let own : own-words f ≡ own-words (shape q) = ap own-words is in
-        let right : right-front (part ws at) ≡ own-right q = ap right-front (to-end ws at ∙ front-words q qs ws [] at d) ∙ front-is s (patterns-code (then (inner q) qs) ++ []) in
+        let right : right-front f (part ws at) ≡ own-right q = ap₂ right-front is (to-end ws at ∙ front-words q qs ws [] at d) ∙ front-is q (patterns-code (then (inner q) qs) ++ []) in
         let so : ranged p ≡ (own-right q && all-ranged (then (inner q) qs)) = e ∙ all-by-parts q qs in
         let all : own-words f ≤ length (drop at ws) = omega (arith, own, front-length q qs, ap length d, length-append (pattern-code q ++ patterns-code qs) []) in
-        let word : getD (part ws at) 0 0 ≡ code-word q = ap (λ x. getD x 0 0) (to-end ws at ∙ front-words q qs ws [] at d) in
         record {
-          long = λ h. let three : own-words f ≡ 3 = own ∙ ap own-words (sym (word-form sig s) ∙ ap form (sym word ∙ h)) in omega (arith, three, ap length (to-end ws at));
+          long = omega (arith, ap length (to-end ws at));
           wrong = λ h. sym (so ∙ ap (λ b. b && all-ranged (then (inner q) qs)) (sym right ∙ h));
           inside = omega (arith, length-drop at ws);
           next = λ h. record {

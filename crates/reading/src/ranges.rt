@@ -1,27 +1,41 @@
 // Whether every range of a pattern is right (refusal 18).
-use pattern::token::RANGE;
+use pattern::token::Word;
 use pattern::token::classify;
 use pattern::token::own_words;
 use signature::decoded::LAST_LEVEL;
 ghost use mathlib.Core.Path.{_≡_};
-ghost use Prim.Native.Nat.{_<_};
-ghost use lib.ListN.{length, getD};
-ghost use Rattle.pattern.specs.Limits.{range-word};
+ghost use Prim.Native.Nat.{_≤_};
+ghost use lib.ListN.{length};
+ghost use Rattle.pattern.specs.Range.{right-range};
 ghost use Rattle.pattern.specs.Ranged.{ranged};
+ghost use Rattle.pattern.specs.Word.{form-of, own-words};
 ghost use Rattle.reading.specs.Ranges.{Readable, right-front};
 
-// Whether the pattern that begins `p` is no range, or a right one.
-fn right_front(p: &[u16]) -> bool
-    requires { ⌜ (0 < length (now p)) × (getD (now p) 0 0 ≡ range-word → 2 < length (now p)) ⌝ }
-    ensures { λ r. ⌜ r ≡ right-front (now (p .entry)) ⌝ }
+fn right_range(low: u16, high: u16) -> bool
+    ensures { λ r. ⌜ r ≡ right-range low high ⌝ }
 {
-    if p[0] != RANGE {
-        return true;
-    }
-    if p[2] < p[1] {
+    if high < low {
         return false;
     }
-    p[2] <= LAST_LEVEL
+    high <= LAST_LEVEL
+}
+
+// Whether the pattern that begins p, by its first word, is no range, or a right one.
+fn right_front(w: Word, p: &[u16]) -> bool
+    requires { ⌜ own-words (form-of w) ≤ length (now p) ⌝ }
+    ensures { λ r. ⌜ r ≡ right-front (form-of w) (now (p .entry)) ⌝ }
+{
+    match w {
+        Word::Head(_c) => true,
+        Word::And => true,
+        Word::Or => true,
+        Word::Wild => true,
+        Word::Absurd => true,
+        Word::Not => true,
+        Word::Var(_x) => true,
+        Word::Range => right_range(p[1], p[2]),
+        Word::Other => true,
+    }
 }
 
 // From pattern to pattern, over the words that are each one's own.
@@ -31,10 +45,11 @@ pub fn ranged(p: &[u16]) -> bool
 {
     let mut at = 0;
     while at < p.len() {
-        if !right_front(&p[at..]) {
+        let w = classify(p[at]);
+        if !right_front(w, &p[at..]) {
             return false;
         }
-        at += own_words(classify(p[at]));
+        at += own_words(w);
     }
     true
 }

@@ -172,13 +172,13 @@ bit-between m n a b r h e f g j = g j ∙ ap₂ (λ (x y : ℕ). cond (eqb x 1) 
     go false p false q = rw (le-leb m j (ltb-false j m p), lt-leb j n (omega (arith, ltb-false j (n + 1) q)))
 
 -- one less: half the number
-pub lowered-fits : (h l : ℕ) → l < 2 ^ 64 → l / 2 + h % 2 * 9223372036854775808 < 2 ^ 64
-lowered-fits h l q = let x : h % 2 ≤ 1 = omega arith in let y : l / 2 < 9223372036854775808 = omega (arith, q) in omega (arith, x, y)
+pub lowered-fits : (h l : ℕ) → l < 2 ^ 64 → l / 2 + h % 2 * 2 ^ 63 < 2 ^ 64
+lowered-fits h l q = let x : h % 2 ≤ 1 = omega arith in let y : l / 2 < 2 ^ 63 = omega (arith, q) in omega (arith, x, y)
 
-pub bit-lowered : (h l j : ℕ) → bit (h / 2 * 2 ^ 64 + (l / 2 + h % 2 * 9223372036854775808)) j ≡ bit (h * 2 ^ 64 + l) (j + 1)
+pub bit-lowered : (h l j : ℕ) → bit (h / 2 * 2 ^ 64 + (l / 2 + h % 2 * 2 ^ 63)) j ≡ bit (h * 2 ^ 64 + l) (j + 1)
 unfolding bit
 bit-lowered h l j =
-    let e : h / 2 * 2 ^ 64 + (l / 2 + h % 2 * 9223372036854775808) ≡ (h * 2 ^ 64 + l) / 2 = omega arith in
+    let e : h / 2 * 2 ^ 64 + (l / 2 + h % 2 * 2 ^ 63) ≡ (h * 2 ^ 64 + l) / 2 = omega arith in
     let n : j + 1 ≡ suc j = omega arith in
     ap (λ (m : ℕ). bit m j) e ∙ ap (bit (h * 2 ^ 64 + l)) (sym n)
 

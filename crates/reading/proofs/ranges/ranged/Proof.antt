@@ -1,8 +1,8 @@
 -- `ranges::ranged` meets its contract: patterns stand from `at` on, and the whole is right where they are. Assumes nothing.
-use mathlib.Core.Path.{refl, sym, _∙_}
+use mathlib.Core.Path.{sym, _∙_}
 use Prim.Native.Nat.{_≤_, _-_}
 use native.Mathlib.Omega.{arith}
-use lib.ListN.{length, length-take, length-drop}
+use lib.ListN.{length}
 use Rattle.signature.proofs.Booleans.{not-true, not-false}
 use Rattle.pattern.specs.Word.{form-of}
 use Rattle.pattern.proofs.Opened.{some-own}
@@ -26,15 +26,15 @@ ranged-spec =
     (λ c. (omega arith, λ g. walk-start g))
     (λ c. omega arith)
     (λ c. omega arith)
-    (λ c. omega arith)
-    (λ c. omega arith)
-    (λ c κs. let w = walk-front _ refl (c .before .loop-test .taken) (c .before .before .loop .inv .1 (c .before .before .before .before .pre)) in (simp (length-take, length-drop) (omega arith), w .long))
-    (λ c g. walk-front _ refl (c .before .before .before .loop-test .taken) (c .before .before .before .before .loop .inv .1 g) .wrong (sym (c .before .right-front .ensures) ∙ not-true _ (c .if1 .taken)))
-    (λ c. omega arith)
-    (λ c. omega arith)
     (λ c κs. tt)
+    (λ c. omega arith)
+    (λ c. omega arith)
+    (λ c. omega arith)
+    (λ c. omega arith)
+    (λ c κs. walk-front (form-of (c .before .classify .result)) (c .before .classify .ensures) (c .before .before .before .loop-test .taken) (c .before .before .before .before .loop .inv .1 (c .before .before .before .before .before .before .pre)) .long)
+    (λ c g. walk-front (form-of (c .before .before .before .classify .result)) (c .before .before .before .classify .ensures) (c .before .before .before .before .before .loop-test .taken) (c .before .before .before .before .before .before .loop .inv .1 g) .wrong (sym (c .before .right-front .ensures) ∙ not-true _ (c .if1 .taken)))
     (λ c κs. tt)
-    (λ c. let w = walk-front (form-of (c .before .classify .result)) (c .before .classify .ensures) (c .before .before .before .before .before .before .loop-test .taken) (c .before .before .before .before .before .before .before .loop .inv .1 (c .before .before .before .before .before .before .before .before .before .pre)) in omega (arith, w .inside, c .own-words .ensures, c .before .before .before .before .before .before .before .before .before .good))
-    (λ c. let w = walk-front (form-of (c .before .classify .result)) (c .before .classify .ensures) (c .before .before .before .before .before .before .loop-test .taken) (c .before .before .before .before .before .before .before .loop .inv .1 (c .before .before .before .before .before .before .before .before .before .pre)) in omega (arith, w .inside, c .own-words .ensures, some-own (form-of (c .before .classify .result))))
-    (λ c. let w = walk-front (form-of (c .before .classify .result)) (c .before .classify .ensures) (c .before .before .before .before .before .before .loop-test .taken) (c .before .before .before .before .before .before .before .loop .inv .1 (c .before .before .before .before .before .before .before .before .before .pre)) in (omega (arith, w .inside, c .own-words .ensures), λ g. rw (c .own-words .ensures) (walk-front (form-of (c .before .classify .result)) (c .before .classify .ensures) (c .before .before .before .before .before .before .loop-test .taken) (c .before .before .before .before .before .before .before .loop .inv .1 g) .next (sym (c .before .before .before .before .right-front .ensures) ∙ not-false _ (c .before .before .before .if1 .left)))))
+    (λ c. let w = walk-front (form-of (c .before .before .before .before .classify .result)) (c .before .before .before .before .classify .ensures) (c .before .before .before .before .before .before .loop-test .taken) (c .before .before .before .before .before .before .before .loop .inv .1 (c .before .before .before .before .before .before .before .before .before .pre)) in omega (arith, w .inside, c .own-words .ensures, c .before .before .before .before .before .before .before .before .before .good))
+    (λ c. let w = walk-front (form-of (c .before .before .before .before .classify .result)) (c .before .before .before .before .classify .ensures) (c .before .before .before .before .before .before .loop-test .taken) (c .before .before .before .before .before .before .before .loop .inv .1 (c .before .before .before .before .before .before .before .before .before .pre)) in omega (arith, w .inside, c .own-words .ensures, some-own (form-of (c .before .before .before .before .classify .result))))
+    (λ c. let w = walk-front (form-of (c .before .before .before .before .classify .result)) (c .before .before .before .before .classify .ensures) (c .before .before .before .before .before .before .loop-test .taken) (c .before .before .before .before .before .before .before .loop .inv .1 (c .before .before .before .before .before .before .before .before .before .pre)) in (omega (arith, w .inside, c .own-words .ensures), λ g. rw (c .own-words .ensures) (walk-front (form-of (c .before .before .before .before .classify .result)) (c .before .before .before .before .classify .ensures) (c .before .before .before .before .before .before .loop-test .taken) (c .before .before .before .before .before .before .before .loop .inv .1 g) .next (sym (c .before .before .right-front .ensures) ∙ not-false _ (c .before .if1 .left)))))
     (λ c g. walk-end (c .loop-test .left) (c .before .loop .inv .1 g)))

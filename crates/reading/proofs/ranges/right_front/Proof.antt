@@ -1,7 +1,8 @@
 -- `ranges::right_front` meets its contract. Assumes nothing.
+use mathlib.Core.Path.{ap, _∙_, sym}
 use native.Mathlib.Omega.{arith}
 use borrow.Author.Needs.{needs}
-use Rattle.reading.proofs.RangeSteps.{no-range, falling-range, rising-range}
+use Rattle.pattern.specs.Word.{form-of, own-words}
 use Rattle.reading.proofs.ranges.right_front.Statement.{statement}
 use Rattle.reading.proofs.ranges.right_front.Tie as tie
 
@@ -10,9 +11,23 @@ right-front-spec =
     tie.close
     (tie.spec
     (λ c. search needs)
-    (λ c. no-range (c .before .before .args .p .now) (c .if1 .taken))
-    (λ c. c .before .before .before .pre .1 (c .before .if1 .left))
-    (λ c. omega (arith, c .before .before .before .before .pre .1 (c .before .before .if1 .left)))
-    (λ c. falling-range (c .before .before .before .before .before .args .p .now) (c .before .before .before .if1 .left) (c .if2 .taken))
-    (λ c. omega (arith, c .before .before .before .before .before .before .pre .1 (c .before .before .before .before .if1 .left)))
-    (λ c. rising-range (c .before .before .before .before .before .before .args .p .now) (c .before .before .before .before .if1 .left) (c .before .if2 .left)))
+    (λ c. search needs)
+    (λ c. search needs)
+    (λ c. search needs)
+    (λ c. search needs)
+    (λ c. search needs)
+    (λ c. search needs)
+    (λ c. search needs)
+    (λ c. omega (arith, ap (λ w. own-words (form-of w)) (c .before .enum-told6 .given .1), c .before .before .before .before .pre))
+    (λ c. omega (arith, ap (λ w. own-words (form-of w)) (c .before .before .enum-told6 .given .1), c .before .before .before .before .before .pre))
+    (λ c κs. search needs)
+    (λ c. search needs)
+    (λ c. search needs)
+    (λ c. search needs)
+    (λ c. search needs)
+    (λ c. search needs)
+    (λ c. search needs)
+    (λ c. search needs)
+    (λ c. search needs)
+    (λ c. rw (c .before .before .before .enum-told6 .given .1) (c .right-range .ensures))
+    (λ c. search needs))
