@@ -1,7 +1,7 @@
 -- The rows that declare number kinds, marked one after the other.
-use mathlib.Core.Path.{_≡_, refl, sym, ap, _∙_}
+use mathlib.Core.Path.{_≡_, refl, sym, ap, ap₂, _∙_}
 use mathlib.Core.List.{List, [], _∷_, _++_}
-use mathlib.Core.Bool.{Bool, true, false, cond, _&&_, _||_}
+use mathlib.Core.Bool.{Bool, true, false, cond, not, _&&_, _||_}
 use Prim.Native.Nat.{ℕ, _+_, _*_, _≤_, _<_}
 use native.Mathlib.Nat.{zero-add}
 use native.Mathlib.Omega.{arith}
@@ -11,19 +11,28 @@ use lib.Dec.{eqb}
 use Rattle.signature.specs.Limits.{argument-limit, constructor-limit, kind-limit, level-base, level-count}
 use Rattle.signature.specs.Lists.{any}
 use Rattle.signature.specs.Signature.{declares, is-number-kind}
-use Rattle.signature.specs.Decoded.{decoded-length, stride, kind-stride, kinds-at, no-kind, kind-of, flag-at, flag-of, first-of, count-of, least-head-of}
-use Rattle.decoding.specs.Decoding.{row, rows, alone-by, marked, mark-of, Marked}
+use Rattle.signature.specs.Decoded.{decoded-length, stride, kind-stride, kinds-at, no-kind, kind-of, arity-of, argument-of, first-of, count-of, least-head-of}
+use Rattle.decoding.specs.Decoding.{declares-number, row, rows, alone-by, marked, mark-of, Marked}
 use Rattle.signature.proofs.Booleans.{and-false, or-false, or-true}
 use Rattle.signature.proofs.Members.{any-append}
 use Rattle.signature.proofs.Counting.{counted-more}
 use Rattle.signature.proofs.Tests.{eqb-self, eqb-eq, eqb-ne, eqb-no}
 
--- whether a row stands alone, as the code finds it
-pub alone-not : (t : List ℕ) (c f : ℕ) → f ≡ flag-of t c → ¬ (f ≡ 1) → true ≡ alone-by t (row t c)
-alone-not t c f e n = rw (eqb-no (flag-of t c) 1 (λ p. n (e ∙ p)))
+-- whether a row declares a number kind, as the code finds it
+pub number-not : (t : List ℕ) (c a : ℕ) → a ≡ arity-of t c → 0 < a → false ≡ declares-number t c
+number-not t c a e l = rw (eqb-no (arity-of t c) 0 (λ p. omega arith))
 
-pub alone-count : (t : List ℕ) (c f j k x : ℕ) → f ≡ flag-of t c → f ≡ 1 → j ≡ kind-of t c → k ≡ j → x ≡ count-of t k → eqb x 1 ≡ alone-by t (row t c)
-alone-count t c f j k x e o p q r = rw (sym e ∙ o) (ap (λ z. eqb z 1) (r ∙ ap (count-of t) (q ∙ p)))
+pub number-so : (t : List ℕ) (c a x : ℕ) → a ≡ arity-of t c → a ≤ 0 → x ≡ argument-of t c 0 → eqb x 1 ≡ declares-number t c
+number-so t c a x e l f =
+    let z : arity-of t c ≡ 0 = omega arith in
+    ap (λ y. eqb y 1) f ∙ ap (λ y. eqb y 0 && eqb (argument-of t c 0) 1) (sym z)
+
+-- whether a row stands alone, as the code finds it
+pub alone-not : (t : List ℕ) (c : ℕ) → declares-number t c ≡ false → true ≡ alone-by t (row t c)
+alone-not t c e = ap (λ b. not b || eqb (count-of t (kind-of t c)) 1) (sym e)
+
+pub alone-count : (t : List ℕ) (c j k x : ℕ) → declares-number t c ≡ true → j ≡ kind-of t c → k ≡ j → x ≡ count-of t k → eqb x 1 ≡ alone-by t (row t c)
+alone-count t c j k x e p q r = ap (λ z. eqb z 1) (r ∙ ap (count-of t) (q ∙ p)) ∙ ap (λ b. not b || eqb (count-of t (kind-of t c)) 1) (sym e)
 
 pub stands-not : (a b : Bool) → a ≡ false → false ≡ (a && b)
 stands-not a b e = rw e
@@ -32,11 +41,11 @@ pub stands-so : (a b r : Bool) → a ≡ true → r ≡ b → r ≡ (a && b)
 stands-so a b r e f = rw e f
 
 -- whether a row is marked, as the code finds it
-pub mark-not : (t : List ℕ) (c f : ℕ) → f ≡ flag-of t c → ¬ (f ≡ 1) → t ≡ mark-of t c
-mark-not t c f e n = rw (eqb-no (flag-of t c) 1 (λ p. n (e ∙ p)))
+pub mark-not : (t : List ℕ) (c : ℕ) → declares-number t c ≡ false → t ≡ mark-of t c
+mark-not t c e = ap (λ b. cond b (marked t c (kind-of t c)) t) (sym e)
 
-pub mark-is : (t : List ℕ) (c f j k : ℕ) → f ≡ flag-of t c → f ≡ 1 → j ≡ kind-of t c → k ≡ j → marked t c k ≡ mark-of t c
-mark-is t c f j k e o p q = rw (sym e ∙ o) (ap (marked t c) (q ∙ p))
+pub mark-is : (t : List ℕ) (c j k : ℕ) → declares-number t c ≡ true → j ≡ kind-of t c → k ≡ j → marked t c k ≡ mark-of t c
+mark-is t c j k e p q = ap (marked t c) (q ∙ p) ∙ ap (λ b. cond b (marked t c (kind-of t c)) t) (sym e)
 
 -- the words of a table in which a row is marked
 module _ (u : List ℕ) (c k : ℕ) where
@@ -92,17 +101,17 @@ module _ (t u : List ℕ) (n : ℕ) (long : length t ≡ decoded-length) (l : n 
   kind-same : kind-of u n ≡ kind-of t n
   kind-same = h .others (stride * n) (omega arith) (λ c p e. omega arith)
 
-  flag-same : flag-of u n ≡ flag-of t n
-  flag-same = h .others (stride * n + flag-at) (omega arith) (λ c p e. omega arith)
+  number-same : declares-number u n ≡ declares-number t n
+  number-same = ap₂ (λ x y. eqb x 0 && eqb y 1) (h .others (stride * n + 1) (omega arith) (λ c p e. omega arith)) (h .others (stride * n + 2 + 0) (omega arith) (λ c p e. omega arith))
 
   pub kind-low : kind-of t n < kind-limit → kind-of u n < kind-limit
   kind-low m = omega (arith, kind-same)
 
-  marked-not : ¬ (flag-of u n ≡ 1) → Marked t (n + 1) u
+  marked-not : declares-number u n ≡ false → Marked t (n + 1) u
   marked-not f = record { long = h .long; others = λ i p g. h .others i p (λ c q. g c (omega arith)); kind = kind; first = λ k. h .first k ∙ ap (λ b. cond b level-base (first-of t k)) (sym (more-not t n k q)); count = λ k. h .count k ∙ ap (λ b. cond b level-count (count-of t k)) (sym (more-not t n k q)); lowest-heads = λ k. h .lowest-heads k ∙ ap (λ b. cond b level-base (least-head-of t k)) (sym (more-not t n k q)); sizes-same = h .sizes-same; kinds-same = h .kinds-same; constructors-same = h .constructors-same }
     where
       q : row t n .number ≡ false
-      q = eqb-no (flag-of t n) 1 (λ p. f (flag-same ∙ p))
+      q = sym number-same ∙ f
 
       kind : (c : ℕ) → c < n + 1 → kind-of u c ≡ cond (row t c .number) no-kind (kind-of t c)
       kind c p = go (eqb c n) refl
@@ -111,7 +120,7 @@ module _ (t u : List ℕ) (n : ℕ) (long : length t ≡ decoded-length) (l : n 
           go true e = let z : c ≡ n = eqb-eq c n e in rw (z, q) kind-same
           go false e = let z : ¬ (c ≡ n) = eqb-ne c n e in h .kind c (omega arith)
 
-  module _ (k : ℕ) (m : k < kind-limit) (ek : k ≡ kind-of u n) (f : flag-of u n ≡ 1) where
+  module _ (k : ℕ) (m : k < kind-limit) (ek : k ≡ kind-of u n) (f : declares-number u n ≡ true) where
     abbrev v : List ℕ
     v = marked u n k
 
@@ -119,7 +128,7 @@ module _ (t u : List ℕ) (n : ℕ) (long : length t ≡ decoded-length) (l : n 
     long-u = h .long ∙ long
 
     q : row t n .number ≡ true
-    q = ap (λ x. eqb x 1) (sym flag-same ∙ f)
+    q = sym number-same ∙ f
 
     here : k ≡ kind-of t n
     here = ek ∙ kind-same
@@ -160,8 +169,8 @@ module _ (t u : List ℕ) (n : ℕ) (long : length t ≡ decoded-length) (l : n 
     }
 
   pub mark-more : kind-of t n < kind-limit → Marked t (n + 1) (mark-of u n)
-  mark-more m = go (eqb (flag-of u n) 1) refl
+  mark-more m = go (declares-number u n) refl
     where
-      go : (b : Bool) → eqb (flag-of u n) 1 ≡ b → Marked t (n + 1) (mark-of u n)
-      go true q = rw q (marked-more (kind-of u n) (kind-low m) refl (eqb-eq (flag-of u n) 1 q))
-      go false q = rw q (marked-not (eqb-ne (flag-of u n) 1 q))
+      go : (b : Bool) → declares-number u n ≡ b → Marked t (n + 1) (cond b (marked u n (kind-of u n)) u)
+      go true q = marked-more (kind-of u n) (kind-low m) refl q
+      go false q = marked-not q

@@ -2,7 +2,7 @@
 use mathlib.Core.Path.{_≡_, refl, sym, ap, ap₂, _∙_}
 use mathlib.Core.List.{List, [], _∷_, _++_, append-assoc, append-nil}
 use mathlib.Core.Option.{Option, none, some}
-use mathlib.Core.Bool.{Bool, true, false}
+use mathlib.Core.Bool.{Bool, true, false, _&&_}
 use Prim.Native.Nat.{ℕ, zero, suc, _+_, _-_, _*_, _≤_, _<_}
 use native.Mathlib.Numerals.{add-one}
 use native.Mathlib.Nat.{sub-zero, zero-add, add-zero, add-suc, suc-add}
@@ -14,18 +14,18 @@ use Rattle.signature.specs.Limits.{argument-limit, constructor-limit, number-co
 use Rattle.signature.specs.Lists.{_>>=_, split}
 use Rattle.signature.specs.Read.{read-arguments, read-constructors}
 use Rattle.signature.specs.Signature.{Signature, Constructor}
-use Rattle.signature.specs.Decoded.{decoded-length, stride, flag-at, kind-of, arity-of, flag-of}
-use Rattle.decoding.specs.Decoding.{words-from, row, rows, SameBelow, read-constructor, argument-count, flag-by, Copied, RowRead, Arities, RowsRead}
+use Rattle.signature.specs.Decoded.{decoded-length, stride, kind-of, arity-of, argument-of}
+use Rattle.decoding.specs.Decoding.{words-from, declares-number, row, rows, SameBelow, read-constructor, argument-count, flag-by, Copied, RowRead, Arities, RowsRead}
 use Rattle.signature.proofs.ListFacts.{split-none, split-some}
 use Rattle.signature.proofs.Tests.{leb-yes, leb-no, true≢false, eqb-eq, eqb-ne}
 use Rattle.signature.proofs.Counting.{counted-same, counted-more, set-is, set-apart}
 
 -- copying
 pub copied-none : (w : List ℕ) (from : ℕ) (t : List ℕ) (to : ℕ) → Copied w from t to 0 t
-copied-none w from t to = record { long = refl; there = λ j l. absurd (omega arith); before = λ i l. refl }
+copied-none w from t to = record { long = refl; there = λ j l. absurd (omega arith); before = λ i l. refl; behind = λ i l. refl }
 
 pub copied-more : (w : List ℕ) (from : ℕ) (t : List ℕ) (to n : ℕ) (u : List ℕ) → to + n < length t → Copied w from t to n u → Copied w from t to (n + 1) (set u (to + n) (getD w (from + n) 0))
-copied-more w from t to n u l h = record { long = length-set u (to + n) (getD w (from + n) 0) ∙ h .long; there = there; before = λ i m. set-apart u (to + n) i (getD w (from + n) 0) (omega arith) ∙ h .before i m }
+copied-more w from t to n u l h = record { long = length-set u (to + n) (getD w (from + n) 0) ∙ h .long; there = there; before = λ i m. set-apart u (to + n) i (getD w (from + n) 0) (omega arith) ∙ h .before i m; behind = λ i m. getD-set-other u (to + n) i (getD w (from + n) 0) 0 (λ p. omega arith) ∙ h .behind i (omega arith) }
   where
     there : (j : ℕ) → j < n + 1 → getD (set u (to + n) (getD w (from + n) 0)) (to + j) 0 ≡ getD w (from + j) 0
     there j m = go (eqb j n) refl
@@ -81,12 +81,23 @@ few-of m l = go (eqb m number-count) refl
         let z : ¬ (m ≡ number-count) = eqb-ne m number-count q in
         rw q (omega arith)
 
-flag-is : (m : ℕ) → eqb (flag-by m) 1 ≡ eqb m number-count
-flag-is m = go (eqb m number-count) refl
+-- and the word in the place of the first argument
+number-is : (m x : ℕ) → (argument-count m ≡ 0 → x ≡ flag-by m) → (eqb (argument-count m) 0 && eqb x 1) ≡ eqb m number-count
+number-is m x h = go (eqb m number-count) refl
   where
-    go : (b : Bool) → eqb m number-count ≡ b → eqb (flag-by m) 1 ≡ eqb m number-count
-    go true q = rw q
-    go false q = rw q
+    plain : (b : Bool) → eqb m number-count ≡ false → eqb m 0 ≡ b → (eqb m 0 && eqb x 1) ≡ false
+    plain true q e =
+        let z : argument-count m ≡ 0 = rw q (eqb-eq m 0 e) in
+        let f : x ≡ 0 = h z ∙ (rw q) in
+        rw (e, f)
+    plain false q e = rw e
+
+    go : (b : Bool) → eqb m number-count ≡ b → (eqb (argument-count m) 0 && eqb x 1) ≡ eqb m number-count
+    go true q =
+        let z : argument-count m ≡ 0 = rw q in
+        let f : x ≡ 1 = h z ∙ (rw q) in
+        rw (z, f, q)
+    go false q = rw q (plain (eqb m 0) q refl)
 
 words-taken : (u w : List ℕ) (b a m : ℕ) → a + m ≤ length w → ((j : ℕ) → j < m → getD u (b + j) 0 ≡ getD w (a + j) 0) → take m (drop a w) ≡ words-from u b m
 words-taken u w b a zero l h = refl
@@ -95,14 +106,17 @@ words-taken u w b a (suc m) l h =
     rw (drop-cons w a 0 (omega arith), e) (ap (λ z. getD w a 0 ∷ z) (words-taken u w (suc b) (suc a) m (omega arith) (λ j k. rw (suc-add b j, suc-add a j, ← add-suc b j, ← add-suc a j) (h (suc j) (omega arith)))))
 
 module _ (w : List ℕ) (p : ℕ) (t : List ℕ) (c m : ℕ) (u : List ℕ) (n f : ℕ) where
+  abbrev one : List ℕ
+  one = set t (stride * c) (getD w p 0)
+
+  abbrev two : List ℕ
+  two = set one (stride * c + 1) n
+
   abbrev pub Begun : List ℕ
-  Begun = set (set t (stride * c) (getD w p 0)) (stride * c + 1) n
+  Begun = set two (stride * c + 2) f
 
-  abbrev pub Flagged : List ℕ
-  Flagged = set u (stride * c + flag-at) f
-
-  pub row-taken : length t ≡ decoded-length → c < constructor-limit → m ≡ n → n ≡ argument-count (getD w (p + 1) 0) → getD w (p + 1) 0 ≤ number-count → p + 2 + m ≤ length w → f ≡ flag-by (getD w (p + 1) 0) → Copied w (p + 2) Begun (stride * c + 2) m u → RowRead w p t c Flagged (m + 2)
-  row-taken lt lc mn en lb lw ef h = record { long = length-set u (stride * c + flag-at) f ∙ long; within = omega arith; refused = λ z. absurd (omega arith); taken = λ z. taken; arity = λ z. omega (arith, arity, la); before = λ i l. below i (omega arith) ∙ before i l }
+  pub row-taken : length t ≡ decoded-length → c < constructor-limit → m ≡ n → n ≡ argument-count (getD w (p + 1) 0) → getD w (p + 1) 0 ≤ number-count → p + 2 + m ≤ length w → f ≡ flag-by (getD w (p + 1) 0) → Copied w (p + 2) Begun (stride * c + 2) m u → RowRead w p t c u (m + 2)
+  row-taken lt lc mn en lb lw ef h = record { long = h .long ∙ long; within = omega arith; refused = λ z. absurd (omega arith); taken = λ z. taken; arity = λ z. omega (arith, arity, la); before = before }
     where
       em : m ≡ argument-count (getD w (p + 1) 0)
       em = mn ∙ en
@@ -110,39 +124,45 @@ module _ (w : List ℕ) (p : ℕ) (t : List ℕ) (c m : ℕ) (u : List ℕ) (n f
       la : m ≤ argument-limit
       la = omega (arith, few-of (getD w (p + 1) 0) lb)
 
-      long : length u ≡ length t
-      long = h .long ∙ length-set (set t (stride * c) (getD w p 0)) (stride * c + 1) n ∙ length-set t (stride * c) (getD w p 0)
+      long : length Begun ≡ length t
+      long = length-set two (stride * c + 2) f ∙ length-set one (stride * c + 1) n ∙ length-set t (stride * c) (getD w p 0)
 
-      below : (i : ℕ) → i < stride * c + flag-at → getD Flagged i 0 ≡ getD u i 0
-      below i l = set-apart u (stride * c + flag-at) i f l
+      below : (i : ℕ) → i < stride * c + 2 → getD u i 0 ≡ getD two i 0
+      below i l = h .before i l ∙ set-apart two (stride * c + 2) i f l
 
-      kind : kind-of Flagged c ≡ getD w p 0
-      kind = below (stride * c) (omega arith) ∙ h .before (stride * c) (omega arith) ∙ set-apart (set t (stride * c) (getD w p 0)) (stride * c + 1) (stride * c) n (omega arith) ∙ set-is t (stride * c) (stride * c) (getD w p 0) (omega arith) refl
+      kind : kind-of u c ≡ getD w p 0
+      kind = below (stride * c) (omega arith) ∙ set-apart one (stride * c + 1) (stride * c) n (omega arith) ∙ set-is t (stride * c) (stride * c) (getD w p 0) (omega arith) refl
 
-      arity : arity-of Flagged c ≡ m
-      arity = below (stride * c + 1) (omega arith) ∙ h .before (stride * c + 1) (omega arith) ∙ set-is (set t (stride * c) (getD w p 0)) (stride * c + 1) (stride * c + 1) n (omega (arith, length-set t (stride * c) (getD w p 0))) refl ∙ sym mn
+      arity : arity-of u c ≡ m
+      arity = below (stride * c + 1) (omega arith) ∙ set-is one (stride * c + 1) (stride * c + 1) n (omega (arith, length-set t (stride * c) (getD w p 0))) refl ∙ sym mn
 
-      flag : flag-of Flagged c ≡ flag-by (getD w (p + 1) 0)
-      flag = set-is u (stride * c + flag-at) (stride * c + flag-at) f (omega (arith, long)) refl ∙ ef
+      flag : argument-count (getD w (p + 1) 0) ≡ 0 → argument-of u c 0 ≡ flag-by (getD w (p + 1) 0)
+      flag z = h .behind (stride * c + 2 + 0) (omega arith) ∙ set-is two (stride * c + 2) (stride * c + 2 + 0) f (omega (arith, long, length-set two (stride * c + 2) f)) (omega arith) ∙ ef
+
+      number : declares-number u c ≡ eqb (getD w (p + 1) 0) number-count
+      number = ap (λ z. eqb z 0 && eqb (argument-of u c 0) 1) (arity ∙ em) ∙ number-is (getD w (p + 1) 0) (argument-of u c 0) flag
 
       before : SameBelow (stride * c) t u
-      before i l = h .before i (omega arith) ∙ set-apart (set t (stride * c) (getD w p 0)) (stride * c + 1) i n (omega arith) ∙ set-apart t (stride * c) i (getD w p 0) l
+      before i l = below i (omega arith) ∙ set-apart one (stride * c + 1) i n (omega arith) ∙ set-apart t (stride * c) i (getD w p 0) l
 
-      cut : split m (drop (p + 2) w) ≡ some (words-from Flagged (stride * c + 2) m, drop (p + (m + 2)) w)
+      cut : split m (drop (p + 2) w) ≡ some (words-from u (stride * c + 2) m, drop (p + (m + 2)) w)
       cut =
           let e : p + 2 + m ≡ p + (m + 2) = omega arith in
-          split-some m (drop (p + 2) w) (omega (arith, length-drop (p + 2) w)) ∙ ap₂ (λ a b. some (a, b)) (words-taken Flagged w (stride * c + 2) (p + 2) m lw (λ j k. below (stride * c + 2 + j) (omega (arith, la)) ∙ h .there j k)) (drop-drop m (p + 2) w ∙ ap (λ z. drop z w) e)
+          split-some m (drop (p + 2) w) (omega (arith, length-drop (p + 2) w)) ∙ ap₂ (λ a b. some (a, b)) (words-taken u w (stride * c + 2) (p + 2) m lw (h .there)) (drop-drop m (p + 2) w ∙ ap (λ z. drop z w) e)
 
-      taken : read-constructor (drop p w) ≡ some (row Flagged c, drop (p + (m + 2)) w)
-      taken = rw (two-words w p (omega arith), leb-yes (getD w (p + 1) 0) number-count lb, ← em, cut, kind, arity, flag, flag-is (getD w (p + 1) 0))
+      found : read-constructor (drop p w) ≡ some (record { kind = getD w p 0; args = words-from u (stride * c + 2) m; number = eqb (getD w (p + 1) 0) number-count }, drop (p + (m + 2)) w)
+      found = rw (two-words w p (omega arith), leb-yes (getD w (p + 1) 0) number-count lb, ← em, cut)
+
+      taken : read-constructor (drop p w) ≡ some (row u c, drop (p + (m + 2)) w)
+      taken = found ∙ sym (ap (λ z. some (z, drop (p + (m + 2)) w)) (ap₂ (λ x y. record { kind = x; args = words-from u (stride * c + 2) y; number = declares-number u c }) kind arity ∙ ap (λ z. record { kind = getD w p 0; args = words-from u (stride * c + 2) m; number = z }) number))
 
 -- rows that nothing has written since
 pub row-same : (t u : List ℕ) (m c : ℕ) → SameBelow m t u → stride * c + stride ≤ m → arity-of t c ≤ argument-limit → row u c ≡ row t c
 row-same t u m c h l a =
     let k : kind-of u c ≡ kind-of t c = h (stride * c) (omega arith) in
     let n : arity-of u c ≡ arity-of t c = h (stride * c + 1) (omega arith) in
-    let f : flag-of u c ≡ flag-of t c = h (stride * c + flag-at) (omega arith) in
-    ap₂ (λ x xs. record { kind = x; args = xs; number = eqb (flag-of u c) 1 }) k (ap (words-from u (stride * c + 2)) n ∙ counted-same (λ j. getD u j 0) (λ j. getD t j 0) (stride * c + 2) (arity-of t c) (λ j z. h (stride * c + 2 + j) (omega arith))) ∙ ap (λ x. record { kind = kind-of t c; args = words-from t (stride * c + 2) (arity-of t c); number = eqb x 1 }) f
+    let f : declares-number u c ≡ declares-number t c = ap₂ (λ x y. eqb x 0 && eqb y 1) n (h (stride * c + 2 + 0) (omega arith)) in
+    ap₂ (λ x xs. record { kind = x; args = xs; number = declares-number u c }) k (ap (words-from u (stride * c + 2)) n ∙ counted-same (λ j. getD u j 0) (λ j. getD t j 0) (stride * c + 2) (arity-of t c) (λ j z. h (stride * c + 2 + j) (omega arith))) ∙ ap (λ x. record { kind = kind-of t c; args = words-from t (stride * c + 2) (arity-of t c); number = x }) f
 
 pub rows-same : (t u : List ℕ) (m n : ℕ) → SameBelow m t u → stride * n ≤ m → Arities t n → rows u 0 n ≡ rows t 0 n
 rows-same t u m n h l a = counted-same (λ d. row u d) (λ d. row t d) 0 n (λ j z. rw (zero-add j) (row-same t u m j h (omega arith) (a j z)))

@@ -10,15 +10,19 @@ use Rattle.signature.specs.Limits.{argument-limit, constructor-limit, kind-limi
 use Rattle.signature.specs.Lists.{_>>=_, count-up, first, keep, all}
 use Rattle.signature.specs.Read.{read-arguments, read-constructors, count-kinds, best, least, total}
 use Rattle.signature.specs.Signature.{Signature, Constructor, numbers, is-number-kind, arguments}
-use Rattle.signature.specs.Decoded.{decoded-length, stride, kind-stride, kinds-at, no-kind, kind-of, arity-of, flag-of, argument-of, first-of, count-of, least-head-of, least-size-of, kinds-of, constructors-of}
+use Rattle.signature.specs.Decoded.{decoded-length, stride, kind-stride, kinds-at, no-kind, kind-of, arity-of, argument-of, first-of, count-of, least-head-of, least-size-of, kinds-of, constructors-of}
 
 -- m words from place i on
 abbrev pub words-from : List ℕ → ℕ → ℕ → List ℕ
 words-from t i m = map (λ j. getD t j 0) (count-up i m)
 
+-- until the table is whole, a row without arguments has in the place of the first whether it declares a number kind
+abbrev pub declares-number : List ℕ → ℕ → Bool
+declares-number t c = eqb (arity-of t c) 0 && eqb (argument-of t c 0) 1
+
 -- constructor c, and m constructors from c on, as the table's rows have them
 abbrev pub row : List ℕ → ℕ → Constructor
-row t c = record { kind = kind-of t c; args = words-from t (stride * c + 2) (arity-of t c); number = eqb (flag-of t c) 1 }
+row t c = record { kind = kind-of t c; args = words-from t (stride * c + 2) (arity-of t c); number = declares-number t c }
 
 abbrev pub rows : List ℕ → ℕ → ℕ → Signature
 rows t c m = map (λ d. row t d) (count-up c m)
@@ -35,7 +39,7 @@ read-constructor (k ∷ (m ∷ ws)) = do
   r ← read-arguments m ws
   some (record { kind = k; args = r .0; number = eqb m number-count }, r .1)
 
--- by a row's second word: how many argument kinds follow, and what the table has of it
+-- by a row's second word: how many argument kinds follow, and what stands in the place of the first if none does
 abbrev pub argument-count : ℕ → ℕ
 argument-count m = cond (eqb m number-count) 0 m
 
@@ -47,6 +51,7 @@ pub record Copied (w : List ℕ) (from : ℕ) (t : List ℕ) (to n : ℕ) (u : L
   pub long : length u ≡ length t
   pub there : (j : ℕ) → j < n → getD u (to + j) 0 ≡ getD w (from + j) 0
   pub before : SameBelow to t u
+  pub behind : (i : ℕ) → to + n ≤ i → getD u i 0 ≡ getD t i 0
 
 -- the constructor at a place has been read into row c of u, with so many words, or there is none
 pub record RowRead (w : List ℕ) (place : ℕ) (t : List ℕ) (c : ℕ) (u : List ℕ) (m : ℕ) : Type 0 where
@@ -156,7 +161,7 @@ abbrev pub marked : List ℕ → ℕ → ℕ → List ℕ
 marked t c k = set (set (set (set t (stride * c) no-kind) (kinds-at + kind-stride * k) level-base) (kinds-at + kind-stride * k + 1) level-count) (kinds-at + kind-stride * k + 2) level-base
 
 abbrev pub mark-of : List ℕ → ℕ → List ℕ
-mark-of t c = cond (eqb (flag-of t c) 1) (marked t c (kind-of t c)) t
+mark-of t c = cond (declares-number t c) (marked t c (kind-of t c)) t
 
 -- the first n rows have been marked, as far as they declare number kinds
 pub record Marked (t : List ℕ) (n : ℕ) (u : List ℕ) : Type 0 where

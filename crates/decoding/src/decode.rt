@@ -1,6 +1,5 @@
 // Checking and decoding a signature.
 use signature::decoded::COUNTS_AT;
-use signature::decoded::FLAG;
 use signature::decoded::KIND_STRIDE;
 use signature::decoded::KINDS_AT;
 use signature::decoded::LEVEL_BASE;
@@ -10,7 +9,6 @@ use signature::decoded::STRIDE;
 use signature::decoded::argument_of;
 use signature::decoded::arity_of;
 use signature::decoded::count_of;
-use signature::decoded::flag_of;
 use signature::decoded::kind_of;
 ghost use mathlib.Core.Path.{_≡_};
 ghost use mathlib.Core.Bool.{true};
@@ -23,7 +21,7 @@ ghost use Rattle.signature.specs.Lists.{all, count-up, is-some};
 ghost use Rattle.signature.specs.Read.{read-signature, total};
 ghost use Rattle.signature.specs.Signature.{Signature};
 ghost use Rattle.signature.specs.Decoded.{Decoded, decoded-length, kind-of, arity-of, count-of};
-ghost use Rattle.decoding.specs.Decoding.{row, rows, argument-count, flag-by, alone-by, row-stands, mark-of, Marked, Copied, RowRead, RowsRead, Arities, next-kinds, HeadNoted, InOrder, RowFit, Fit, Sizes, next-sizes, sizes-after, lowest, LeastNoted, KindsNoted};
+ghost use Rattle.decoding.specs.Decoding.{declares-number, row, rows, argument-count, flag-by, alone-by, row-stands, mark-of, Marked, Copied, RowRead, RowsRead, Arities, next-kinds, HeadNoted, InOrder, RowFit, Fit, Sizes, next-sizes, sizes-after, lowest, LeastNoted, KindsNoted};
 
 pub const CONSTRUCTOR_LIMIT: usize = 256;
 
@@ -68,7 +66,7 @@ fn argument_count(count: u16) -> u16
     count
 }
 
-// By a row's second word: whether it declares a number kind.
+// By a row's second word: whether it declares a number kind, which stands in the place of the first argument until the table is whole.
 fn flag_by(count: u16) -> u16
     ensures { λ r. ⌜ r ≡ flag-by count ⌝ }
 {
@@ -99,8 +97,8 @@ fn read_row(w: &[u16], place: usize, t: &mut [u16], c: usize) -> usize
     let row = STRIDE * c;
     t[row] = w[place];
     t[row + 1] = few;
+    t[row + 2] = flag_by(count);
     copy_words(w, place + 2, t, row + 2, arity);
-    t[row + FLAG] = flag_by(count);
     arity + 2
 }
 
@@ -188,12 +186,23 @@ fn few_rows(t: &[u16], kinds: usize) -> bool
     true
 }
 
+// Whether row c declares a number kind.
+fn declares_number(t: &[u16], c: usize) -> bool
+    requires { ⌜ (length (now t) ≡ decoded-length) × (c < constructor-limit) ⌝ }
+    ensures { λ r. ⌜ r ≡ declares-number (now (t .entry)) c ⌝ }
+{
+    if arity_of(t, c) > 0 {
+        return false;
+    }
+    argument_of(t, c, 0) == 1
+}
+
 // Whether row c stands alone in its kind, if it declares a number kind.
 fn stands_alone(t: &[u16], c: usize) -> bool
     requires { ⌜ (length (now t) ≡ decoded-length) × (c < constructor-limit) × (kind-of (now t) c < kind-limit) ⌝ }
     ensures { λ r. ⌜ r ≡ alone-by (now (t .entry)) (row (now (t .entry)) c) ⌝ }
 {
-    if flag_of(t, c) != 1 {
+    if !declares_number(t, c) {
         return true;
     }
     count_of(t, wide(kind_of(t, c))) == 1
@@ -372,7 +381,7 @@ fn mark(t: &mut [u16], c: usize)
     requires { ⌜ (length (now t) ≡ decoded-length) × (c < constructor-limit) × (kind-of (now t) c < kind-limit) ⌝ }
     ensures { λ _. ⌜ now (t .exit) ≡ mark-of (now (t .entry)) c ⌝ }
 {
-    if flag_of(t, c) != 1 {
+    if !declares_number(t, c) {
         return;
     }
     let k = wide(kind_of(t, c));

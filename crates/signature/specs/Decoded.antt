@@ -21,9 +21,9 @@ least-size sig n k = getD (least small-size sig n) k 0
 abbrev pub least-head : Signature → ℕ → ℕ → ℕ
 least-head sig n k = first (keep (λ c. eqb (suc (total (least small-size sig n) (arguments sig c))) (least-size sig n k)) (heads sig k))
 
--- a constructor's row: its kind, its number of arguments, its argument kinds, and a word that only decoding uses: whether it declares a number kind
+-- a constructor's row: its kind, its number of arguments, its argument kinds
 abbrev pub stride : ℕ
-stride = 3 + argument-limit
+stride = 2 + argument-limit
 
 -- a kind's row: its first constructor, their count, its least constructor, its least size
 abbrev pub kind-stride : ℕ
@@ -45,12 +45,6 @@ kind-of t c = getD t (stride * c) 0
 
 abbrev pub arity-of : List ℕ → ℕ → ℕ
 arity-of t c = getD t (stride * c + 1) 0
-
-abbrev pub flag-at : ℕ
-flag-at = 2 + argument-limit
-
-abbrev pub flag-of : List ℕ → ℕ → ℕ
-flag-of t c = getD t (stride * c + flag-at) 0
 
 -- how many arguments a head of a booking or a row has: a level has none
 abbrev pub head-arity : List ℕ → ℕ → ℕ

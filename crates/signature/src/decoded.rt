@@ -3,20 +3,17 @@ ghost use mathlib.Core.Path.{_≡_};
 ghost use Prim.Native.Nat.{_<_};
 ghost use lib.ListN.{length};
 ghost use Rattle.signature.specs.Limits.{argument-limit, constructor-limit, kind-limit, level-base};
-ghost use Rattle.signature.specs.Decoded.{decoded-length, kind-of, arity-of, head-arity, flag-of, argument-of, first-of, count-of, least-head-of, constructors-of};
+ghost use Rattle.signature.specs.Decoded.{decoded-length, kind-of, arity-of, head-arity, argument-of, first-of, count-of, least-head-of, constructors-of};
 
-pub const STRIDE: usize = 7;
+pub const STRIDE: usize = 6;
 
 pub const KIND_STRIDE: usize = 4;
 
-pub const KINDS_AT: usize = 1792;
+pub const KINDS_AT: usize = 1536;
 
-pub const COUNTS_AT: usize = 1920;
+pub const COUNTS_AT: usize = 1664;
 
-pub const DECODED: usize = 1922;
-
-// Where a row says whether it declares a number kind.
-pub const FLAG: usize = 6;
+pub const DECODED: usize = 1666;
 
 // What stands for the kind of a row that declares a number kind.
 pub const NO_KIND: u16 = 32;
@@ -40,14 +37,6 @@ pub fn arity_of(t: &[u16], c: usize) -> u16
     ensures { λ r. ⌜ r ≡ arity-of (now (t .entry)) c ⌝ }
 {
     t[STRIDE * c + 1]
-}
-
-// Whether a row declares a number kind: 1 or 0.
-pub fn flag_of(t: &[u16], c: usize) -> u16
-    requires { ⌜ (length (now t) ≡ decoded-length) × (c < constructor-limit) ⌝ }
-    ensures { λ r. ⌜ r ≡ flag-of (now (t .entry)) c ⌝ }
-{
-    t[STRIDE * c + FLAG]
 }
 
 // How many arguments a head of a booking or a row has: a level has none.

@@ -1,8 +1,8 @@
 -- `decode::read_row` meets its contract.
-use mathlib.Core.Path.{_≡_, _∙_}
+use mathlib.Core.Path.{_∙_}
 use Prim.Native.Nat.{_+_}
 use native.Mathlib.Omega.{arith}
-use lib.ListN.{length, getD, length-set}
+use lib.ListN.{getD, length-set}
 use borrow.Author.Needs.{needs}
 use Rattle.decoding.proofs.Rows.{few-of, row-short, row-wide, row-cut, row-refused, row-taken}
 use Rattle.decoding.proofs.decode.read_row.Statement.{statement}
@@ -29,13 +29,13 @@ read-row-spec =
     (λ c. search needs)
     (λ c. search needs)
     (λ c. rw length-set (omega arith))
-    (λ c. search needs)
-    (λ c. search needs)
-    (λ c κs. (omega arith, let a = c .before .before .before .before .before .before .before .before .before .before .args in rw (length-set, length-set) (omega (arith, few-of (getD (a .w .now) (a .place + 1) 0) (omega arith)))))
     (λ c κs. search needs)
     (λ c. search needs)
     (λ c. search needs)
-    (λ c. let h : length (c .before .before .before .copy-words .last .1 .1 .0) ≡ length (c .before .before .before .before .before .before .before .before .before .before .before .before .before .before .args .t .now) = c .before .before .before .copy-words .ensures .long ∙ simp length-set in omega arith)
+    (λ c. rw (length-set, length-set) (omega arith))
     (λ c. search needs)
-    (λ c. rw length-set (c .before .before .before .copy-words .ensures .long ∙ simp length-set))
-    (λ c. let a = c .before .before .before .before .before .before .before .before .before .before .before .before .before .before .args in row-taken (a .w .now) (a .place) (a .t .now) (a .c) (c .before .before .before .before .before .before .before .wide .result) (c .before .before .before .copy-words .last .1 .1 .0) _ _ (c .before .before .before .before .before .before .before .before .before .before .before .before .before .before .pre .1) (c .before .before .before .before .before .before .before .before .before .before .before .before .before .before .pre .2) (c .before .before .before .before .before .before .before .wide .ensures) (c .before .before .before .before .before .before .before .before .argument-count .ensures) (omega arith) (omega arith) (c .flag-by .ensures) (c .before .before .before .copy-words .ensures)))
+    (λ c. search needs)
+    (λ c κs. (omega arith, let a = c .before .before .before .before .before .before .before .before .before .before .before .args in rw (length-set, length-set, length-set) (omega (arith, few-of (getD (a .w .now) (a .place + 1) 0) (omega arith)))))
+    (λ c. search needs)
+    (λ c. c .before .before .copy-words .ensures .long ∙ simp length-set)
+    (λ c. let a = c .before .before .before .before .before .before .before .before .before .before .before .before .before .before .args in row-taken (a .w .now) (a .place) (a .t .now) (a .c) (c .before .before .before .before .before .before .before .wide .result) (c .before .before .copy-words .last .1 .1 .0) _ _ (c .before .before .before .before .before .before .before .before .before .before .before .before .before .before .pre .1) (c .before .before .before .before .before .before .before .before .before .before .before .before .before .before .pre .2) (c .before .before .before .before .before .before .before .wide .ensures) (c .before .before .before .before .before .before .before .before .argument-count .ensures) (omega arith) (omega arith) (c .before .before .before .before .flag-by .ensures) (c .before .before .copy-words .ensures)))
