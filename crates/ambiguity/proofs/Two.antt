@@ -7,6 +7,7 @@ use native.Mathlib.Omega.{arith}
 use lib.Dec.{ltb}
 use lib.ListN.{length, take, drop, length-append, length-drop}
 use lib.Seq.{drop-at, length-take-le}
+use Rattle.cell.specs.Cell.{kind-tag}
 use Rattle.signature.specs.Decoded.{count-of}
 use Rattle.signature.specs.Limits.{kind-limit, heads-limit}
 use Rattle.signature.specs.Lists.{is-empty, somes}
@@ -43,10 +44,10 @@ module _ {t : List ℕ} {k : ℕ} {w : List ℕ} {b : Bool} {n m : ℕ} (g : Giv
   few-of-kind = omega (arith, g .known .decoded .head-count k (g .there), few-heads (g .known) k (g .there))
 
   module _ (full : ℕ) (f : (i : ℕ) → bit full i ≡ cond (ltb i (count-of t k)) 1 0) where
-    opened : Open (kinds-of (g .known .sig)) (g .known .sig) k (256 + k) full
+    opened : Open (kinds-of (g .known .sig)) (g .known .sig) k (kind-tag + k) full
     opened = let q = open-kind (g .known) k (g .there) in record { kind = q .kind; some = q .some; within = q .within; tag-is = refl; full-is = full-set (g .known) k (g .there) full f }
 
-    pub first-given : GivenPat t (256 + k) full w b n m
+    pub first-given : GivenPat t (kind-tag + k) full w b n m
     first-given = record {
       known = g .known;
       k = k;
@@ -62,7 +63,7 @@ module _ {t : List ℕ} {k : ℕ} {w : List ℕ} {b : Bool} {n m : ℕ} (g : Giv
       work-room = omega (arith, g .work-room);
     }
 
-    module _ (used read : ℕ) (o : List ℕ) (h : (q : GivenPat t (256 + k) full w b n m) → Made (kinds-of (q .known .sig)) (q .known .sig) (q .k) b (q .p) used read o) where
+    module _ (used read : ℕ) (o : List ℕ) (h : (q : GivenPat t (kind-tag + k) full w b n m) → Made (kinds-of (q .known .sig)) (q .known .sig) (q .k) b (q .p) used read o) where
       first-made : Made (kinds-of (g .known .sig)) (g .known .sig) k b (g .first) used read o
       unfolding first-given
       first-made = h first-given
@@ -70,7 +71,7 @@ module _ {t : List ℕ} {k : ℕ} {w : List ℕ} {b : Bool} {n m : ℕ} (g : Giv
       pub first-bounds : (read ≤ length w) × (used + 1 ≤ length o)
       first-bounds = (omega (arith, first-made .read-is, simp length-append at (ap length (g .words))), in-front _ o used (first-made .list) .0)
 
-      pub second-given : (n' m' : ℕ) → length o ≡ n → n' ≡ length (from o (used + 1)) → m' ≡ m → GivenPat t (256 + k) full (from w read) b n' m'
+      pub second-given : (n' m' : ℕ) → length o ≡ n → n' ≡ length (from o (used + 1)) → m' ≡ m → GivenPat t (kind-tag + k) full (from w read) b n' m'
       second-given n' m' l i e = record {
         known = g .known;
         k = k;
@@ -88,7 +89,7 @@ module _ {t : List ℕ} {k : ℕ} {w : List ℕ} {b : Bool} {n m : ℕ} (g : Giv
         work-room = omega (arith, e, g .work-room);
       }
 
-      module _ (n' m' used' read' : ℕ) (l : length o ≡ n) (i : n' ≡ length (from o (used + 1))) (e : m' ≡ m) (ys : List ℕ) (h' : (q : GivenPat t (256 + k) full (from w read) b n' m') → Made (kinds-of (q .known .sig)) (q .known .sig) (q .k) b (q .p) used' read' ys) where
+      module _ (n' m' used' read' : ℕ) (l : length o ≡ n) (i : n' ≡ length (from o (used + 1))) (e : m' ≡ m) (ys : List ℕ) (h' : (q : GivenPat t (kind-tag + k) full (from w read) b n' m') → Made (kinds-of (q .known .sig)) (q .known .sig) (q .k) b (q .p) used' read' ys) where
         second-made : Made (kinds-of (g .known .sig)) (g .known .sig) k b (g .second) used' read' ys
         unfolding second-given
         second-made = h' (second-given n' m' l i e)

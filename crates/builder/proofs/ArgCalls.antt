@@ -20,7 +20,7 @@ use Rattle.builder.specs.Arguments.{GivenArgs, few-begun, HasFirst, word
 use Rattle.rowlist.specs.Next.{GivenNext}
 use Rattle.rowlist.specs.Sides.{rows-of, Open}
 use Rattle.builder.specs.Build.{GivenPat, Made}
-use Rattle.cell.specs.Cell.{cell-code}
+use Rattle.cell.specs.Cell.{kind-tag, cell-code}
 use Rattle.cell.specs.Coded.{kinds-of, row-code}
 use Rattle.rowlist.specs.Grow.{words-list, ListFirst}
 use Rattle.row.specs.Row.{open-row, rows-minus}
@@ -60,13 +60,13 @@ module _ {t : List ℕ} {c j : ℕ} {w : List ℕ} {b : Bool} {used : ℕ} {o : 
     begun-fits = (omega (arith, begun-small g, g .room, g .some-words), omega (arith, begun-small g, g .work-room, g .some-words))
 
     module _ (full : ℕ) (f : (i : ℕ) → bit full i ≡ cond (ltb i (count-of t arg)) 1 0) where
-      opened : Open (kinds-of (g .known .sig)) (g .known .sig) arg (256 + arg) full
+      opened : Open (kinds-of (g .known .sig)) (g .known .sig) arg (kind-tag + arg) full
       opened = let q = open-kind (g .known) arg (view .there) in record { kind = q .kind; some = q .some; within = q .within; tag-is = refl; full-is = full-set (g .known) arg (view .there) full f }
 
-      pub wild-is : _≡_ {A = List ℕ} (cell-code (256 + arg) 0 full) (row-code (kinds-of (g .known .sig)) (open-row (g .known .sig) arg) arg)
-      wild-is = ap₂ (λ (x y : ℕ). cell-code (256 + arg) x y) (sym (set-nil 0)) (opened .full-is)
+      pub wild-is : _≡_ {A = List ℕ} (cell-code (kind-tag + arg) 0 full) (row-code (kinds-of (g .known .sig)) (open-row (g .known .sig) arg) arg)
+      wild-is = ap₂ (λ (x y : ℕ). cell-code (kind-tag + arg) x y) (sym (set-nil 0)) (opened .full-is)
 
-      pub arg-given : (k k' : ℕ) → k ≡ m - (used + 1) → k' ≡ length o → GivenPat t (256 + arg) full w b k k'
+      pub arg-given : (k k' : ℕ) → k ≡ m - (used + 1) → k' ≡ length o → GivenPat t (kind-tag + arg) full w b k k'
       arg-given k k' e e' = record {
         known = g .known;
         k = arg;
@@ -82,7 +82,7 @@ module _ {t : List ℕ} {c j : ℕ} {w : List ℕ} {b : Bool} {used : ℕ} {o : 
         work-room = omega (arith, e', size-is, g .room);
       }
 
-      module _ (k k' usedr read : ℕ) (e : k ≡ m - (used + 1)) (e' : k' ≡ length o) (ys : List ℕ) (f' : (q : GivenPat t (256 + arg) full w b k k') → Made (kinds-of (q .known .sig)) (q .known .sig) (q .k) b (q .p) usedr read ys) where
+      module _ (k k' usedr read : ℕ) (e : k ≡ m - (used + 1)) (e' : k' ≡ length o) (ys : List ℕ) (f' : (q : GivenPat t (kind-tag + arg) full w b k k') → Made (kinds-of (q .known .sig)) (q .known .sig) (q .k) b (q .p) usedr read ys) where
         pub arg-made : Made (kinds-of (g .known .sig)) (g .known .sig) arg b (view .p) usedr read ys
         unfolding arg-given
         arg-made = f' (arg-given k k' e e')

@@ -18,7 +18,7 @@ use Rattle.builder.specs.Arguments.{GivenArgs, MadeArgs, few-begun, HasF
 use Rattle.rowlist.specs.Next.{GivenNextAt, next-made, next-rows}
 use Rattle.rowlist.specs.Sides.{rows-of}
 use Rattle.builder.specs.Build.{GivenPat, Made}
-use Rattle.cell.specs.Cell.{cell-code}
+use Rattle.cell.specs.Cell.{kind-tag, cell-code}
 use Rattle.cell.specs.Coded.{kinds-of, row-code}
 use Rattle.rowlist.specs.Grow.{words-list}
 use Rattle.rowlist.specs.Product.{Product}
@@ -53,7 +53,7 @@ behind-one false sig k js p qs vs f = behind-minus sig k js p qs vs
 
 module _ {t : List ℕ} {c j : ℕ} {w : List ℕ} {b : Bool} {used : ℕ} {o : List ℕ} {m : ℕ} (g : GivenArgs t c j w b used o m) (h : j < arity-of t c) (arg : ℕ) (arg-is : arg ≡ argument-of t c j)
     (full : ℕ) (f : (i : ℕ) → bit full i ≡ cond (ltb i (count-of t arg)) 1 0)
-    (k k' usedr read : ℕ) (e : k ≡ m - (used + 1)) (e' : k' ≡ length o) (ys : List ℕ) (f' : (q : GivenPat t (256 + arg) full w b k k') → Made (kinds-of (q .known .sig)) (q .known .sig) (q .k) b (q .p) usedr read ys)
+    (k k' usedr read : ℕ) (e : k ≡ m - (used + 1)) (e' : k' ≡ length o) (ys : List ℕ) (f' : (q : GivenPat t (kind-tag + arg) full w b k k') → Made (kinds-of (q .known .sig)) (q .known .sig) (q .k) b (q .p) usedr read ys)
     (v : List ℕ) (front : take (0 + (used + 1)) v ≡ take (used + 1) o) (l : length v ≡ m) where
   next-at : (d : Bool) → b ≡ d → (n : ℕ) → n ≡ length o → GivenNextAt d (back v (used + 1) ys) (used + 1) n
   next-at true z n i = next-core g h arg arg-is full f k k' usedr read e e' ys f' v front l n i
@@ -72,21 +72,21 @@ module _ {t : List ℕ} {c j : ℕ} {w : List ℕ} {b : Bool} {used : ℕ} {o : 
   next-given n i = next-at b refl n i
 
   abbrev begun' : List (List ℕ)
-  begun' = next-rows b (cell-code (256 + arg) 0 full) (g .begun) (words-of-rows (g .known .sig) arg (rows-of (g .known .sig) arg b (view g h arg arg-is .p)))
+  begun' = next-rows b (cell-code (kind-tag + arg) 0 full) (g .begun) (words-of-rows (g .known .sig) arg (rows-of (g .known .sig) arg b (view g h arg arg-is .p)))
 
-  next-list : (d : Bool) (z : b ≡ d) (n : ℕ) (i : n ≡ length o) → next-made d (256 + arg) full (back v (used + 1) ys) (used + 1) n (next-at d z n i)
-      ≡ words-list (next-rows d (cell-code (256 + arg) 0 full) (g .begun) (words-of-rows (g .known .sig) arg (rows-of (g .known .sig) arg b (view g h arg arg-is .p))))
+  next-list : (d : Bool) (z : b ≡ d) (n : ℕ) (i : n ≡ length o) → next-made d (kind-tag + arg) full (back v (used + 1) ys) (used + 1) n (next-at d z n i)
+      ≡ words-list (next-rows d (cell-code (kind-tag + arg) 0 full) (g .begun) (words-of-rows (g .known .sig) arg (rows-of (g .known .sig) arg b (view g h arg arg-is .p))))
   unfolding next-at
   next-list true z n i = refl
   next-list false z n i = refl
 
-  module _ (n r : ℕ) (i : n ≡ length o) (o' : List ℕ) (same : length o' ≡ length o) (f'' : (q : GivenNextAt b (back v (used + 1) ys) (used + 1) n) → Product (next-made b (256 + arg) full (back v (used + 1) ys) (used + 1) n q) r o') where
+  module _ (n r : ℕ) (i : n ≡ length o) (o' : List ℕ) (same : length o' ≡ length o) (f'' : (q : GivenNextAt b (back v (used + 1) ys) (used + 1) n) → Product (next-made b (kind-tag + arg) full (back v (used + 1) ys) (used + 1) n q) r o') where
     made-next : Product (words-list begun') r o'
     unfolding next-given
     made-next = subst (λ (z : List ℕ). Product z r o') (next-list b refl n i) (f'' (next-given n i))
 
     few-next : few-begun b (length begun') (view g h arg arg-is .qs) × (length begun' ≤ 64)
-    few-next = next-few b (g .known .sig) arg (view g h arg arg-is .p) (view g h arg arg-is .qs) (cell-code (256 + arg) 0 full) (g .begun) (g .first) (subst (λ (z : Patterns). few-begun b (length (g .begun)) z) (view g h arg arg-is .parts-are) (g .few))
+    few-next = next-few b (g .known .sig) arg (view g h arg arg-is .p) (view g h arg arg-is .qs) (cell-code (kind-tag + arg) 0 full) (g .begun) (g .first) (subst (λ (z : Patterns). few-begun b (length (g .begun)) z) (view g h arg arg-is .parts-are) (g .few))
 
     pub rest-given : (m' : ℕ) → m' ≡ m → GivenArgs t c (j + 1) (from w read) b r o' m'
     rest-given m' z = record {
@@ -106,16 +106,16 @@ module _ {t : List ℕ} {c j : ℕ} {w : List ℕ} {b : Bool} {used : ℕ} {o : 
       there = view g h arg arg-is .theres;
       begun = begun';
       list = made-next;
-      filled = next-filled b (cell-code (256 + arg) 0 full) (g .begun) (words-of-rows (g .known .sig) arg (rows-of (g .known .sig) arg b (view g h arg arg-is .p))) (g .filled);
+      filled = next-filled b (cell-code (kind-tag + arg) 0 full) (g .begun) (words-of-rows (g .known .sig) arg (rows-of (g .known .sig) arg b (view g h arg arg-is .p))) (g .filled);
       a = g .a + length (pattern-code (view g h arg arg-is .p));
       some-words = omega (arith, g .some-words);
       short =
           let x : 3 * (g .a + length (pattern-code (view g h arg arg-is .p))) ≡ 3 * g .a + 3 * length (pattern-code (view g h arg arg-is .p)) = omega arith in
-          rw x (next-short b (3 * g .a) (3 * length (pattern-code (view g h arg arg-is .p))) (cell-code (256 + arg) 0 full) (g .begun) (words-of-rows (g .known .sig) arg (rows-of (g .known .sig) arg b (view g h arg arg-is .p))) (omega (arith, some-pattern-word (view g h arg arg-is .p))) (g .short)
+          rw x (next-short b (3 * g .a) (3 * length (pattern-code (view g h arg arg-is .p))) (cell-code (kind-tag + arg) 0 full) (g .begun) (words-of-rows (g .known .sig) arg (rows-of (g .known .sig) arg b (view g h arg arg-is .p))) (omega (arith, some-pattern-word (view g h arg arg-is .p))) (g .short)
           (words-short (g .known .sig) arg (length (pattern-code (view g h arg arg-is .p))) (rows-places (g .known .sig) arg (view g h arg arg-is .p) b (view g h arg arg-is .well))));
       few = few-next .0;
       count = few-next .1;
-      first = next-first b (cell-code (256 + arg) 0 full) (g .begun) (words-of-rows (g .known .sig) arg (rows-of (g .known .sig) arg b (view g h arg arg-is .p))) (g .first);
+      first = next-first b (cell-code (kind-tag + arg) 0 full) (g .begun) (words-of-rows (g .known .sig) arg (rows-of (g .known .sig) arg b (view g h arg arg-is .p))) (g .first);
       room = omega (arith, size-is g h arg arg-is, g .room, same);
       work-room = omega (arith, size-is g h arg arg-is, g .work-room, z);
     }

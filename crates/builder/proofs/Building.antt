@@ -6,7 +6,7 @@ use Prim.Native.Nat.{ℕ, _≤_, _<_, _+_, _-_, _*_}
 use native.Mathlib.Omega.{arith}
 use lib.Dec.{leb}
 use native.Mathlib.Nat.{le-trans}
-use lib.ListN.{length, set}
+use lib.ListN.{length, getD, set}
 use lib.Pow.{pow-lt}
 use Rattle.signature.specs.Lists.{somes}
 use Rattle.signature.specs.Signature.{Signature, heads, is-number-kind}
@@ -15,16 +15,16 @@ use Rattle.signature.proofs.Tests.{times-less, le-of}
 use Rattle.pattern.specs.Pattern.{Pattern, head, and, or, wild, absurd-pat, neg, var, range, pattern-code}
 use Rattle.pattern.specs.Ranged.{ranged}
 use Rattle.pattern.specs.Range.{right-range}
-use Rattle.pattern.specs.Read.{Form, is-head, is-var, is-and, is-or, is-wild, is-absurd, is-not, is-range, is-other}
+use Rattle.pattern.specs.Read.{Form, form, is-head, is-var, is-and, is-or, is-wild, is-absurd, is-not, is-range, is-other}
 use Rattle.pattern.specs.Word.{own-words}
 use Rattle.pattern.specs.Weight.{weight-plus, weight-minus, light-plus, light-minus}
 use Rattle.pattern.specs.WellFormed.{WellFormed, well-and, well-or, well-not, well-var, well-range}
 use Rattle.pattern.proofs.Opened.{shape}
 use Rattle.rowlist.specs.Sides.{rows-of, Open}
-use Rattle.builder.specs.Build.{light-of, making-of}
+use Rattle.builder.specs.Build.{light-of, making-of, GivenAs}
 use Rattle.builder.specs.declared.build.Making.{Making}
 use Rattle.builder.specs.declared.build.Making.the-variants.{Head, Multiply, Add, One, Nothing, Swap, Range}
-use Rattle.cell.specs.Cell.{Kinds, cell-code}
+use Rattle.cell.specs.Cell.{kind-tag, Kinds, cell-code}
 use Rattle.cell.specs.Cursor.{put-cell}
 use Rattle.sets.specs.Heads.{number-of}
 use Rattle.sets.specs.declared.heads.Heads.{Heads}
@@ -90,6 +90,9 @@ own-one is-other b s e h = refl
 
 pub one-word : (f : Form) {r s : Making} {own : ℕ} (b : Bool) → r ≡ making-of f b → r ≡ s → ¬ (6 ≡ rank s) → own ≡ own-words f → own ≡ 1
 one-word f {s = s} b e q h o = o ∙ own-one f b s (sym e ∙ q) h
+
+pub own-given : {s : Making} {t : List ℕ} {tag full own : ℕ} {w : List ℕ} {b : Bool} {n m : ℕ} → ¬ (6 ≡ rank s) → GivenAs s t tag full own w b n m → own ≡ 1
+own-given {w = w} {b = b} h g = one-word (form (getD w 0 0)) b refl (g .word) h (g .own-is)
 
 parts-of : (a b c : Bool) → (a && b && c) ≡ true → (a ≡ true) × (b ≡ true) × (c ≡ true)
 parts-of a b c e = (and-left a b (and-left (a && b) c e), and-right a b (and-left (a && b) c e), and-right (a && b) c e)
@@ -210,7 +213,7 @@ range-of sig k (var x) true h r w = other-step w (λ z. omega (arith, z))
 range-of sig k (var x) false h r w = other-step w (λ z. omega (arith, z))
 
 module _ (K : Kinds) (sig : Signature) (k tag full : ℕ) (o : Open K sig k tag full) where
-  one-row : (v : ℕ) (xs : List ℕ) → v ≡ set-of 0 xs → _≡_ {A = List ℕ} (3 ∷ cell-code tag v full) (3 ∷ cell-code (256 + k) (set-of 0 xs) (set-of (K .first k) (heads sig k)))
+  one-row : (v : ℕ) (xs : List ℕ) → v ≡ set-of 0 xs → _≡_ {A = List ℕ} (3 ∷ cell-code tag v full) (3 ∷ cell-code (kind-tag + k) (set-of 0 xs) (set-of (K .first k) (heads sig k)))
   one-row v xs e = rw (e, o .tag-is, o .full-is)
 
   -- a variable's set is small

@@ -21,7 +21,7 @@ use Rattle.pattern.specs.Ranged.{ranged, all-ranged}
 use Rattle.pattern.specs.Weight.{product-plus, sum-minus, light-all-plus, light-all-minus}
 use Rattle.pattern.specs.WellFormed.{WellFormed, AllWellFormed, well-head}
 use Rattle.pattern.proofs.Opened.{shape}
-use Rattle.cell.specs.Cell.{cell-code}
+use Rattle.cell.specs.Cell.{kind-tag, cell-code}
 use Rattle.cell.specs.Coded.{kinds-of, row-code}
 use Rattle.cell.specs.RowList.{from, entries}
 use Rattle.sets.proofs.ListSets.{all-but, only-one, set-nil, within-keep}
@@ -34,10 +34,10 @@ use Rattle.rowlist.specs.Sides.{rows-of}
 use Rattle.rowlist.proofs.Kinded.{known-head, kinds-same}
 use Rattle.rowlist.proofs.Typing.{args-there}
 use Rattle.builder.specs.Arguments.{GivenArgs, MadeArgs, HasFirst, few-begun, lights-of, words-of-rows, arg-words, open-words, behind}
-use Rattle.builder.specs.Build.{light-of, making-of, GivenHead, Made}
+use Rattle.builder.specs.Build.{light-of, making-of, GivenAs, Made}
 use Rattle.builder.specs.declared.build.Making.the-variants.{Head}
 use Rattle.builder.proofs.Behind.{list-words}
-use Rattle.builder.proofs.Building.{head-number, other-step}
+use Rattle.builder.proofs.Building.{head-number, own-given, other-step}
 use Rattle.builder.proofs.Parts.{first-part, step-is}
 use Rattle.builder.proofs.Ranges.{allowing-list}
 
@@ -91,24 +91,24 @@ module _ (sig : Signature) (k c : ℕ) where
   pub named-list : (rss : List Rows) → words-list (appends begin (arg-words sig (arguments sig c) rss)) ≡ entries (kinds-of sig) k (map (named [] c) rss)
   named-list rss = ap words-list (named-words rss) ∙ list-words (kinds-of sig) k (map (named [] c) rss)
 
-pub other-list : (sig : Signature) (k c rest : ℕ) → Within (kinds-of sig .first k) (heads sig k) → rest ≡ set-of (kinds-of sig .first k) (keep (λ d. not (eqb c d)) (heads sig k)) → others-code (256 + k) rest ≡ entries (kinds-of sig) k (other-than sig k c)
+pub other-list : (sig : Signature) (k c rest : ℕ) → Within (kinds-of sig .first k) (heads sig k) → rest ≡ set-of (kinds-of sig .first k) (keep (λ d. not (eqb c d)) (heads sig k)) → others-code (kind-tag + k) rest ≡ entries (kinds-of sig) k (other-than sig k c)
 other-list sig k c rest w e = rw e (allowing-list sig k (keep (λ d. not (eqb c d)) (heads sig k)) (within-keep _ (λ d. not (eqb c d)) (heads sig k) w))
 
 -- what the calls ask and give
-module _ {t : List ℕ} {tag full c own : ℕ} {w : List ℕ} {b : Bool} {n m : ℕ} (g : GivenHead t tag full c own w b n m) where
+module _ {t : List ℕ} {tag full c own : ℕ} {w : List ℕ} {b : Bool} {n m : ℕ} (g : GivenAs (Head c) t tag full own w b n m) where
   abbrev sig : Signature
   sig = g .pat .known .sig
 
   view : HeadOf (g .pat .known .sig) (g .pat .k) (g .pat .p) b c
   view = head-of (g .pat .known .sig) (g .pat .k) (g .pat .p) b c (g .pat .well) (g .pat .light) (g .pat .ranges) (step-is (g .pat) (g .word))
 
-  first-is : first-of t (tag - 256) ≡ kinds-of sig .first (g .pat .k)
-  first-is = let z : tag - 256 ≡ g .pat .k = omega (arith, g .pat .opened .tag-is) in ap (first-of t) z ∙ g .pat .known .decoded .first-head (g .pat .k) (g .pat .there)
+  first-is : first-of t (tag - kind-tag) ≡ kinds-of sig .first (g .pat .k)
+  first-is = let z : tag - kind-tag ≡ g .pat .k = omega (arith, g .pat .opened .tag-is) in ap (first-of t) z ∙ g .pat .known .decoded .first-head (g .pat .k) (g .pat .there)
 
   size-is : length (pattern-code (g .pat .p)) ≡ 1 + length (patterns-code (view .ps))
   size-is = ap (λ (z : Pattern). length (pattern-code z)) (view .p-is) ∙ omega arith
 
-  pub head-place : (length t ≡ decoded-length) × (256 ≤ tag) × (tag < 256 + kind-limit) × (first-of t (tag - 256) ≤ c) × (c < first-of t (tag - 256) + heads-limit)
+  pub head-place : (length t ≡ decoded-length) × (kind-tag ≤ tag) × (tag < kind-tag + kind-limit) × (first-of t (tag - kind-tag) ≤ c) × (c < first-of t (tag - kind-tag) + heads-limit)
   head-place =
       let h = known-head (g .pat .known) (g .pat .k) c _ (view .constructor) (view .inside) in (
         long (g .pat .known),
@@ -121,7 +121,7 @@ module _ {t : List ℕ} {tag full c own : ℕ} {w : List ℕ} {b : Bool} {n m : 
   pub head-room : 5 ≤ n
   head-room = omega (arith, g .pat .room, size-is)
 
-  module _ (i x used : ℕ) (o : List ℕ) (at : i ≡ c - first-of t (tag - 256)) (e : (j : ℕ) → bit x j ≡ cond (eqb j i) 1 0) (l : Product (3 ∷ cell-code c 0 x) used o) (same : length o ≡ n) where
+  module _ (i x used : ℕ) (o : List ℕ) (at : i ≡ c - first-of t (tag - kind-tag)) (e : (j : ℕ) → bit x j ≡ cond (eqb j i) 1 0) (l : Product (3 ∷ cell-code c 0 x) used o) (same : length o ≡ n) where
     begin-is : begin sig (g .pat .k) c ≡ cell-code c 0 x
     begin-is = ap₂ (λ (a d : ℕ). cell-code c a d) (set-nil 0) (sym (only-one (kinds-of sig .first (g .pat .k)) c i x (at ∙ ap (λ (f : ℕ). c - f) first-is) e))
 
@@ -133,7 +133,7 @@ module _ {t : List ℕ} {tag full c own : ℕ} {w : List ℕ} {b : Bool} {n m : 
       kinds = refl;
       ps = view .ps;
       rest = g .pat .rest;
-      code-is = first-part w c (patterns-code (view .ps)) (g .pat .rest) own (g .own-is) (g .pat .code-is ∙ ap (λ (z : Pattern). pattern-code z ++ g .pat .rest) (view .p-is));
+      code-is = first-part w c (patterns-code (view .ps)) (g .pat .rest) own (own-given (λ z. omega (arith, z)) g) (g .pat .code-is ∙ ap (λ (z : Pattern). pattern-code z ++ g .pat .rest) (view .p-is));
       well = view .wells;
       light = view .light;
       ranges = view .ranges;
@@ -157,7 +157,7 @@ module _ {t : List ℕ} {tag full c own : ℕ} {w : List ℕ} {b : Bool} {n m : 
       made-args = f (args-given m' q)
 
       pub head-read : read + own ≤ length w
-      head-read = omega (arith, g .own-is, made-args .read-is, size-is, simp length-append at (ap length (g .pat .code-is)))
+      head-read = omega (arith, own-given (λ z. omega (arith, z)) g, made-args .read-is, size-is, simp length-append at (ap length (g .pat .code-is)))
 
       rows-are : (d : Bool) → rows-of sig (g .pat .k) d (g .pat .p) ≡ rows-of sig (g .pat .k) d (head c (view .ps))
       rows-are d = ap (rows-of sig (g .pat .k) d) (view .p-is)
@@ -169,7 +169,7 @@ module _ {t : List ℕ} {tag full c own : ℕ} {w : List ℕ} {b : Bool} {n m : 
 
       pub plus-made : b ≡ true → Made (kinds-of (g .pat .known .sig)) (g .pat .known .sig) (g .pat .k) b (g .pat .p) used' (read + own) o'
       plus-made z = record {
-        read-is = omega (arith, g .own-is, made-args .read-is, size-is);
+        read-is = omega (arith, own-given (λ z. omega (arith, z)) g, made-args .read-is, size-is);
         list = subst (λ (l : List ℕ). Product l used' o') (plus-list b z ∙ ap (entries (kinds-of sig) (g .pat .k)) (sym (rows-are b))) (made-args .list);
       }
 
@@ -207,6 +207,6 @@ module _ {t : List ℕ} {tag full c own : ℕ} {w : List ℕ} {b : Bool} {n m : 
           ∙ sym (each-append (λ r. row-code K r k) (other-than sig k c) R)
           ∙ ap (entries K k) (sym (rows-are b ∙ minus-rows b z)) in
           record {
-            read-is = omega (arith, g .own-is, made-args .read-is, size-is);
+            read-is = omega (arith, own-given (λ z. omega (arith, z)) g, made-args .read-is, size-is);
             list = subst (λ (l : List ℕ). Product l r o'') all (p (others-given z m'' y));
           }

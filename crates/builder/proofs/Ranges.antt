@@ -18,7 +18,7 @@ use Rattle.pattern.specs.Range.{within}
 use Rattle.sets.specs.Set.{bit, set-of, Within}
 use Rattle.sets.proofs.ListSets.{one-if, bit-set-of, set-keep, set-nil, set-some, within-keep}
 use Rattle.sets.proofs.SetLaws.{bit-zero}
-use Rattle.cell.specs.Cell.{cell-code}
+use Rattle.cell.specs.Cell.{kind-tag, cell-code}
 use Rattle.cell.specs.Coded.{kinds-of}
 use Rattle.cell.specs.RowList.{entries}
 use Rattle.row.specs.Row.{allowing}
@@ -28,7 +28,7 @@ use Rattle.rowlist.specs.Sides.{rows-of}
 use Rattle.builder.specs.Build.{GivenRange}
 
 -- the row of the heads that are allowed, if there are any, by their set
-pub allowing-list : (sig : Signature) (k : ℕ) (cs : List ℕ) → Within (kinds-of sig .first k) cs → others-code (256 + k) (set-of (kinds-of sig .first k) cs) ≡ entries (kinds-of sig) k (allowing cs)
+pub allowing-list : (sig : Signature) (k : ℕ) (cs : List ℕ) → Within (kinds-of sig .first k) cs → others-code (kind-tag + k) (set-of (kinds-of sig .first k) cs) ≡ entries (kinds-of sig) k (allowing cs)
 allowing-list sig k [] w = rw (set-nil (kinds-of sig .first k))
 allowing-list sig k (d ∷ ds) w = rw (ne-eqb _ 0 (set-some (kinds-of sig .first k) d ds w), set-nil 0)
 

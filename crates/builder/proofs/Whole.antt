@@ -6,6 +6,7 @@ use Prim.Native.Nat.{ℕ, _+_, _*_, _≤_, _<_}
 use native.Mathlib.Omega.{arith}
 use lib.Dec.{ltb}
 use lib.ListN.{length, drop, length-append}
+use Rattle.cell.specs.Cell.{kind-tag}
 use Rattle.signature.specs.Decoded.{count-of, decoded-length}
 use Rattle.signature.specs.Limits.{kind-limit, heads-limit}
 use Rattle.sets.specs.Set.{bit}
@@ -32,7 +33,7 @@ module _ {t w : List ℕ} {k n m : ℕ} {b : Bool} (g : GivenPart t k w b n m) w
   )
 
   module _ (full : ℕ) (f : (i : ℕ) → bit full i ≡ cond (ltb i (count-of t k)) 1 0) where
-    pub part-given : GivenPat t (256 + k) full w b n m
+    pub part-given : GivenPat t (kind-tag + k) full w b n m
     part-given =
         let q = open-kind (g .known) k (g .there) in
         record {
@@ -50,7 +51,7 @@ module _ {t w : List ℕ} {k n m : ℕ} {b : Bool} (g : GivenPart t k w b n m) w
           work-room = g .work-room;
         }
 
-    pub part-made : (used read : ℕ) (o : List ℕ) → ((q : GivenPat t (256 + k) full w b n m) → Made (kinds-of (q .known .sig)) (q .known .sig) (q .k) b (q .p) used read o) → Made (kinds-of (g .known .sig)) (g .known .sig) k b (g .pattern) used read o
+    pub part-made : (used read : ℕ) (o : List ℕ) → ((q : GivenPat t (kind-tag + k) full w b n m) → Made (kinds-of (q .known .sig)) (q .known .sig) (q .k) b (q .p) used read o) → Made (kinds-of (g .known .sig)) (g .known .sig) k b (g .pattern) used read o
     unfolding part-given
     part-made used read o h = h part-given
 

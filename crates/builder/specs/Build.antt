@@ -13,6 +13,7 @@ use Rattle.pattern.specs.Range.{right-range}
 use Rattle.pattern.specs.Ranged.{ranged}
 use Rattle.pattern.specs.Weight.{light-plus, light-minus, weight-plus}
 use Rattle.pattern.specs.WellFormed.{WellFormed, PatternWords}
+use Rattle.pattern.specs.Word.{own-words}
 use Rattle.sets.specs.Set.{set-of}
 use Rattle.builder.specs.declared.build.Making.{Making}
 use Rattle.builder.specs.declared.build.Making.the-variants.{Head, Multiply, Add, One, Nothing, Swap, Range}
@@ -63,23 +64,11 @@ pub record GivenPat (t : List ℕ) (tag full : ℕ) (w : List ℕ) (b : Bool) (n
   pub room : room-unit * length (pattern-code p) ≤ n
   pub work-room : room-unit * length (pattern-code p) ≤ m
 
--- the pattern in front is that of constructor c
-pub record GivenHead (t : List ℕ) (tag full c own : ℕ) (w : List ℕ) (b : Bool) (n m : ℕ) : Type 0 where
+-- the pattern in front, whose rows are made in this way, and how many words are its own
+pub record GivenAs (made : Making) (t : List ℕ) (tag full own : ℕ) (w : List ℕ) (b : Bool) (n m : ℕ) : Type 0 where
   pub pat : GivenPat t tag full w b n m
-  pub word : making-of (form (getD w 0 0)) b ≡ Head c
-  pub own-is : own ≡ 1
-
--- the pattern in front is two parts whose rows are multiplied
-pub record GivenMultiplied (t : List ℕ) (tag full own : ℕ) (w : List ℕ) (b : Bool) (n m : ℕ) : Type 0 where
-  pub pat : GivenPat t tag full w b n m
-  pub word : making-of (form (getD w 0 0)) b ≡ Multiply
-  pub own-is : own ≡ 1
-
--- the pattern in front is two parts whose rows are added
-pub record GivenAdded (t : List ℕ) (tag full own : ℕ) (w : List ℕ) (b : Bool) (n m : ℕ) : Type 0 where
-  pub pat : GivenPat t tag full w b n m
-  pub word : making-of (form (getD w 0 0)) b ≡ Add
-  pub own-is : own ≡ 1
+  pub word : making-of (form (getD w 0 0)) b ≡ made
+  pub own-is : own ≡ own-words (form (getD w 0 0))
 
 -- a range in front of the words, at a number kind with its tag and the set of its heads
 pub record GivenRange (tag full : ℕ) (w : List ℕ) (n : ℕ) : Type 0 where
@@ -92,7 +81,7 @@ pub record GivenRange (tag full : ℕ) (w : List ℕ) (n : ℕ) : Type 0 where
   pub number : is-number-kind sig k ≡ true
   pub right : right-range low high ≡ true
   pub opened : Open (kinds-of sig) sig k tag full
-  pub room : 5 ≤ n
+  pub room : cell-width + 2 ≤ n
 
 -- what was read and written
 pub record Made (K : Kinds) (sig : Signature) (k : ℕ) (b : Bool) (p : Pattern) (used read : ℕ) (o : List ℕ) : Type 0 where

@@ -39,7 +39,8 @@ ghost use Rattle.cell.specs.RowList.{entries, from};
 ghost use Rattle.rowlist.specs.Product.{GivenProduct, Product, products};
 ghost use Rattle.rowlist.specs.Sides.{rows-of};
 ghost use Rattle.builder.specs.Arguments.{GivenArgs, MadeArgs};
-ghost use Rattle.builder.specs.Build.{making-of, GivenPat, GivenHead, GivenMultiplied, GivenAdded, GivenRange, Made, GivenPart, GivenWhole, RowsFirst};
+ghost use Rattle.builder.specs.declared.build.Making.the-variants.{Head, Multiply, Add};
+ghost use Rattle.builder.specs.Build.{making-of, GivenPat, GivenAs, GivenRange, Made, GivenPart, GivenWhole, RowsFirst};
 
 // How the rows of a pattern are made on one side: a constructor's; the products of its two parts' rows; both parts' rows; one row of one cell, with these variables; none; its part's on the other side; those of a range.
 pub enum Making {
@@ -218,8 +219,8 @@ fn multiplied(
     out: &mut [u64],
     work: &mut [u64],
 ) -> Built
-    requires { ⌜ GivenMultiplied (now t) tag (number-of full) own (now p) plus (length (now out)) (length (now work)) ⌝ }
-    ensures { λ r. ⌜ ((g : GivenMultiplied (now (t .entry)) tag (number-of full) own (now (p .entry)) plus (length (now (out .entry))) (length (now (work .entry)))) → Made (kinds-of (g .pat .known .sig)) (g .pat .known .sig) (g .pat .k) plus (g .pat .p) (r .used) (r .read) (now (out .exit))) ⌝ }
+    requires { ⌜ GivenAs Multiply (now t) tag (number-of full) own (now p) plus (length (now out)) (length (now work)) ⌝ }
+    ensures { λ r. ⌜ ((g : GivenAs Multiply (now (t .entry)) tag (number-of full) own (now (p .entry)) plus (length (now (out .entry))) (length (now (work .entry)))) → Made (kinds-of (g .pat .known .sig)) (g .pat .known .sig) (g .pat .k) plus (g .pat .p) (r .used) (r .read) (now (out .exit))) ⌝ }
 {
     let a = rows(t, tag, full, &p[own..], plus, work, out);
     let from = a.read + own;
@@ -241,8 +242,8 @@ fn added(
     out: &mut [u64],
     work: &mut [u64],
 ) -> Built
-    requires { ⌜ GivenAdded (now t) tag (number-of full) own (now p) plus (length (now out)) (length (now work)) ⌝ }
-    ensures { λ r. ⌜ ((g : GivenAdded (now (t .entry)) tag (number-of full) own (now (p .entry)) plus (length (now (out .entry))) (length (now (work .entry)))) → Made (kinds-of (g .pat .known .sig)) (g .pat .known .sig) (g .pat .k) plus (g .pat .p) (r .used) (r .read) (now (out .exit))) ⌝ }
+    requires { ⌜ GivenAs Add (now t) tag (number-of full) own (now p) plus (length (now out)) (length (now work)) ⌝ }
+    ensures { λ r. ⌜ ((g : GivenAs Add (now (t .entry)) tag (number-of full) own (now (p .entry)) plus (length (now (out .entry))) (length (now (work .entry)))) → Made (kinds-of (g .pat .known .sig)) (g .pat .known .sig) (g .pat .k) plus (g .pat .p) (r .used) (r .read) (now (out .exit))) ⌝ }
 {
     let a = rows(t, tag, full, &p[own..], plus, out, work);
     let from = a.read + own;
@@ -265,8 +266,8 @@ fn head_rows(
     out: &mut [u64],
     work: &mut [u64],
 ) -> Built
-    requires { ⌜ GivenHead (now t) tag (number-of full) head own (now p) plus (length (now out)) (length (now work)) ⌝ }
-    ensures { λ r. ⌜ ((g : GivenHead (now (t .entry)) tag (number-of full) head own (now (p .entry)) plus (length (now (out .entry))) (length (now (work .entry)))) → Made (kinds-of (g .pat .known .sig)) (g .pat .known .sig) (g .pat .k) plus (g .pat .p) (r .used) (r .read) (now (out .exit))) ⌝ }
+    requires { ⌜ GivenAs (Head head) (now t) tag (number-of full) own (now p) plus (length (now out)) (length (now work)) ⌝ }
+    ensures { λ r. ⌜ ((g : GivenAs (Head head) (now (t .entry)) tag (number-of full) own (now (p .entry)) plus (length (now (out .entry))) (length (now (work .entry)))) → Made (kinds-of (g .pat .known .sig)) (g .pat .known .sig) (g .pat .k) plus (g .pat .p) (r .used) (r .read) (now (out .exit))) ⌝ }
 {
     let c = head as usize;
     let i = place_of(t, tag, c);

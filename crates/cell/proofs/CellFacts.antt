@@ -10,7 +10,7 @@ use lib.ListN.{length, replicate}
 use Rattle.cell.specs.declared.cell.Cell.{Cell}
 use Rattle.signature.specs.Decoded.{decoded-length, arity-of}
 use Rattle.signature.specs.Limits.{heads-limit}
-use Rattle.cell.specs.Cell.{RowsCells, no-cells, more-cells, RowCells, named-cells, free-cell, all-words, Kinds, words, cell-code}
+use Rattle.cell.specs.Cell.{kind-tag, RowsCells, no-cells, more-cells, RowCells, named-cells, free-cell, all-words, Kinds, words, cell-code}
 use Rattle.cell.specs.Cursor.{wild-cell, cell-of}
 
 abbrev pub count : RowsCells → ℕ
@@ -44,7 +44,7 @@ abbrev mutual
 -- constructor c of kind k, with its one-bit set, as the arity table has it
 pub record Head (K : Kinds) (ar : List ℕ) (k c m : ℕ) : Type 0 where
   pub low : K .first k ≤ c
-  pub tag : c < 256
+  pub tag : c < kind-tag
   pub known : length ar ≡ decoded-length
   pub arity : arity-of ar c ≡ length (K .args c)
   pub set : m ≡ 2 ^ (c - K .first k)
@@ -52,7 +52,7 @@ pub record Head (K : Kinds) (ar : List ℕ) (k c m : ℕ) : Type 0 where
 
 pub record Free (k t m : ℕ) : Type 0 where
   pub kind : k < 256
-  pub tag : t ≡ 256 + k
+  pub tag : t ≡ kind-tag + k
   pub some : 0 < m
   pub fits : m < 2 ^ heads-limit
 

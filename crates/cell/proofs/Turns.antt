@@ -10,7 +10,7 @@ use Rattle.cell.specs.declared.cell.Cell.{Cell}
 use Rattle.cell.specs.declared.cell.Cursor.{Cursor}
 use Rattle.cell.specs.declared.cell.Out.the-variants.{Kept, Dropped}
 use Rattle.signature.specs.Decoded.{decoded-length}
-use Rattle.cell.specs.Cell.{words, named-cells, free-cell, first-word}
+use Rattle.cell.specs.Cell.{kind-tag, words, named-cells, free-cell, first-word}
 use Rattle.sets.specs.Heads.{number-of, low-word, high-word}
 use Rattle.cell.specs.Cursor.{put-cell, next-of, Room, join-of, look-at, opens-of}
 use Rattle.cell.specs.Lockstep.{Result}
@@ -126,7 +126,7 @@ pub record Front {ar a b o₀ : List ℕ} (g : Given ar a b o₀) (x y : Cursor)
   pub wildcards-a : x .wildcards ≤ left
   pub wildcards-b : y .wildcards ≤ left
   pub room : n + 3 ≤ length o₀
-  pub known : (join-of (look-at a x) (look-at b y) .tag < 256) → length ar ≡ decoded-length
+  pub known : (join-of (look-at a x) (look-at b y) .tag < kind-tag) → length ar ≡ decoded-length
 
 module _ {ar a b o₀ : List ℕ} (g : Given ar a b o₀) (x y : Cursor) (n left : ℕ) (o : List ℕ) where
   front-at : (xs ys : List Col) → 0 < left → Mid g x y n left o xs ys → Front g x y n left
@@ -208,7 +208,7 @@ module _ {ar a b o₀ : List ℕ} (g : Given ar a b o₀) (x y : Cursor) (n left
     joined : c ≡ join-of (look-at a x) (look-at b y)
     joined = ec ∙ ap₂ join-of ep eq
 
-    pub known-of : Front g x y n left → c .tag < 256 → length ar ≡ decoded-length
+    pub known-of : Front g x y n left → c .tag < kind-tag → length ar ≡ decoded-length
     known-of f = rw joined (f .known)
 
     pub out-of : Now g x y n left o → number-of (c .allowed) ≡ 0 → Result (both (g .r) (g .s)) Dropped o₀ o

@@ -8,6 +8,7 @@ use native.Mathlib.Omega.{arith}
 use borrow.Author.Tests.{lt-ltb, le-ltb}
 use lib.Dec.{eqb, ltb}
 use lib.ListN.{length, getD}
+use Rattle.cell.specs.Cell.{kind-tag}
 use Rattle.signature.specs.Decoded.{count-of, first-of, kind-of}
 use Rattle.signature.specs.Limits.{kind-limit, level-base, level-count, last-level}
 use Rattle.signature.specs.Lists.{memb, any, count-up}
@@ -33,32 +34,32 @@ module _ {t : List ℕ} {tag : ℕ} (g : Seen t tag) where
   pub kind-small : g .k < kind-limit
   kind-small = omega (arith, g .there, kinds-same (g .known), words-of (g .known) .few-kinds)
 
-  -- a tag that names no constructor is 256 and the kind
-  pub seen-free : 256 ≤ tag → tag ≡ 256 + g .k
+  -- a tag that names no constructor is kind-tag and the kind
+  pub seen-free : kind-tag ≤ tag → tag ≡ kind-tag + g .k
   seen-free l = go (g .is)
     where
-      go : (tag ≡ 256 + g .k) ⊎ ((tag < 256) × (memb tag (heads (g .known .sig) (g .k)) ≡ true)) → tag ≡ 256 + g .k
+      go : (tag ≡ kind-tag + g .k) ⊎ ((tag < kind-tag) × (memb tag (heads (g .known .sig) (g .k)) ≡ true)) → tag ≡ kind-tag + g .k
       go (inl e) = e
       go (inr (m, e)) = absurd (omega arith)
 
-  pub seen-named : tag < 256 → kind-of t tag ≡ g .k
+  pub seen-named : tag < kind-tag → kind-of t tag ≡ g .k
   seen-named l = go (g .is)
     where
       named : {js : List ℕ} → ((tag < length (g .known .sig)) × (is-number-kind (g .known .sig) (g .k) ≡ false) × (kind-of t tag ≡ g .k)) ⊎ ((is-level tag ≡ true) × (is-number-kind (g .known .sig) (g .k) ≡ true) × (js ≡ [])) → kind-of t tag ≡ g .k
       named (inl (a, b, q)) = q
       named (inr (v, b, q)) = absurd (omega (arith, level-is tag v .0))
 
-      go : (tag ≡ 256 + g .k) ⊎ ((tag < 256) × (memb tag (heads (g .known .sig) (g .k)) ≡ true)) → kind-of t tag ≡ g .k
+      go : (tag ≡ kind-tag + g .k) ⊎ ((tag < kind-tag) × (memb tag (heads (g .known .sig) (g .k)) ≡ true)) → kind-of t tag ≡ g .k
       go (inl e) = absurd (omega arith)
       go (inr (m, e)) = let (js, q) = kind-of-head (g .known .sig) (g .k) tag e in named (head-is (g .known) (g .k) tag js q)
 
-  pub refined-named : (allowed : ℕ) → tag < 256 → true ≡ refined-cell (g .known .sig) (g .k) tag allowed
-  refined-named allowed l = rw (lt-ltb tag 256 l)
+  pub refined-named : (allowed : ℕ) → tag < kind-tag → true ≡ refined-cell (g .known .sig) (g .k) tag allowed
+  refined-named allowed l = rw (lt-ltb tag kind-tag l)
 
-  pub refined-free : (allowed n m : ℕ) → 256 ≤ tag → n ≡ length (members allowed) → m ≡ count-of t (tag - 256) → not (eqb n m) ≡ refined-cell (g .known .sig) (g .k) tag allowed
+  pub refined-free : (allowed n m : ℕ) → kind-tag ≤ tag → n ≡ length (members allowed) → m ≡ count-of t (tag - kind-tag) → not (eqb n m) ≡ refined-cell (g .known .sig) (g .k) tag allowed
   refined-free allowed n m l h e =
-      let q : tag - 256 ≡ g .k = omega (arith, seen-free l) in
-      rw (le-ltb tag 256 l, h, e ∙ ap (count-of t) q ∙ g .known .decoded .head-count (g .k) (g .there))
+      let q : tag - kind-tag ≡ g .k = omega (arith, seen-free l) in
+      rw (le-ltb tag kind-tag l, h, e ∙ ap (count-of t) q ∙ g .known .decoded .head-count (g .k) (g .there))
 
   pub kind-saw : (allowed x : ℕ) (b : Bool) → b ≡ true → b ≡ refined-cell (g .known .sig) (g .k) tag allowed → x ≡ g .k → RowKind (g .known .sig) (g .k) tag allowed x
   kind-saw allowed x b e h i = record { plain = λ l. absurd (omega (arith, kind-small)); refines = λ l. (i, sym h ∙ e) }

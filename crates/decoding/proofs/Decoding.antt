@@ -15,7 +15,7 @@ use Rattle.signature.specs.Lawful.{SignatureWords}
 use Rattle.signature.specs.Read.{read-constructors, read-signature, count-kinds, stands-alone, lawful, lawful-kinds, least, Signed}
 use Rattle.signature.specs.Signature.{Signature, Constructor, numbers, levels, is-number-kind, heads}
 use Rattle.signature.specs.Decoded.{Decoded, stride, kinds-at, kind-of, arity-of, argument-of, first-of, count-of, least-head-of, head-kind, least-head}
-use Rattle.decoding.specs.Decoding.{row, rows, SameBelow, Arities, RowsRead, InOrder, kinds-or-0, alone-by, row-stands, Fit, KindsNoted, Marked, sizes-after, lowest}
+use Rattle.decoding.specs.Decoding.{row, rows, SameBelow, Arities, RowsRead, InOrder, kinds-or-0, alone-by, row-lawful, Fit, KindsNoted, Marked, sizes-after, lowest}
 use Rattle.signature.proofs.Booleans.{and-left, and-right, and-false, and-pairs}
 use Rattle.signature.proofs.Members.{some-when}
 use Rattle.signature.proofs.ListFacts.{at-count, at-count-is, at-out, test-at}
@@ -185,33 +185,33 @@ module _ {w : List ℕ} {n : ℕ} {u v : List ℕ} {m : ℕ} (k : Ranked w n u v
   alone-same : all (alone-by v) (rows v 0 n) ≡ Alone (rows u 0 n)
   alone-same = ap (λ z. all (alone-by v) z) same ∙ all-rows (alone-by v) (stands-alone (rows u 0 n)) (λ d. row u d) 0 n (λ j l z. ap (λ y. not (row u j .number) || eqb y 1) (k .order .noted kind-there (kind-of u j) (k .order .each kind-there j (omega arith)) .1))
 
-  stand-is : (s : Bool) → s ≡ all (row-stands v m) (rows v 0 n) → (Alone (rows u 0 n) && There (rows u 0 n) m) ≡ s
-  stand-is s e = sym (e ∙ all-pairs (alone-by v) (λ c. all (λ i. ltb i m) (c .args)) (rows v 0 n) ∙ ap₂ _&&_ alone-same (ap (λ z. There z m) same))
+  lawful-rows : (s : Bool) → s ≡ all (row-lawful v m) (rows v 0 n) → (Alone (rows u 0 n) && There (rows u 0 n) m) ≡ s
+  lawful-rows s e = sym (e ∙ all-pairs (alone-by v) (λ c. all (λ i. ltb i m) (c .args)) (rows v 0 n) ∙ ap₂ _&&_ alone-same (ap (λ z. There z m) same))
 
-  pub not-standing : (x : List ℕ) (s : Bool) → s ≡ all (row-stands v m) (rows v 0 n) → s ≡ false → Answer w false x
-  not-standing x s e z = unlawful (k .begun) x (tested ∙ middle-not (Few (rows u 0 n) m) (Alone (rows u 0 n)) (There (rows u 0 n) m) (Small (rows u 0 n) m) (stand-is s e ∙ z))
+  pub row-unlawful : (x : List ℕ) (s : Bool) → s ≡ all (row-lawful v m) (rows v 0 n) → s ≡ false → Answer w false x
+  row-unlawful x s e z = unlawful (k .begun) x (tested ∙ middle-not (Few (rows u 0 n) m) (Alone (rows u 0 n)) (There (rows u 0 n) m) (Small (rows u 0 n) m) (lawful-rows s e ∙ z))
 
   pub kinds-low : (c : ℕ) → c < n → kind-of v c < kind-limit
   kinds-low c l = omega (arith, most, k .order .rows-same (stride * c) (omega (arith, most)), k .order .each kind-there c l, k .order .few)
 
-  pub fit : (s : Bool) → s ≡ all (row-stands v m) (rows v 0 n) → s ≡ true → Fit v n
+  pub fit : (s : Bool) → s ≡ all (row-lawful v m) (rows v 0 n) → s ≡ true → Fit v n
   fit s e z = record { long = k .order .long; few = most; each = λ c l. record { kind = kinds-low c l; arity = arities (k .begun) v m (k .order) c l; arguments = λ j i. omega (arith, k .order .few, argument c l j i) } }
     where
       argument : (c : ℕ) → c < n → (j : ℕ) → j < arity-of v c → argument-of v c j < m
       argument c l j i =
-          let p : all (λ i. ltb i m) (row v c .args) ≡ true = and-right (alone-by v (row v c)) _ (test-at (row-stands v m) (rows v 0 n) c (row v c) (sym e ∙ z) (at-count (λ d. row v d) 0 n c l ∙ ap (λ i. some (row v i)) (zero-add c))) in
+          let p : all (λ i. ltb i m) (row v c .args) ≡ true = and-right (alone-by v (row v c)) _ (test-at (row-lawful v m) (rows v 0 n) c (row v c) (sym e ∙ z) (at-count (λ d. row v d) 0 n c l ∙ ap (λ i. some (row v i)) (zero-add c))) in
           le-of (suc (argument-of v c j)) m (test-at (λ i. ltb i m) (row v c .args) j (argument-of v c j) p (at-count (λ i. getD v i 0) (stride * c + 2) (arity-of v c) j i))
 
   pub fit-after : (x : List ℕ) (r : Bool) → Fit v n → KindsNoted v n m x r → Fit x n
   fit-after x r f h = record { long = h .long; few = most; each = λ c l. let g = f .each c l in let a : arity-of x c ≡ arity-of v c = h .rows-same (stride * c + 1) (omega (arith, most)) in record { kind = omega (arith, h .rows-same (stride * c) (omega (arith, most)), g .kind); arity = omega (arith, g .arity); arguments = λ j i. omega (arith, h .rows-same (stride * c + 2 + j) (omega (arith, most, g .arity)), g .arguments j (omega arith)) } }
 
   -- the table is whole
-  module _ (x y : List ℕ) (f s r : Bool) (ef : f ≡ all (λ i. leb (count-of v i) row-limit) (count-up 0 m)) (zf : f ≡ true) (es : s ≡ all (row-stands v m) (rows v 0 n)) (zs : s ≡ true) (h : KindsNoted v n m x r) (o : Marked x n y) where
+  module _ (x y : List ℕ) (f s r : Bool) (ef : f ≡ all (λ i. leb (count-of v i) row-limit) (count-up 0 m)) (zf : f ≡ true) (es : s ≡ all (row-lawful v m) (rows v 0 n)) (zs : s ≡ true) (h : KindsNoted v n m x r) (o : Marked x n y) where
     exist : Exist m (rows u 0 n)
-    exist = and-right (Alone (rows u 0 n)) (There (rows u 0 n) m) (stand-is s es ∙ zs)
+    exist = and-right (Alone (rows u 0 n)) (There (rows u 0 n) m) (lawful-rows s es ∙ zs)
 
     answer : r ≡ lawful (rows u 0 n)
-    answer = h .small ∙ ap (λ z. all (λ i. leb (getD (sizes-after small-size z) i 0) small-size) (count-up 0 m)) same ∙ sym (tested ∙ rw (few-is f ef ∙ zf, and-left (Alone (rows u 0 n)) (There (rows u 0 n) m) (stand-is s es ∙ zs), exist) (small-same (rows u 0 n) m exist (k .order .few)))
+    answer = h .small ∙ ap (λ z. all (λ i. leb (getD (sizes-after small-size z) i 0) small-size) (count-up 0 m)) same ∙ sym (tested ∙ rw (few-is f ef ∙ zf, and-left (Alone (rows u 0 n)) (There (rows u 0 n) m) (lawful-rows s es ∙ zs), exist) (small-same (rows u 0 n) m exist (k .order .few)))
 
     kept : SameBelow kinds-at u x
     kept i l = h .rows-same i l ∙ k .order .rows-same i l

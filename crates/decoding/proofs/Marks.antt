@@ -8,10 +8,9 @@ use native.Mathlib.Omega.{arith}
 use lib.ListN.{length, getD, set, length-set}
 use lib.Seq.{getD-set-same, getD-set-other}
 use lib.Dec.{eqb}
-use Rattle.signature.specs.Limits.{argument-limit, constructor-limit, kind-limit, level-base, level-count}
-use Rattle.signature.specs.Lists.{any}
+use Rattle.signature.specs.Limits.{constructor-limit, kind-limit, level-base, level-count}
 use Rattle.signature.specs.Signature.{declares, is-number-kind}
-use Rattle.signature.specs.Decoded.{decoded-length, stride, kind-stride, kinds-at, no-kind, kind-of, arity-of, argument-of, first-of, count-of, least-head-of}
+use Rattle.signature.specs.Decoded.{decoded-length, stride, kind-stride, kinds-at, unkinded, kind-of, arity-of, argument-of, first-of, count-of, least-head-of}
 use Rattle.decoding.specs.Decoding.{declares-number, row, rows, alone-by, marked, mark-of, Marked}
 use Rattle.signature.proofs.Booleans.{and-false, or-false, or-true}
 use Rattle.signature.proofs.Members.{any-append}
@@ -34,11 +33,11 @@ alone-not t c e = ap (λ b. not b || eqb (count-of t (kind-of t c)) 1) (sym e)
 pub alone-count : (t : List ℕ) (c j k x : ℕ) → declares-number t c ≡ true → j ≡ kind-of t c → k ≡ j → x ≡ count-of t k → eqb x 1 ≡ alone-by t (row t c)
 alone-count t c j k x e p q r = ap (λ z. eqb z 1) (r ∙ ap (count-of t) (q ∙ p)) ∙ ap (λ b. not b || eqb (count-of t (kind-of t c)) 1) (sym e)
 
-pub stands-not : (a b : Bool) → a ≡ false → false ≡ (a && b)
-stands-not a b e = rw e
+pub and-not : (a b : Bool) → a ≡ false → false ≡ (a && b)
+and-not a b e = rw e
 
-pub stands-so : (a b r : Bool) → a ≡ true → r ≡ b → r ≡ (a && b)
-stands-so a b r e f = rw e f
+pub and-so : (a b r : Bool) → a ≡ true → r ≡ b → r ≡ (a && b)
+and-so a b r e f = rw e f
 
 -- whether a row is marked, as the code finds it
 pub mark-not : (t : List ℕ) (c : ℕ) → declares-number t c ≡ false → t ≡ mark-of t c
@@ -53,7 +52,7 @@ module _ (u : List ℕ) (c k : ℕ) where
   at = kinds-at + kind-stride * k
 
   abbrev one : List ℕ
-  one = set u (stride * c) no-kind
+  one = set u (stride * c) unkinded
 
   abbrev two : List ℕ
   two = set one at level-base
@@ -62,23 +61,23 @@ module _ (u : List ℕ) (c k : ℕ) where
   three = set two (at + 1) level-count
 
   pub marked-long : length (marked u c k) ≡ length u
-  marked-long = length-set three (at + 2) level-base ∙ length-set two (at + 1) level-count ∙ length-set one at level-base ∙ length-set u (stride * c) no-kind
+  marked-long = length-set three (at + 2) level-base ∙ length-set two (at + 1) level-count ∙ length-set one at level-base ∙ length-set u (stride * c) unkinded
 
   away : (i : ℕ) → ¬ (i ≡ stride * c) → ¬ (i ≡ at) → ¬ (i ≡ at + 1) → ¬ (i ≡ at + 2) → getD (marked u c k) i 0 ≡ getD u i 0
-  away i p q r s = getD-set-other three (at + 2) i level-base 0 s ∙ getD-set-other two (at + 1) i level-count 0 r ∙ getD-set-other one at i level-base 0 q ∙ getD-set-other u (stride * c) i no-kind 0 p
+  away i p q r s = getD-set-other three (at + 2) i level-base 0 s ∙ getD-set-other two (at + 1) i level-count 0 r ∙ getD-set-other one at i level-base 0 q ∙ getD-set-other u (stride * c) i unkinded 0 p
 
   module _ (long : length u ≡ decoded-length) (l : c < constructor-limit) (m : k < kind-limit) where
-    at-kind : kind-of (marked u c k) c ≡ no-kind
-    at-kind = getD-set-other three (at + 2) (stride * c) level-base 0 (λ p. omega arith) ∙ getD-set-other two (at + 1) (stride * c) level-count 0 (λ p. omega arith) ∙ getD-set-other one at (stride * c) level-base 0 (λ p. omega arith) ∙ getD-set-same u (stride * c) no-kind 0 (omega arith)
+    at-kind : kind-of (marked u c k) c ≡ unkinded
+    at-kind = getD-set-other three (at + 2) (stride * c) level-base 0 (λ p. omega arith) ∙ getD-set-other two (at + 1) (stride * c) level-count 0 (λ p. omega arith) ∙ getD-set-other one at (stride * c) level-base 0 (λ p. omega arith) ∙ getD-set-same u (stride * c) unkinded 0 (omega arith)
 
     at-first : first-of (marked u c k) k ≡ level-base
-    at-first = getD-set-other three (at + 2) at level-base 0 (λ p. omega arith) ∙ getD-set-other two (at + 1) at level-count 0 (λ p. omega arith) ∙ getD-set-same one at level-base 0 (omega (arith, length-set u (stride * c) no-kind))
+    at-first = getD-set-other three (at + 2) at level-base 0 (λ p. omega arith) ∙ getD-set-other two (at + 1) at level-count 0 (λ p. omega arith) ∙ getD-set-same one at level-base 0 (omega (arith, length-set u (stride * c) unkinded))
 
     at-count : count-of (marked u c k) k ≡ level-count
-    at-count = getD-set-other three (at + 2) (at + 1) level-base 0 (λ p. omega arith) ∙ getD-set-same two (at + 1) level-count 0 (omega (arith, length-set one at level-base, length-set u (stride * c) no-kind))
+    at-count = getD-set-other three (at + 2) (at + 1) level-base 0 (λ p. omega arith) ∙ getD-set-same two (at + 1) level-count 0 (omega (arith, length-set one at level-base, length-set u (stride * c) unkinded))
 
     at-least : least-head-of (marked u c k) k ≡ level-base
-    at-least = getD-set-same three (at + 2) level-base 0 (omega (arith, length-set two (at + 1) level-count, length-set one at level-base, length-set u (stride * c) no-kind))
+    at-least = getD-set-same three (at + 2) level-base 0 (omega (arith, length-set two (at + 1) level-count, length-set one at level-base, length-set u (stride * c) unkinded))
 
 -- one row more
 module _ (t : List ℕ) (n : ℕ) where
@@ -113,10 +112,10 @@ module _ (t u : List ℕ) (n : ℕ) (long : length t ≡ decoded-length) (l : n 
       q : row t n .number ≡ false
       q = sym number-same ∙ f
 
-      kind : (c : ℕ) → c < n + 1 → kind-of u c ≡ cond (row t c .number) no-kind (kind-of t c)
+      kind : (c : ℕ) → c < n + 1 → kind-of u c ≡ cond (row t c .number) unkinded (kind-of t c)
       kind c p = go (eqb c n) refl
         where
-          go : (b : Bool) → eqb c n ≡ b → kind-of u c ≡ cond (row t c .number) no-kind (kind-of t c)
+          go : (b : Bool) → eqb c n ≡ b → kind-of u c ≡ cond (row t c .number) unkinded (kind-of t c)
           go true e = let z : c ≡ n = eqb-eq c n e in rw (z, q) kind-same
           go false e = let z : ¬ (c ≡ n) = eqb-ne c n e in h .kind c (omega arith)
 
@@ -136,10 +135,10 @@ module _ (t u : List ℕ) (n : ℕ) (long : length t ≡ decoded-length) (l : n 
     others : (i : ℕ) → i < kinds-at → ((c : ℕ) → c < n + 1 → i ≡ stride * c → ⊥) → getD v i 0 ≡ getD t i 0
     others i p g = away u n k i (g n (omega arith)) (λ z. omega arith) (λ z. omega arith) (λ z. omega arith) ∙ h .others i p (λ c z. g c (omega arith))
 
-    kind : (c : ℕ) → c < n + 1 → kind-of v c ≡ cond (row t c .number) no-kind (kind-of t c)
+    kind : (c : ℕ) → c < n + 1 → kind-of v c ≡ cond (row t c .number) unkinded (kind-of t c)
     kind c p = go (eqb c n) refl
       where
-        go : (b : Bool) → eqb c n ≡ b → kind-of v c ≡ cond (row t c .number) no-kind (kind-of t c)
+        go : (b : Bool) → eqb c n ≡ b → kind-of v c ≡ cond (row t c .number) unkinded (kind-of t c)
         go true e = let z : c ≡ n = eqb-eq c n e in rw (z, q) (at-kind u n k long-u l m)
         go false e = let z : ¬ (c ≡ n) = eqb-ne c n e in away u n k (stride * c) (λ w. omega arith) (λ w. omega arith) (λ w. omega arith) (λ w. omega arith) ∙ h .kind c (omega arith)
 

@@ -9,7 +9,7 @@ use native.Mathlib.Nat.{sub-zero, zero-add, add-zero, add-suc, suc-add}
 use native.Mathlib.Omega.{arith}
 use lib.ListN.{length, getD, set, take, drop, length-drop, length-set}
 use lib.Seq.{drop-cons, drop-drop, drop-length, getD-set-same, getD-set-other}
-use lib.Dec.{leb, eqb}
+use lib.Dec.{eqb}
 use Rattle.signature.specs.Limits.{argument-limit, constructor-limit, number-count}
 use Rattle.signature.specs.Lists.{_>>=_, split}
 use Rattle.signature.specs.Read.{read-arguments, read-constructors}

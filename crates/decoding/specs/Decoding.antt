@@ -10,7 +10,7 @@ use Rattle.signature.specs.Limits.{argument-limit, constructor-limit, kind-limi
 use Rattle.signature.specs.Lists.{_>>=_, count-up, first, keep, all}
 use Rattle.signature.specs.Read.{read-arguments, read-constructors, count-kinds, best, least, total}
 use Rattle.signature.specs.Signature.{Signature, Constructor, numbers, is-number-kind, arguments}
-use Rattle.signature.specs.Decoded.{decoded-length, stride, kind-stride, kinds-at, no-kind, kind-of, arity-of, argument-of, first-of, count-of, least-head-of, least-size-of, kinds-of, constructors-of}
+use Rattle.signature.specs.Decoded.{decoded-length, stride, kind-stride, kinds-at, unkinded, kind-of, arity-of, argument-of, first-of, count-of, least-head-of, least-size-of, kinds-of, constructors-of}
 
 -- m words from place i on
 abbrev pub words-from : List ℕ → ℕ → ℕ → List ℕ
@@ -86,8 +86,8 @@ abbrev pub alone-by : List ℕ → Constructor → Bool
 alone-by t d = not (d .number) || eqb (count-of t (d .kind)) 1
 
 -- and its argument kinds exist, where there are so many kinds
-abbrev pub row-stands : List ℕ → ℕ → Constructor → Bool
-row-stands t kinds d = alone-by t d && all (λ k. ltb k kinds) (d .args)
+abbrev pub row-lawful : List ℕ → ℕ → Constructor → Bool
+row-lawful t kinds d = alone-by t d && all (λ k. ltb k kinds) (d .args)
 
 -- constructor c has been counted to kind k, which is new if it is the n-th
 pub record HeadNoted (t : List ℕ) (k c n : ℕ) (u : List ℕ) : Type 0 where
@@ -158,7 +158,7 @@ pub record KindsNoted (t : List ℕ) (n kinds : ℕ) (u : List ℕ) (r : Bool) :
 
 -- row c declares kind k a number kind: its own number is no head, and the kind's are the levels
 abbrev pub marked : List ℕ → ℕ → ℕ → List ℕ
-marked t c k = set (set (set (set t (stride * c) no-kind) (kinds-at + kind-stride * k) level-base) (kinds-at + kind-stride * k + 1) level-count) (kinds-at + kind-stride * k + 2) level-base
+marked t c k = set (set (set (set t (stride * c) unkinded) (kinds-at + kind-stride * k) level-base) (kinds-at + kind-stride * k + 1) level-count) (kinds-at + kind-stride * k + 2) level-base
 
 abbrev pub mark-of : List ℕ → ℕ → List ℕ
 mark-of t c = cond (declares-number t c) (marked t c (kind-of t c)) t
@@ -167,7 +167,7 @@ mark-of t c = cond (declares-number t c) (marked t c (kind-of t c)) t
 pub record Marked (t : List ℕ) (n : ℕ) (u : List ℕ) : Type 0 where
   pub long : length u ≡ length t
   pub others : (i : ℕ) → i < kinds-at → ((c : ℕ) → c < n → i ≡ stride * c → ⊥) → getD u i 0 ≡ getD t i 0
-  pub kind : (c : ℕ) → c < n → kind-of u c ≡ cond (row t c .number) no-kind (kind-of t c)
+  pub kind : (c : ℕ) → c < n → kind-of u c ≡ cond (row t c .number) unkinded (kind-of t c)
   pub first : (k : ℕ) → first-of u k ≡ cond (is-number-kind (rows t 0 n) k) level-base (first-of t k)
   pub count : (k : ℕ) → count-of u k ≡ cond (is-number-kind (rows t 0 n) k) level-count (count-of t k)
   pub lowest-heads : (k : ℕ) → least-head-of u k ≡ cond (is-number-kind (rows t 0 n) k) level-base (least-head-of t k)

@@ -4,8 +4,8 @@ use signature::decoded::KIND_STRIDE;
 use signature::decoded::KINDS_AT;
 use signature::decoded::LEVEL_BASE;
 use signature::decoded::LEVELS;
-use signature::decoded::NO_KIND;
 use signature::decoded::STRIDE;
+use signature::decoded::UNKINDED;
 use signature::decoded::argument_of;
 use signature::decoded::arity_of;
 use signature::decoded::count_of;
@@ -21,18 +21,18 @@ ghost use Rattle.signature.specs.Lists.{all, count-up, is-some};
 ghost use Rattle.signature.specs.Read.{read-signature, total};
 ghost use Rattle.signature.specs.Signature.{Signature};
 ghost use Rattle.signature.specs.Decoded.{Decoded, decoded-length, kind-of, arity-of, count-of};
-ghost use Rattle.decoding.specs.Decoding.{declares-number, row, rows, argument-count, flag-by, alone-by, row-stands, mark-of, Marked, Copied, RowRead, RowsRead, Arities, next-kinds, HeadNoted, InOrder, RowFit, Fit, Sizes, next-sizes, sizes-after, lowest, LeastNoted, KindsNoted};
+ghost use Rattle.decoding.specs.Decoding.{declares-number, row, rows, argument-count, flag-by, alone-by, row-lawful, mark-of, Marked, Copied, RowRead, RowsRead, Arities, next-kinds, HeadNoted, InOrder, RowFit, Fit, Sizes, next-sizes, sizes-after, lowest, LeastNoted, KindsNoted};
 
 pub const CONSTRUCTOR_LIMIT: usize = 256;
 
-pub const ARGUMENT_LIMIT: usize = 4;
+pub const ARGUMENT_LIMIT: u16 = 4;
 
 pub const KIND_LIMIT: usize = 32;
 
 pub const ROW_LIMIT: u16 = 64;
 
 // The second word of a row that declares a number kind.
-pub const NUMBER_COUNT: u16 = 5;
+pub const NUMBER_COUNT: u16 = ARGUMENT_LIMIT + 1;
 
 pub const SMALL_SIZE: u16 = 6;
 
@@ -223,9 +223,10 @@ fn arguments_exist(t: &[u16], c: usize, kinds: usize) -> bool
     true
 }
 
-fn row_stands(t: &[u16], c: usize, kinds: usize) -> bool
+// Whether row c stands alone, if it declares a number kind, and its argument kinds exist.
+fn row_lawful(t: &[u16], c: usize, kinds: usize) -> bool
     requires { ⌜ (length (now t) ≡ decoded-length) × (c < constructor-limit) × (arity-of (now t) c ≤ argument-limit) × (kind-of (now t) c < kind-limit) ⌝ }
-    ensures { λ r. ⌜ r ≡ row-stands (now (t .entry)) kinds (row (now (t .entry)) c) ⌝ }
+    ensures { λ r. ⌜ r ≡ row-lawful (now (t .entry)) kinds (row (now (t .entry)) c) ⌝ }
 {
     if !stands_alone(t, c) {
         return false;
@@ -233,14 +234,14 @@ fn row_stands(t: &[u16], c: usize, kinds: usize) -> bool
     arguments_exist(t, c, kinds)
 }
 
-// Each row stands alone, if it declares a number kind, and its argument kinds exist.
-fn rows_stand(t: &[u16], n: usize, kinds: usize) -> bool
+// Each row is lawful.
+fn rows_lawful(t: &[u16], n: usize, kinds: usize) -> bool
     requires { ⌜ (length (now t) ≡ decoded-length) × (n ≤ constructor-limit) × Arities (now t) n × ((c : ℕ) → c < n → kind-of (now t) c < kind-limit) ⌝ }
-    ensures { λ r. ⌜ r ≡ all (row-stands (now (t .entry)) kinds) (rows (now (t .entry)) 0 n) ⌝ }
+    ensures { λ r. ⌜ r ≡ all (row-lawful (now (t .entry)) kinds) (rows (now (t .entry)) 0 n) ⌝ }
 {
     let mut c = 0;
     while c < n {
-        if !row_stands(t, c, kinds) {
+        if !row_lawful(t, c, kinds) {
             return false;
         }
         c += 1;
@@ -386,7 +387,7 @@ fn mark(t: &mut [u16], c: usize)
     }
     let k = wide(kind_of(t, c));
     let row = KINDS_AT + KIND_STRIDE * k;
-    t[STRIDE * c] = NO_KIND;
+    t[STRIDE * c] = UNKINDED;
     t[row] = LEVEL_BASE;
     t[row + 1] = LEVELS;
     t[row + 2] = LEVEL_BASE;
@@ -430,7 +431,7 @@ pub fn decode(w: &[u16], t: &mut [u16]) -> bool
     if !few_rows(t, kinds) {
         return false;
     }
-    if !rows_stand(t, n, kinds) {
+    if !rows_lawful(t, n, kinds) {
         return false;
     }
     let small = note_kinds(t, n, kinds);

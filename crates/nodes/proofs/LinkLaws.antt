@@ -8,7 +8,7 @@ use Prim.Native.Nat.{ℕ, suc, _+_, _-_, _≤_, _<_}
 use native.Mathlib.Omega.{arith}
 use lib.Dec.{eqb, leb, ltb}
 use lib.ListN.{length, drop, take, getD, getElem?, length-drop}
-use Rattle.signature.specs.Decoded.{Known, kind-of, first-of, count-of, constructors-of, no-kind}
+use Rattle.signature.specs.Decoded.{Known, kind-of, first-of, count-of, constructors-of, unkinded}
 use Rattle.signature.specs.Limits.{kind-limit, level-base, last-level}
 use Rattle.signature.specs.Lists.{_>>=_, require, first, memb, split}
 use Rattle.signature.specs.Signature.{Signature, Constructor, heads, arguments-at, is-level, level-of, is-number-kind}
@@ -19,7 +19,7 @@ use Rattle.signature.proofs.ListFacts.{at-getD, at-out, split-some, split-none}
 use Rattle.signature.proofs.SignatureBack.{is-kinds}
 use Rattle.signature.proofs.Tests.{bind-some, require-some, some-inj, le-of, same-some, true≢false, eqb-self, eqb-eq, eqb-no, leb-yes, leb-no, ltb-yes, ltb-no}
 use Rattle.tree.specs.Run.{rise-to, place-of}
-use Rattle.nodes.specs.Parts.{Standing}
+use Rattle.nodes.specs.Parts.{HeadByTable}
 use Rattle.nodes.specs.Step.{link-at, link-to, split-to, or-0}
 
 same-kinds : {table : List ℕ} (g : Known table) → g .decoded .n ≡ words-of g .n
@@ -35,7 +35,7 @@ least-first c (consecutive-cons {f = f} {xs = xs} r) e = (go (eqb c f) refl (λ 
     go false q h = omega (arith, h (rw q at e))
 
 -- a word of a booking is a level, or a constructor of some kind
-pub stands : {table : List ℕ} (g : Known table) (k c : ℕ) (js : List ℕ) → arguments-at (g .sig) k c ≡ some js → Standing table c
+pub stands : {table : List ℕ} (g : Known table) (k c : ℕ) (js : List ℕ) → arguments-at (g .sig) k c ≡ some js → HeadByTable table c
 stands {table} g k c js e l = go (head-is g k c js e)
   where
     go : ((c < length (g .sig)) × (is-number-kind (g .sig) k ≡ false) × (kind-of table c ≡ k)) ⊎ ((is-level c ≡ true) × (is-number-kind (g .sig) k ≡ true) × (js ≡ [])) → (c < constructors-of table) × (kind-of table c < kind-limit)
@@ -56,14 +56,14 @@ pub record Head {table : List ℕ} (g : Known table) (c : ℕ) : Type 0 where
   pub count-is : count-of table (kind-of table c) ≡ length (heads (g .sig) (head .kind))
   pub low : first-of table (kind-of table c) ≤ c
 
-pub head-of : {table : List ℕ} (g : Known table) (c : ℕ) → c < level-base → Standing table c → Head g c
+pub head-of : {table : List ℕ} (g : Known table) (c : ℕ) → c < level-base → HeadByTable table c → Head g c
 head-of {table} g c b h =
     let l : c < length (g .sig) = omega (arith, h b .0, constructors g) in
     let (d, e) = at-some (g .sig) c l in
     go d e (d .number) refl l
   where
     go : (d : Constructor) → getElem? (g .sig) c ≡ some d → (n : Bool) → d .number ≡ n → c < length (g .sig) → Head g c
-    go d e true n l = absurd (let z : kind-of table c ≡ no-kind = g .decoded .kind c d e ∙ rw n in omega (arith, h b .1))
+    go d e true n l = absurd (let z : kind-of table c ≡ unkinded = g .decoded .kind c d e ∙ rw n in omega (arith, h b .1))
     go d e false n l =
         let kind : kind-of table c ≡ d .kind = g .decoded .kind c d e ∙ rw n in
         let k : d .kind < g .decoded .n = kinds-kind (g .sig) (g .decoded .n) c d (g .decoded .kinds-are) e in
@@ -104,7 +104,7 @@ module _ {table : List ℕ} (g : Known table) (t : List ℕ) (i c : ℕ) where
   pub at-level : level-base ≤ c → 0 ≡ or-0 (link-to (g .sig) t i c)
   at-level l = rw (level-out g c l)
 
-  module _ (l : c < level-base) (s : Standing table c) where
+  module _ (l : c < level-base) (s : HeadByTable table c) where
     no-words : (d : Constructor) (t : List ℕ) → getElem? (g .sig) c ≡ some d → length t < 3 → link-to (g .sig) t i c ≡ none
     no-words d [] e h = rw e
     no-words d (x ∷ []) e h = rw e

@@ -13,7 +13,7 @@ use Rattle.signature.specs.Signature.{arguments-at}
 use Rattle.signature.specs.Value.{Values, vnil, vcons, con, size, codes}
 use Rattle.signature.proofs.ListFacts.{at-getD, at-out}
 use Rattle.signature.proofs.Tests.{eqb-no}
-use Rattle.nodes.specs.Parts.{Parts, Standing}
+use Rattle.nodes.specs.Parts.{Parts, HeadByTable}
 use Rattle.nodes.specs.Step.{link-to, split-to, or-0, link-step, step-on, step-at}
 use Rattle.nodes.specs.declared.node.Step.the-variants.{Default, Hit, On, Broken}
 use Rattle.nodes.proofs.LinkLaws.{stands, link-above, split-above}
@@ -56,7 +56,7 @@ module _ {table b : List ℕ} (p : Parts table b) where
   head-is : (l : 0 < length b) → getD b 0 0 ≡ front l .head
   head-is l = ap (λ w. getD w 0 0) (front l .words)
 
-  pub head-known : 0 < length b → Standing table (getD b 0 0)
+  pub head-known : 0 < length b → HeadByTable table (getD b 0 0)
   head-known l = rw (head-is l) (stands (p .known) (front l .kind) (front l .head) (front l .args) (front l .has))
 
   module _ (t : List ℕ) (i : ℕ) where

@@ -16,5 +16,5 @@ pub record Parts (t b : List ℕ) : Type 0 where
   pub words : b ≡ codes values
 
 -- what a word that stands in a booking is by the table: a level, or a constructor of some kind
-abbrev pub Standing : List ℕ → ℕ → Type 0
-Standing t c = c < level-base → (c < constructors-of t) × (kind-of t c < kind-limit)
+abbrev pub HeadByTable : List ℕ → ℕ → Type 0
+HeadByTable t c = c < level-base → (c < constructors-of t) × (kind-of t c < kind-limit)

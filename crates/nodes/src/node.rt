@@ -16,7 +16,7 @@ ghost use lib.ListN.{length};
 ghost use Rattle.signature.specs.Decoded.{Known};
 ghost use Rattle.signature.specs.Limits.{last-level};
 ghost use Rattle.tree.specs.Run.{place-of, rise-to};
-ghost use Rattle.nodes.specs.Parts.{Parts, Standing};
+ghost use Rattle.nodes.specs.Parts.{Parts, HeadByTable};
 ghost use Rattle.nodes.specs.Step.{link-at, link-to, or-0, split-to, step-at, step-on};
 
 // The default; the hit leaf's answer; so many words on in the tree and in the booking; or the tree is broken.
@@ -48,7 +48,7 @@ fn link(t: &[u16], node: usize, j: usize) -> usize
 // How far the link for the constructor c leads on from its node; 0 where there is none to follow, as at a level.
 fn follow(table: &[u16], t: &[u16], node: usize, c: u16) -> usize
     requires { ⌜ Known (now table) ⌝ }
-    requires { ⌜ Standing (now table) c ⌝ }
+    requires { ⌜ HeadByTable (now table) c ⌝ }
     ensures { λ r. ⌜ ((g : Known (now (table .entry))) → r ≡ or-0 (link-to (g .sig) (now (t .entry)) node c)) ⌝ }
 {
     if c >= LEVEL_BASE {

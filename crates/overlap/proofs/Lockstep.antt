@@ -12,7 +12,7 @@ use Rattle.cell.specs.declared.cell.Cursor.{Cursor}
 use Rattle.cell.specs.declared.cell.Out.{Out}
 use Rattle.cell.specs.declared.cell.Out.the-variants.{Dropped, Kept}
 use Rattle.sets.specs.Heads.{number-of}
-use Rattle.cell.specs.Cell.{Kinds}
+use Rattle.cell.specs.Cell.{kind-tag, Kinds}
 use Rattle.cell.specs.Coded.{row-code, row-code-of}
 use Rattle.signature.specs.Decoded.{decoded-length}
 use Rattle.cell.specs.Cursor.{put-cell, next-of, look-at, join-of, opens-of}
@@ -85,7 +85,7 @@ module _ {ar a b : List ℕ} (g : TwoRows ar a b) (x y : Cursor) (left : ℕ) (m
     in-front = front (given g) x y (m .0) left (m .1) h (m .2)
 
     module _ (p q c : Cell) (ep : p ≡ look-at a x) (eq : q ≡ look-at b y) (ec : c ≡ join-of p q) where
-      pub known-here : c .tag < 256 → length ar ≡ decoded-length
+      pub known-here : c .tag < kind-tag → length ar ≡ decoded-length
       known-here = known-of (given g) x y (m .0) left (m .1) p q c ep eq ec h in-front
 
       pub none-met : number-of (c .allowed) ≡ 0 → false ≡ is-some (combine (g .r) (g .s))

@@ -9,7 +9,7 @@ use lib.Seq.{getD-set-same, getD-set-other}
 use Rattle.signature.specs.Signature.{Signature, arguments}
 use Rattle.pattern.specs.Limits.{pattern-limit}
 use Rattle.row.specs.Row.{Row, Rows, named, free, rnil, rcons}
-use Rattle.cell.specs.Cell.{words, all-words}
+use Rattle.cell.specs.Cell.{kind-tag, words, all-words}
 use Rattle.cell.specs.Coded.{kinds-of, cells, all-cells, row-code}
 use Rattle.cell.specs.Cursor.{opens-of}
 use Rattle.tree.specs.Tree.{rappend}
@@ -57,16 +57,16 @@ module _ (sig : Signature) (t : List ℕ) where
         ks = arguments sig c ++ ks;
         rs = rappend ps (w .qs);
         here = after-named sig t a stop at own k ks (w .qs) (w .rest) vs c ps g (w .goods) (w .code-is ∙ ap (λ (r : Row). words (cells (kinds-of sig) r k) ++ (all-words (all-cells (kinds-of sig) (w .qs) ks) ++ w .rest)) e) (ap (λ (r : Row). at + (length (words (cells (kinds-of sig) r k)) + length (all-words (all-cells (kinds-of sig) (w .qs) ks)))) (sym e) ∙ w .ends) o;
-        all = rw (tag, lt-ltb c 256 (g .0 .tag)) (simp length-append (omega (arith, g .0 .arity)));
+        all = rw (tag, lt-ltb c kind-tag (g .0 .tag)) (simp length-append (omega (arith, g .0 .arity)));
       }
   own-step a stop at own k ks rs (free vs cs) w e o =
       let g : RowStands sig t (free vs cs) k = subst (λ (r : Row). RowStands sig t r k) e (w .good) in
-      let tag : tag-of a at ≡ 256 + k = its-cell sig t a stop at k ks rs w .tag ∙ ap (λ (r : Row). row-tag r k) e in
+      let tag : tag-of a at ≡ kind-tag + k = its-cell sig t a stop at k ks rs w .tag ∙ ap (λ (r : Row). row-tag r k) e in
       record {
         ks = ks;
         rs = w .qs;
         here = after-free sig t a stop at own k [] ks (w .qs) (w .rest) vs cs (g .0) (w .goods) (w .code-is ∙ ap (λ (r : Row). words (cells (kinds-of sig) r k) ++ (all-words (all-cells (kinds-of sig) (w .qs) ks) ++ w .rest)) e) (ap (λ (r : Row). at + (length (words (cells (kinds-of sig) r k)) + length (all-words (all-cells (kinds-of sig) (w .qs) ks)))) (sym e) ∙ w .ends) o;
-        all = rw (tag, le-ltb (256 + k) 256 (omega arith)) (omega arith);
+        all = rw (tag, le-ltb (kind-tag + k) kind-tag (omega arith)) (omega arith);
       }
 
   pub own-next : (a : List ℕ) (stop at own : ℕ) → OwnAt a stop at own → 0 < own → OwnAt a stop (at + 3) (own - 1 + opens-of t (tag-of a at))

@@ -16,7 +16,7 @@ use Rattle.signature.specs.Signature.{Signature, heads, arguments}
 use Rattle.signature.proofs.Heads.{open-refs}
 use Rattle.signature.proofs.Tests.{eqb-eq, eqb-no, eqb-self, eqb-sym, true≢false}
 use Rattle.row.specs.Row.{Row, Rows, named, free, rcons, open-rows}
-use Rattle.cell.specs.Cell.{all-words, words}
+use Rattle.cell.specs.Cell.{kind-tag, all-words, words}
 use Rattle.cell.specs.Coded.{kinds-of, cells, all-cells}
 use Rattle.cell.specs.Cursor.{opens-of}
 use Rattle.cell.proofs.Columns.{cell-there, CellAt as Words}
@@ -32,7 +32,7 @@ use Rattle.path.proofs.StandingLaws.{VirtAt, RealAt, is-virt, is-real, 
 -- a row's first cell
 abbrev pub row-tag : Row → ℕ → ℕ
 row-tag (named vs c rs) k = c
-row-tag (free vs cs) k = 256 + k
+row-tag (free vs cs) k = kind-tag + k
 
 abbrev pub row-vars : Row → List ℕ
 row-vars (named vs c rs) = vs
@@ -83,7 +83,7 @@ module _ (sig : Signature) (t : List ℕ) where
 
   cell-of : (a : List ℕ) (stop at k : ℕ) (r : Row) (rest : List ℕ) (n : ℕ) → RowStands sig t r k → drop at a ≡ words (cells (kinds-of sig) r k) ++ rest → at + (length (words (cells (kinds-of sig) r k)) + n) ≡ stop → CellAt a stop at k r rest
   cell-of a stop at k (named vs c rs) rest n g e s = read-cell a stop at k (named vs c rs) rest _ (cell-there a at c (set-of 0 vs) (set-of (first (heads sig k)) (c ∷ [])) _ (omega (arith, g .0 .tag)) e) (omega arith)
-  cell-of a stop at k (free vs cs) rest n g e s = read-cell a stop at k (free vs cs) rest _ (cell-there a at (256 + k) (set-of 0 vs) (set-of (first (heads sig k)) cs) _ (omega (arith, g .0)) e) (omega arith)
+  cell-of a stop at k (free vs cs) rest n g e s = read-cell a stop at k (free vs cs) rest _ (cell-there a at (kind-tag + k) (set-of 0 vs) (set-of (first (heads sig k)) cs) _ (omega (arith, g .0)) e) (omega arith)
 
   module _ (a : List ℕ) (stop at k : ℕ) (ks : List ℕ) (rs : Rows) (w : RealAt sig t a stop at k ks rs) where
     pub its-cell : CellAt a stop at k (w .r) (all-words (all-cells (kinds-of sig) (w .qs) ks) ++ w .rest)
@@ -96,7 +96,7 @@ module _ (sig : Signature) (t : List ℕ) where
       → At sig t a stop (at + 3) (own - 1 + opens-of t (tag-of a at)) (arguments sig c ++ ks) (rappend ps qs)
   after-named a stop at own k ks qs rest vs c ps g h e s o =
       let b = cell-there a at c (set-of 0 vs) (set-of (first (heads sig k)) (c ∷ [])) _ (omega (arith, g .0 .tag)) e in
-      let n : own - 1 + opens-of t (tag-of a at) ≡ length (arguments sig c) + length ks = rw (ap (λ x. x .tag) (b .cell), lt-ltb c 256 (g .0 .tag)) (omega (arith, g .0 .arity)) in
+      let n : own - 1 + opens-of t (tag-of a at) ≡ length (arguments sig c) + length ks = rw (ap (λ x. x .tag) (b .cell), lt-ltb c kind-tag (g .0 .tag)) (omega (arith, g .0 .arity)) in
       rw n (entered sig t a stop (at + 3) ps (arguments sig c) qs ks rest (g .3) h (b .after) (b .room) (omega arith))
 
   pub after-free : (a : List ℕ) (stop at own k : ℕ) (js ks : List ℕ) (qs : Rows) (rest vs cs : List ℕ) → k < 256 → RowsStand sig t qs ks
@@ -104,8 +104,8 @@ module _ (sig : Signature) (t : List ℕ) where
       → at + (3 + length (all-words (all-cells (kinds-of sig) qs ks))) ≡ stop → own ≡ suc (length ks)
       → At sig t a stop (at + 3) (own - 1 + opens-of t (tag-of a at)) (js ++ ks) (rappend (open-rows sig js) qs)
   after-free a stop at own k js ks qs rest vs cs g h e s o =
-      let b = cell-there a at (256 + k) (set-of 0 vs) (set-of (first (heads sig k)) cs) _ (omega arith) e in
-      let n : own - 1 + opens-of t (tag-of a at) ≡ length ks = rw (ap (λ x. x .tag) (b .cell), le-ltb (256 + k) 256 (omega arith)) (omega arith) in
+      let b = cell-there a at (kind-tag + k) (set-of 0 vs) (set-of (first (heads sig k)) cs) _ (omega arith) e in
+      let n : own - 1 + opens-of t (tag-of a at) ≡ length ks = rw (ap (λ x. x .tag) (b .cell), le-ltb (kind-tag + k) kind-tag (omega arith)) (omega arith) in
       rw n (opened sig t a stop (at + 3) (length ks) js ks qs (record { virt = []; mine = ks; qs = qs; rest = rest; kinds-are = refl; columns-are = refl; good = h; code-is = b .after; within = b .room; own-is = refl; ends = omega arith }))
 
   -- a head that the cell allows is taken
@@ -140,8 +140,8 @@ module _ (sig : Signature) (t : List ℕ) where
   pass-cell a stop at own k ks (free vs cs) qs rest f g h e s o = record { vs = vs; rs = qs; is = refl; vars-are = refl; once = g .3; here = after-free a stop at own k [] ks qs rest vs cs (g .0) h e s o }
 
   refined-is : (k : ℕ) (r : Row) (qs : Rows) → Sized sig k → RowStands sig t r k → refined sig k (rcons r qs) ≡ refined-cell sig k (row-tag r k) (set-of (first (heads sig k)) (row-heads r))
-  refined-is k (named vs d ps) qs w g = rw (lt-ltb d 256 (g .0 .tag))
-  refined-is k (free vs cs) qs w g = rw (le-ltb (256 + k) 256 (omega arith)) (ap not (sym (full-is (first (heads sig k)) cs (heads sig k) (g .1) (w .0) (g .2) (w .1))))
+  refined-is k (named vs d ps) qs w g = rw (lt-ltb d kind-tag (g .0 .tag))
+  refined-is k (free vs cs) qs w g = rw (le-ltb (kind-tag + k) kind-tag (omega arith)) (ap not (sym (full-is (first (heads sig k)) cs (heads sig k) (g .1) (w .0) (g .2) (w .1))))
 
   -- whether the cell allows a head
   one-test : (b : Bool) → eqb (one-if b) 1 ≡ b
@@ -152,7 +152,7 @@ module _ (sig : Signature) (t : List ℕ) where
   holds-is c k (named vs d ps) qs l g = eqb-sym d c ∙ sym (ap (λ n. eqb n 1) (bit-only (first (heads sig k)) c d (g .0 .low) (g .0 .high) l) ∙ one-test (eqb c d))
   holds-is c k (free vs cs) qs l g = sym (ap (λ n. eqb n 1) (bit-memb (first (heads sig k)) c cs (g .1) l) ∙ one-test (memb c cs))
 
-  tag-is : (k : ℕ) (r : Row) → RowStands sig t r k → (row-tag r k ≡ 256 + k) ⊎ ((row-tag r k < 256) × (memb (row-tag r k) (heads sig k) ≡ true))
+  tag-is : (k : ℕ) (r : Row) → RowStands sig t r k → (row-tag r k ≡ kind-tag + k) ⊎ ((row-tag r k < kind-tag) × (memb (row-tag r k) (heads sig k) ≡ true))
   tag-is k (named vs d ps) g = inr (g .0 .tag, g .1)
   tag-is k (free vs cs) g = inl refl
 
@@ -194,8 +194,8 @@ module _ (sig : Signature) (t : List ℕ) where
         let e = its-cell a stop at k ks rs w in
         ap (λ (z : Rows). holds z c) (w .is) ∙ holds-is c k (w .r) (w .qs) l (w .good) ∙ ap (λ (n : ℕ). eqb (bit n (c - first (heads sig k))) 1) (sym (e .allowed))
 
-    pub real-tag : (tag-of a at ≡ 256 + k) ⊎ ((tag-of a at < 256) × (memb (tag-of a at) (heads sig k) ≡ true))
+    pub real-tag : (tag-of a at ≡ kind-tag + k) ⊎ ((tag-of a at < kind-tag) × (memb (tag-of a at) (heads sig k) ≡ true))
     real-tag =
         let w = real in
         let e = its-cell a stop at k ks rs w in
-        subst (λ (n : ℕ). (n ≡ 256 + k) ⊎ ((n < 256) × (memb n (heads sig k) ≡ true))) (sym (e .tag)) (tag-is k (w .r) (w .good))
+        subst (λ (n : ℕ). (n ≡ kind-tag + k) ⊎ ((n < kind-tag) × (memb n (heads sig k) ≡ true))) (sym (e .tag)) (tag-is k (w .r) (w .good))

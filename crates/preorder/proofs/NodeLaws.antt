@@ -7,6 +7,7 @@ use mathlib.Core.Bool.{Bool, true, false, _&&_, cond}
 use Prim.Native.Nat.{ℕ, zero, suc, _+_, _-_, _≤_, _<_, min}
 use native.Mathlib.Omega.{arith}
 use lib.ListN.{length, getD, drop, set}
+use Rattle.cell.specs.Cell.{kind-tag}
 use Rattle.signature.specs.Limits.{kind-limit}
 use Rattle.signature.specs.Lists.{_>>=_, All, memb, somes, any}
 use Rattle.signature.specs.Signature.{Signature, heads, arguments}
@@ -154,7 +155,7 @@ module _ {t a rows : List ℕ} {n : ℕ} {s cur vis : List ℕ} {ncols vn base l
       (w .line, eqb-eq _ _ (and-right (member s r) _ z) ∙ (g .columns ∙ ap length e), subst (λ (y : List ℕ). At (g .known .sig) t a (stop-of rows r) (cell-of rows r (getD cur r 0)) (own-of rows r (getD cur r 0)) y (w .line .cells)) e (w .at .here))
 
   pub real-cell : (re : List ℕ) (k : ℕ) (ks : List ℕ) → g .ks ≡ k ∷ ks → ((r : ℕ) → r < n → member re r ≡ real-of rows (member s) cur ncols r) → (r : ℕ) → r < n → member re r ≡ true
-      → (getD cur r 0 < pattern-limit) × (cell-of rows r (getD cur r 0) + 3 ≤ length a) × ((tag-at a rows cur r ≡ 256 + k) ⊎ ((tag-at a rows cur r < 256) × (memb (tag-at a rows cur r) (heads (g .known .sig) k) ≡ true)))
+      → (getD cur r 0 < pattern-limit) × (cell-of rows r (getD cur r 0) + 3 ≤ length a) × ((tag-at a rows cur r ≡ kind-tag + k) ⊎ ((tag-at a rows cur r < kind-tag) × (memb (tag-at a rows cur r) (heads (g .known .sig) k) ≡ true)))
   real-cell re k ks e h r l i =
       let w = real-own re k ks e h r l i in
       let o = g .ok .within r l in

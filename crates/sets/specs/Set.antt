@@ -13,16 +13,16 @@ set-limit = 64
 
 -- and those of a set of heads, in two words, below this
 abbrev pub heads-width : ℕ
-heads-width = 128
+heads-width = set-limit + set-limit
 
 -- bit i of s: 0 or 1
 unfoldable pub bit : ℕ → ℕ → ℕ
 bit s zero = s % 2
 bit s (suc i) = bit (s / 2) i
 
--- the set of all numbers below 128
+-- the set of all numbers below that
 abbrev pub all-set : ℕ
-all-set = 340282366920938463463374607431768211455
+all-set = 2 ^ heads-width - 1
 
 -- the members of either; of both
 abbrev pub union : ℕ → ℕ → ℕ

@@ -9,7 +9,7 @@ use native.Mathlib.Decide.{decLe}
 use native.Mathlib.Omega.{arith}
 use lib.Dec.{eqb, leb}
 use lib.ListN.{length, getD, getElem?}
-use Rattle.signature.specs.Decoded.{Known, decoded-length, kind-of, arity-of, head-arity, argument-of, first-of, constructors-of, head-kind, no-kind}
+use Rattle.signature.specs.Decoded.{Known, decoded-length, kind-of, arity-of, head-arity, argument-of, first-of, constructors-of, head-kind, unkinded}
 use Rattle.signature.specs.Lawful.{SignatureWords}
 use Rattle.signature.specs.Limits.{argument-limit, constructor-limit, kind-limit, heads-limit, level-base, level-count}
 use Rattle.signature.specs.Lists.{All, memb, first, count-up}
@@ -100,7 +100,7 @@ module _ {t : List ℕ} (g : Known t) where
     right-kind k m q = let (d, e) = at-some (g .sig) c l in go d e (d .number) refl (sym (g .decoded .kind c d e) ∙ q)
       where
         go : (d : Constructor) → getElem? (g .sig) c ≡ some d → (b : Bool) → d .number ≡ b → head-kind d ≡ k → arguments-at (g .sig) k c ≡ some (arguments (g .sig) c)
-        go d e true n p = absurd (let z : no-kind ≡ k = rw n at p in omega arith)
+        go d e true n p = absurd (let z : unkinded ≡ k = rw n at p in omega arith)
         go d e false n p =
             let z : d .kind ≡ k = rw n at p in
             let a : arguments (g .sig) c ≡ d .args = rw e in

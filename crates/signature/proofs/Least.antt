@@ -145,7 +145,7 @@ module _ (sig : Signature) (n : ℕ) where
 module _ (sig : Signature) (plain : Plain sig) (n : ℕ) where
   module _ (exist : (k c : ℕ) (js : List ℕ) → arguments-at sig k c ≡ some js → All (λ j. j < n) js) where
     mutual
-      least-most : {k : ℕ} {v : Value} → OfKind sig k v → (d : ℕ) → k < n → depth v ≤ d → (m : ℕ) → getElem? (least d sig n) k ≡ some m → m ≤ size v
+      pub least-most : {k : ℕ} {v : Value} → OfKind sig k v → (d : ℕ) → k < n → depth v ≤ d → (m : ℕ) → getElem? (least d sig n) k ≡ some m → m ≤ size v
       least-most (of-kind e h) zero l g m a = absurd (omega arith)
       least-most (of-kind {k = k} {c = c} {ks = js} {vs = vs} e h) (suc d) l g m a =
           let (i, b, e₁, q, z) = row-of sig plain k c js e in
@@ -156,7 +156,7 @@ module _ (sig : Signature) (plain : Plain sig) (n : ℕ) where
           let y′ : total (least d sig n) (b .args) ≤ sizes vs = rw z y in
           omega arith
 
-      total-most : {js : List ℕ} {vs : Values} → OfKinds sig js vs → (d : ℕ) → All (λ j. j < n) js → depths vs ≤ d → total (least d sig n) js ≤ sizes vs
+      pub total-most : {js : List ℕ} {vs : Values} → OfKinds sig js vs → (d : ℕ) → All (λ j. j < n) js → depths vs ≤ d → total (least d sig n) js ≤ sizes vs
       total-most of-kinds-nil d ls g = omega arith
       total-most (of-kinds-cons {k = j} {v = v} {vs = vs} h hs) d ls g =
           let (l, ls′) = all-first ls in

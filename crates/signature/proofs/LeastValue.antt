@@ -4,7 +4,6 @@ use mathlib.Core.List.{List, [], _∷_}
 use mathlib.Core.Option.{some}
 use mathlib.Core.Bool.{Bool, true, false, cond, _&&_}
 use Prim.Native.Nat.{ℕ, zero, suc, _≤_, _<_, min}
-use native.Mathlib.Nat.{zero-add}
 use native.Mathlib.Decide.{decLe}
 use native.Mathlib.Omega.{arith}
 use lib.ListN.{length, getD, getElem?}
@@ -13,30 +12,18 @@ use Rattle.signature.specs.Lawful.{OfKind, of-kind, OfKinds, of-kinds-ni
 use Rattle.signature.specs.Limits.{small-size, over-small, level-base, last-level}
 use Rattle.signature.specs.Lists.{All, none-left, also, all, memb, first, keep, count-up}
 use Rattle.signature.specs.Read.{best, least, total, count-kinds, Signed}
-use Rattle.signature.specs.Signature.{Signature, Constructor, arguments-at, arguments, heads, numbers, levels, is-number-kind}
-use Rattle.signature.specs.Value.{Value, Values, con, vnil, vcons, size, sizes, depth, depths}
+use Rattle.signature.specs.Signature.{Signature, arguments-at, arguments, heads, numbers, levels, is-number-kind}
+use Rattle.signature.specs.Value.{Value, Values, con, vnil, vcons, size, sizes, depth}
 use Rattle.signature.specs.Decoded.{least-size, least-head}
 use Rattle.signature.proofs.Booleans.{and-left, and-right}
 use Rattle.signature.proofs.Members.{memb-keep}
-use Rattle.signature.proofs.ListFacts.{all-first, all-is, test-at, at-getD}
-use Rattle.signature.proofs.Tests.{none≢some, some-inj, same-some, true≢false, eqb-self, eqb-eq, le-of}
+use Rattle.signature.proofs.ListFacts.{all-is, test-at, at-getD}
+use Rattle.signature.proofs.Tests.{same-some, true≢false, eqb-self, eqb-eq, le-of}
 use Rattle.signature.proofs.Values.{depth-size}
 use Rattle.signature.proofs.Heads.{Plain, row-of, level-bare, level-arguments, has-kind, args-same, kind-of-head}
-use Rattle.signature.proofs.Least.{least-small}
+use Rattle.signature.proofs.Least.{least-small, least-most, total-most}
 use Rattle.signature.proofs.LawfulFacts.{SigFacts, sig-facts}
-use Rattle.signature.proofs.Counting.{counted-length, getD-counted}
-
--- the best of a kind is at most what each of its constructors gives
-best-below : (table : List ℕ) (k i : ℕ) (cs : Signature) (d : Constructor) → getElem? cs i ≡ some d → eqb (d .kind) k ≡ true → best cs table k ≤ suc (total table (d .args))
-best-below table k i [] d a q = none≢some a
-best-below table k zero (c ∷ cs) d a q =
-    let e : c ≡ d = some-inj c d a in
-    rw (e, q) (omega arith)
-best-below table k (suc i) (c ∷ cs) d a q = go (eqb (c .kind) k) refl (best-below table k i cs d a q)
-  where
-    go : (b : Bool) → eqb (c .kind) k ≡ b → best cs table k ≤ suc (total table (d .args)) → best (c ∷ cs) table k ≤ suc (total table (d .args))
-    go true r l = rw r (omega arith)
-    go false r l = rw r l
+use Rattle.signature.proofs.Counting.{counted-length}
 
 -- the least constructor is one of the kind and makes a smallest value
 pub record HeadReaches (sig : Signature) (n k : ℕ) : Type 0 where
@@ -63,25 +50,6 @@ module _ (sig : Signature) (plain : Plain sig) (n : ℕ) (exist : (k c : ℕ) (j
       long zero = counted-length (λ j. over-small) 0 n
       long (suc d) = counted-length (λ j. min over-small (best sig (least d sig n) j)) 0 n
 
-  -- a value nested at most d deep has at least the words of round d
-  mutual
-    value-most : {k : ℕ} {v : Value} → OfKind sig k v → (d : ℕ) → k < n → depth v ≤ d → getD (least d sig n) k 0 ≤ size v
-    value-most (of-kind e h) zero l g = absurd (omega arith)
-    value-most (of-kind {k = k} {c = c} {ks = js} {vs = vs} e h) (suc d) l g =
-        let (i, b, e₁, q, z) = row-of sig plain k c js e in
-        let r : getD (least (suc d) sig n) k 0 ≡ min over-small (best sig (least d sig n) k) = getD-counted (λ j. min over-small (best sig (least d sig n) j)) 0 n k l ∙ ap (λ j. min over-small (best sig (least d sig n) j)) (zero-add k) in
-        let x : best sig (least d sig n) k ≤ suc (total (least d sig n) (b .args)) = best-below (least d sig n) k i sig b e₁ q in
-        let y : total (least d sig n) (b .args) ≤ sizes vs = rw z (values-most h d (exist k c js e) (omega arith)) in
-        omega arith
-
-    values-most : {js : List ℕ} {vs : Values} → OfKinds sig js vs → (d : ℕ) → All (λ j. j < n) js → depths vs ≤ d → total (least d sig n) js ≤ sizes vs
-    values-most of-kinds-nil d ls g = omega arith
-    values-most (of-kinds-cons {k = j} h hs) d ls g =
-        let (l, ls′) = all-first ls in
-        let x = value-most h d l (omega arith) in
-        let y = values-most hs d ls′ (omega arith) in
-        rw (size-at d j l) (omega arith)
-
   module _ (six : all (λ m. leb m small-size) (least small-size sig n) ≡ true) where
     pub size-small : (k : ℕ) → k < n → least-size sig n k ≤ small-size
     size-small k l = le-of (least-size sig n k) small-size (test-at (λ m. leb m small-size) (least small-size sig n) k (least-size sig n k) six (size-at small-size k l))
@@ -91,7 +59,7 @@ module _ (sig : Signature) (plain : Plain sig) (n : ℕ) (exist : (k c : ℕ) (j
     size-least {k} {v} l h = go (decLe (depth v) small-size)
       where
         go : Dec (depth v ≤ small-size) → least-size sig n k ≤ size v
-        go (yes m) = value-most h small-size l m
+        go (yes m) = least-most sig plain n exist h small-size l m (least-size sig n k) (size-at small-size k l)
         go (no m) = omega (arith, depth-size v, size-small k l)
 
     -- some value is as small
@@ -114,7 +82,7 @@ module _ (sig : Signature) (plain : Plain sig) (n : ℕ) (exist : (k c : ℕ) (j
         go (con c vs, of-kind {ks = ks} e h, m) =
             let (us, g, f) = smallest-values (exist k c ks e) in
             let x : least-size sig n k ≤ size (con c us) = size-least l (of-kind e g) in
-            let y : total (least small-size sig n) ks ≤ sizes vs = values-most h small-size (exist k c ks e) (omega (arith, depth-size (con c vs), size-small k l)) in
+            let y : total (least small-size sig n) ks ≤ sizes vs = total-most sig plain n exist h small-size (exist k c ks e) (omega (arith, depth-size (con c vs), size-small k l)) in
             (c, ks, e, omega arith)
 
     pub head-reaches : (k : ℕ) → k < n → HeadReaches sig n k

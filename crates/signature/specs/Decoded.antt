@@ -72,11 +72,11 @@ abbrev pub constructors-of : List ℕ → ℕ
 constructors-of t = getD t (counts-at + 1) 0
 
 -- what stands in the table for the kind of a row that declares a number kind: no kind, since its number stands in no booking and no pattern
-abbrev pub no-kind : ℕ
-no-kind = kind-limit
+abbrev pub unkinded : ℕ
+unkinded = kind-limit
 
 abbrev pub head-kind : Constructor → ℕ
-head-kind d = cond (d .number) no-kind (d .kind)
+head-kind d = cond (d .number) unkinded (d .kind)
 
 -- t is the table of sig
 pub record Decoded (sig : Signature) (t : List ℕ) : Type 0 where

@@ -16,14 +16,14 @@ pub const COUNTS_AT: usize = 1664;
 pub const DECODED: usize = 1666;
 
 // What stands for the kind of a row that declares a number kind.
-pub const NO_KIND: u16 = 32;
+pub const UNKINDED: u16 = 32;
 
 // 02, job 1: the values of a number kind are the words from LEVEL_BASE to LEVEL_BASE + LAST_LEVEL.
 pub const LEVEL_BASE: u16 = 1000;
 
 pub const LAST_LEVEL: u16 = 100;
 
-pub const LEVELS: u16 = 101;
+pub const LEVELS: u16 = LAST_LEVEL + 1;
 
 pub fn kind_of(t: &[u16], c: usize) -> u16
     requires { ⌜ (length (now t) ≡ decoded-length) × (c < constructor-limit) ⌝ }

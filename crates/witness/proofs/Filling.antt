@@ -21,7 +21,7 @@ use Rattle.signature.proofs.Values.{length-code, depth-size}
 use Rattle.row.specs.Limits.{place-words}
 use Rattle.row.specs.Row.{Rows, named, free, rnil, rcons}
 use Rattle.row.specs.RowFits.{good-named, good-free, Goods, goods-nil, goods-cons, places-count}
-use Rattle.cell.specs.Cell.{all-words, cell-code, tag-limit}
+use Rattle.cell.specs.Cell.{kind-tag, all-words, cell-code, tag-limit}
 use Rattle.cell.specs.declared.cell.Cell.{Cell}
 use Rattle.cell.specs.Coded.{kinds-of, all-cells, row-code}
 use Rattle.cell.specs.Cursor.{opens-of, cell-at, cell-of}
@@ -96,7 +96,7 @@ pub record Front {t row o₀ : List ℕ} (g : GivenRow t row o₀) (i n : ℕ) (
   pub see : i + 3 ≤ length row
   pub whole : length o ≡ length o₀
   pub room : n + place-words ≤ length o
-  pub place : (c : Cell) → c ≡ cell-at row i → 256 ≤ c .tag → GivenPlace t (c .tag - 256) (number-of (c .allowed)) (from o n)
+  pub place : (c : Cell) → c ≡ cell-at row i → kind-tag ≤ c .tag → GivenPlace t (c .tag - kind-tag) (number-of (c .allowed)) (from o n)
 
 -- what is seen of it
 seen : (row : List ℕ) (i : ℕ) (c : Cell) (tag v m : ℕ) (w : List ℕ) → tag < tag-limit → drop i row ≡ cell-code tag v m ++ w → c ≡ cell-at row i → (c .tag ≡ tag) × (number-of (c .allowed) ≡ m)
@@ -190,7 +190,7 @@ module _ {t row o₀ : List ℕ} (g : GivenRow t row o₀) where
           },
         )
 
-    tag-small : {k : ℕ} → k < g .known .decoded .n → 256 + k < tag-limit
+    tag-small : {k : ℕ} → k < g .known .decoded .n → kind-tag + k < tag-limit
     tag-small l = omega (arith, l, kinds-same (g .known), words-of (g .known) .few-kinds)
 
     front-at : {ks : List ℕ} {todo : Rows} → Goods (g .known .sig) ks todo → Mid g i n left o ks todo → 0 < left → Front g i n o
@@ -203,24 +203,24 @@ module _ {t row o₀ : List ℕ} (g : GivenRow t row o₀) where
         let T = three-at row i _ _ _ _ (M .code-is) in
         let w = whole-at _ _ M in
         let room : n + place-words ≤ length o = omega (arith, M .room, w) in
-        record { see = T .room; whole = w; room = room; place = λ x ex z. let s = seen row i x (256 + k) _ _ _ (tag-small (kind-here (g .known) k d cs a)) (M .code-is) ex in free-given (g .known) k d cs a _ _ (from o n) (omega (arith, s .0)) (s .1) (room-from o n room) }
+        record { see = T .room; whole = w; room = room; place = λ x ex z. let s = seen row i x (kind-tag + k) _ _ _ (tag-small (kind-here (g .known) k d cs a)) (M .code-is) ex in free-given (g .known) k d cs a _ _ (from o n) (omega (arith, s .0)) (s .1) (room-from o n room) }
 
     turn-at : {ks : List ℕ} {todo : Rows} (x : Cell) (w m : ℕ) (ys : List ℕ) → Goods (g .known .sig) ks todo → Mid g i n left o ks todo → 0 < left → x ≡ cell-at row i → w ≡ opens-of t (x .tag)
-        → (x .tag < 256 → (m ≡ 1) × (ys ≡ x .tag ∷ drop 1 (from o n)))
-        → (256 ≤ x .tag → (q : GivenPlace t (x .tag - 256) (number-of (x .allowed)) (from o n)) → ValueWritten q m ys) → Now g (i + 3) (n + m) (left - 1 + w) (back o n ys)
+        → (x .tag < kind-tag → (m ≡ 1) × (ys ≡ x .tag ∷ drop 1 (from o n)))
+        → (kind-tag ≤ x .tag → (q : GivenPlace t (x .tag - kind-tag) (number-of (x .allowed)) (from o n)) → ValueWritten q m ys) → Now g (i + 3) (n + m) (left - 1 + w) (back o n ys)
     turn-at x w m ys goods-nil M h ex ew N U = absurd (omega (arith, M .left-is))
     turn-at x w m ys (goods-cons {k = k} {ks = ks} {rs = todo} (good-named {c = c} {xs = xs} {js = js} {rs = rs} l e gs) G) M h ex ew N U =
         let z : x .tag ≡ c = seen row i x c _ _ _ (omega (arith, l)) (M .code-is) ex .0 in
         let K = known-head (g .known) k c js (omega (arith, l)) e in
         let q = N (omega (arith, z, K .tag)) in
-        named-turn k c xs ks js rs todo w m ys e gs G M (ew ∙ ap (opens-of t) z ∙ rw (lt-ltb c 256 (K .tag)) (K .arity ∙ ap length (args-same (g .known .sig) k c js e))) (q .0) (rw z at (q .1))
+        named-turn k c xs ks js rs todo w m ys e gs G M (ew ∙ ap (opens-of t) z ∙ rw (lt-ltb c kind-tag (K .tag)) (K .arity ∙ ap length (args-same (g .known .sig) k c js e))) (q .0) (rw z at (q .1))
     turn-at x w m ys (goods-cons {k = k} {ks = ks} {rs = todo} (good-free {c = d} {xs = xs} {cs = cs} a) G) M h ex ew N U =
-        let s = seen row i x (256 + k) _ _ _ (tag-small (kind-here (g .known) k d cs a)) (M .code-is) ex in
+        let s = seen row i x (kind-tag + k) _ _ _ (tag-small (kind-here (g .known) k d cs a)) (M .code-is) ex in
         let room : n + place-words ≤ length o = omega (arith, M .room, whole-at _ _ M) in
-        let kk : x .tag - 256 ≡ k = omega (arith, s .0) in
-        let z : 256 ≤ x .tag = omega (arith, s .0) in
+        let kk : x .tag - kind-tag ≡ k = omega (arith, s .0) in
+        let z : kind-tag ≤ x .tag = omega (arith, s .0) in
         let (v, hv, em, ey) = free-taken (g .known) k d cs a _ _ m xs (from o n) ys kk (s .1) (room-from o n room) (U z (free-given (g .known) k d cs a _ _ (from o n) kk (s .1) (room-from o n room))) in
-        free-turn k xs (d ∷ cs) ks todo w m v ys G M hv (ew ∙ ap (opens-of t) (s .0) ∙ rw (le-ltb (256 + k) 256 (omega arith))) em ey
+        free-turn k xs (d ∷ cs) ks todo w m v ys G M hv (ew ∙ ap (opens-of t) (s .0) ∙ rw (le-ltb (kind-tag + k) kind-tag (omega arith))) em ey
 
     pub front : Now g i n left o → 0 < left → Front g i n o
     front m h = front-at (m .2 .good) (m .2) h
@@ -230,6 +230,6 @@ module _ {t row o₀ : List ℕ} (g : GivenRow t row o₀) where
     few m = (whole-at (m .0) (m .1) (m .2), omega (arith, m .2 .room, m .2 .left-is, count-places (m .1)))
 
     pub turn : (x : Cell) (w m : ℕ) (ys : List ℕ) → Now g i n left o → 0 < left → x ≡ cell-at row i → w ≡ opens-of t (x .tag)
-        → (x .tag < 256 → (m ≡ 1) × (ys ≡ x .tag ∷ drop 1 (from o n)))
-        → (256 ≤ x .tag → (q : GivenPlace t (x .tag - 256) (number-of (x .allowed)) (from o n)) → ValueWritten q m ys) → Now g (i + 3) (n + m) (left - 1 + w) (back o n ys)
+        → (x .tag < kind-tag → (m ≡ 1) × (ys ≡ x .tag ∷ drop 1 (from o n)))
+        → (kind-tag ≤ x .tag → (q : GivenPlace t (x .tag - kind-tag) (number-of (x .allowed)) (from o n)) → ValueWritten q m ys) → Now g (i + 3) (n + m) (left - 1 + w) (back o n ys)
     turn x w m ys M h ex ew N U = turn-at x w m ys (M .2 .good) (M .2) h ex ew N U

@@ -2,7 +2,7 @@
 use native.Mathlib.Omega.{arith}
 use borrow.Author.Tests.{not-true, not-false}
 use borrow.Author.Needs.{needs}
-use Rattle.decoding.proofs.Decoding.{Begun, Ranked, no-words, no-constructors, many-constructors, not-read, unordered, arities, many-rows, not-standing, kinds-low, fit, fit-after, decoded}
+use Rattle.decoding.proofs.Decoding.{Begun, Ranked, no-words, no-constructors, many-constructors, not-read, unordered, arities, many-rows, row-unlawful, kinds-low, fit, fit-after, decoded}
 use Rattle.decoding.proofs.decode.decode.Statement.{statement}
 use Rattle.decoding.proofs.decode.decode.Tie as tie
 
@@ -35,8 +35,8 @@ decode-spec =
     (λ c. many-rows (ranked (c .before .before .before)) _ _ (c .before .few-rows .ensures) (not-true _ (c .if6 .taken)))
     (λ c κs. (c .before .before .before .before .before .before .before .order .ensures .long, c .before .before .before .before .before .before .before .before .before .before .before .before .before .before .if3 .left, arities (begun (c .before .before .before .before .before .before .before .before .before)) _ _ (c .before .before .before .before .before .before .before .order .ensures), kinds-low (ranked (c .before .before .before .before))))
     (λ c. search needs)
-    (λ c. not-standing (ranked (c .before .before .before .before .before .before)) _ _ (c .before .rows-stand .ensures) (not-true _ (c .if7 .taken)))
-    (λ c κs. (fit (ranked (c .before .before .before .before .before .before .before)) _ (c .before .before .rows-stand .ensures) (not-false _ (c .before .if7 .left)), c .before .before .before .before .before .before .before .before .before .before .order .ensures .few))
-    (λ c κs. fit-after (ranked (c .before .before .before .before .before .before .before .before .before .before .before)) _ _ (fit (ranked (c .before .before .before .before .before .before .before .before .before .before .before)) _ (c .before .before .before .before .before .before .rows-stand .ensures) (not-false _ (c .before .before .before .before .before .if7 .left))) (c .before .before .before .note-kinds .ensures))
+    (λ c. row-unlawful (ranked (c .before .before .before .before .before .before)) _ _ (c .before .rows-lawful .ensures) (not-true _ (c .if7 .taken)))
+    (λ c κs. (fit (ranked (c .before .before .before .before .before .before .before)) _ (c .before .before .rows-lawful .ensures) (not-false _ (c .before .if7 .left)), c .before .before .before .before .before .before .before .before .before .before .order .ensures .few))
+    (λ c κs. fit-after (ranked (c .before .before .before .before .before .before .before .before .before .before .before)) _ _ (fit (ranked (c .before .before .before .before .before .before .before .before .before .before .before)) _ (c .before .before .before .before .before .before .rows-lawful .ensures) (not-false _ (c .before .before .before .before .before .if7 .left))) (c .before .before .before .note-kinds .ensures))
     (λ c. search needs)
-    (λ c. decoded (ranked (c .before .before .before .before .before .before .before .before .before .before .before .before .before .before)) _ _ _ _ _ (c .before .before .before .before .before .before .before .before .before .before .before .before .few-rows .ensures) (not-false _ (c .before .before .before .before .before .before .before .before .before .before .before .if6 .left)) (c .before .before .before .before .before .before .before .before .before .rows-stand .ensures) (not-false _ (c .before .before .before .before .before .before .before .before .if7 .left)) (c .before .before .before .before .before .before .note-kinds .ensures) (c .before .before .mark-numbers .ensures)))
+    (λ c. decoded (ranked (c .before .before .before .before .before .before .before .before .before .before .before .before .before .before)) _ _ _ _ _ (c .before .before .before .before .before .before .before .before .before .before .before .before .few-rows .ensures) (not-false _ (c .before .before .before .before .before .before .before .before .before .before .before .if6 .left)) (c .before .before .before .before .before .before .before .before .before .rows-lawful .ensures) (not-false _ (c .before .before .before .before .before .before .before .before .if7 .left)) (c .before .before .before .before .before .before .note-kinds .ensures) (c .before .before .mark-numbers .ensures)))
