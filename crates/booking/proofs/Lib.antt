@@ -1,5 +1,9 @@
 pub mod WalkLaws
-pub mod WalkSteps
-pub mod Stands
+pub mod Laid
+pub mod NextLaws
+pub mod Steps
+pub mod Views
+pub mod StepLaws
+pub mod LoopLaws
 pub mod SpanLaws
 pub mod PartLaws

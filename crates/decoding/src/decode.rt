@@ -10,6 +10,7 @@ use signature::decoded::argument_of;
 use signature::decoded::arity_of;
 use signature::decoded::count_of;
 use signature::decoded::kind_of;
+use signature::decoded::wide;
 ghost use mathlib.Core.Path.{_≡_};
 ghost use mathlib.Core.Bool.{true};
 ghost use mathlib.Core.Option.{some};
@@ -38,12 +39,6 @@ pub const SMALL_SIZE: u16 = 6;
 
 // What stands for the size of a kind that has no value of at most 6 words.
 pub const OVER_SMALL: u16 = 7;
-
-fn wide(x: u16) -> usize
-    ensures { λ r. ⌜ r ≡ x ⌝ }
-{
-    x as usize
-}
 
 fn copy_words(w: &[u16], from: usize, t: &mut [u16], to: usize, count: usize)
     requires { ⌜ (from + count ≤ length (now w)) × (to + count ≤ length (now t)) ⌝ }

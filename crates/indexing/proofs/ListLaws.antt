@@ -21,7 +21,7 @@ use Rattle.cell.proofs.Walk.{word-at}
 use Rattle.builder.proofs.NextLists.{words-filled}
 use Rattle.path.specs.Standing.{tag-of}
 use Rattle.path.specs.State.{row-stride}
-use Rattle.path.specs.Wrote.{word-limit}
+use Rattle.signature.specs.Limits.{word-limit}
 use Rattle.path.specs.Rows.{RuleRow, GivenRow, RowIndexed, Before, RowKept, Fit}
 use Rattle.indexing.specs.Indexing.{row-of, GivenList, ListIndexed}
 

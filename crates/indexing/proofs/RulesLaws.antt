@@ -16,7 +16,7 @@ use Rattle.cell.specs.Coded.{kinds-of}
 use Rattle.cell.specs.RowList.{entries}
 use Rattle.cell.proofs.Walk.{word-at}
 use Rattle.path.specs.State.{row-stride}
-use Rattle.path.specs.Wrote.{word-limit}
+use Rattle.signature.specs.Limits.{word-limit}
 use Rattle.path.specs.Rows.{RuleRow, Fit, RowsKept, RowKept}
 use Rattle.table.specs.Limits.{limits, table-length}
 use Rattle.table.specs.Rule.{Rule}

@@ -11,7 +11,7 @@ use Rattle.row.specs.Row.{Row}
 use Rattle.cell.specs.Coded.{kinds-of}
 use Rattle.cell.specs.RowList.{entries}
 use Rattle.path.specs.State.{row-stride}
-use Rattle.path.specs.Wrote.{word-limit}
+use Rattle.signature.specs.Limits.{word-limit}
 use Rattle.path.specs.Rows.{RuleRow, Fit, Before, RowKept, RowsKept}
 use Rattle.table.specs.Limits.{limits}
 use Rattle.table.specs.Rule.{Rule}

@@ -12,7 +12,7 @@ ghost use Rattle.cell.specs.Cell.{cell-width};
 ghost use Rattle.cell.specs.Cursor.{cell-at, opens-of};
 ghost use Rattle.path.specs.State.{row-stride};
 ghost use Rattle.path.specs.Rows.{GivenRow, RowCounted, RowIndexed, Before};
-ghost use Rattle.path.specs.Wrote.{word-limit};
+ghost use Rattle.signature.specs.Limits.{word-limit};
 
 // How many columns the cell opens whose words begin at a word.
 fn opens_at(t: &[u16], a: &[u64], at: usize) -> usize

@@ -13,7 +13,8 @@ ghost use lib.ListN.{length, getD};
 ghost use Rattle.sets.specs.Set.{set-limit};
 ghost use Rattle.path.specs.State.{rule-of, plan-of, row-stride, cell-of};
 ghost use Rattle.leaf.specs.Leaf.{Leaving, Pairing, Paired, Used, all-pairs, cell-pair, cell-pairs, leaf-of};
-ghost use Rattle.path.specs.Wrote.{Wrote, word-limit};
+ghost use Rattle.signature.specs.Limits.{word-limit};
+ghost use Rattle.path.specs.Wrote.{Wrote};
 
 const VARIABLE_COUNT: u16 = VARIABLES as u16;
 

@@ -6,10 +6,6 @@ use lib.ListN.{length, drop}
 use Rattle.tree.specs.Tree.{Tree}
 use Rattle.tree.specs.Words.{words, layout}
 
--- words are 16-bit
-abbrev pub word-limit : ℕ
-word-limit = 65536
-
 -- how long the tree is, or that there is no room; and its words where there is
 pub record Wrote (T : Tree) (base r : ℕ) (o o′ : List ℕ) : Type 0 where
   pub much : r ≡ min (words T) (suc (length o))

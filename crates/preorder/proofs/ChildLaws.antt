@@ -8,7 +8,7 @@ use native.Mathlib.Omega.{arith}
 use lib.Dec.{eqb, ltb}
 use lib.ListN.{length, getD, length-append}
 use Rattle.signature.specs.Decoded.{first-of, count-of, head-arity}
-use Rattle.signature.specs.Limits.{argument-limit, constructor-limit, heads-limit, kind-limit, level-base, last-level}
+use Rattle.signature.specs.Limits.{argument-limit, constructor-limit, heads-limit, kind-limit, level-base, last-level, word-limit}
 use Rattle.signature.specs.Lists.{_>>=_, All, first}
 use Rattle.sets.specs.Set.{bit, heads-width}
 use Rattle.signature.specs.Signature.{heads, arguments}
@@ -20,7 +20,6 @@ use Rattle.path.specs.Alive.{member}
 use Rattle.path.specs.Standing.{allowed-of}
 use Rattle.path.specs.State.{State, real-of, kept-of, cell-of, one-if, Kept}
 use Rattle.column.specs.Column.{Keeping, has-child}
-use Rattle.path.specs.Wrote.{word-limit}
 use Rattle.preorder.specs.Node.{Given, Branching, tree-of, child-of}
 use Rattle.preorder.proofs.KindLaws.{kind-below, heads-few, head-there, head-low, head-number, head-below, head-word, head-columns, head-arguments, head-kinds}
 use Rattle.preorder.proofs.NodeLaws.{state-same, real-same, raised-same, raised-low, real-cell}

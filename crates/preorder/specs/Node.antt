@@ -12,7 +12,8 @@ use Rattle.tree.specs.Tree.{Tree, Line, taken, after, compile, branches, branch
 use Rattle.tree.specs.Limits.{row-limit}
 use Rattle.path.specs.Alive.{member}
 use Rattle.path.specs.State.{options, State, Raised, Kept, real-of, Indexed}
-use Rattle.path.specs.Wrote.{Wrote, word-limit}
+use Rattle.signature.specs.Limits.{word-limit}
+use Rattle.path.specs.Wrote.{Wrote}
 
 -- the tables, and lines that stand at the cursors: ncols columns are left, v visits are made, the node's index is base, and there is room for len words
 pub record Given (t a rows : List ℕ) (n : ℕ) (s cur vis : List ℕ) (ncols v base len : ℕ) : Type 0 where

@@ -50,3 +50,7 @@ booking-limit = 4096
 -- "nested at most 256 deep"
 abbrev pub depth-limit : ℕ
 depth-limit = 256
+
+-- words have 16 bits
+abbrev pub word-limit : ℕ
+word-limit = 65536

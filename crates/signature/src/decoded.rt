@@ -3,7 +3,7 @@ ghost use mathlib.Core.Path.{_≡_};
 ghost use Prim.Native.Nat.{_<_};
 ghost use lib.ListN.{length};
 ghost use Rattle.signature.specs.Limits.{argument-limit, constructor-limit, kind-limit, level-base};
-ghost use Rattle.signature.specs.Decoded.{decoded-length, kind-of, arity-of, head-arity, argument-of, first-of, count-of, least-head-of, constructors-of};
+ghost use Rattle.signature.specs.Decoded.{decoded-length, kind-of, arity-of, head-arity, argument-of, first-of, count-of, least-head-of, kinds-of, constructors-of};
 
 pub const STRIDE: usize = 6;
 
@@ -24,6 +24,13 @@ pub const LEVEL_BASE: u16 = 1000;
 pub const LAST_LEVEL: u16 = 100;
 
 pub const LEVELS: u16 = LAST_LEVEL + 1;
+
+// A word as an index.
+pub fn wide(x: u16) -> usize
+    ensures { λ r. ⌜ r ≡ x ⌝ }
+{
+    x as usize
+}
 
 pub fn kind_of(t: &[u16], c: usize) -> u16
     requires { ⌜ (length (now t) ≡ decoded-length) × (c < constructor-limit) ⌝ }
@@ -76,6 +83,13 @@ pub fn least_head_of(t: &[u16], k: usize) -> u16
     ensures { λ r. ⌜ r ≡ least-head-of (now (t .entry)) k ⌝ }
 {
     t[KINDS_AT + KIND_STRIDE * k + 2]
+}
+
+pub fn kinds_of(t: &[u16]) -> u16
+    requires { ⌜ length (now t) ≡ decoded-length ⌝ }
+    ensures { λ r. ⌜ r ≡ kinds-of (now (t .entry)) ⌝ }
+{
+    t[COUNTS_AT]
 }
 
 pub fn constructors_of(t: &[u16]) -> u16

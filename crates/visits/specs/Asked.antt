@@ -8,7 +8,7 @@ use Rattle.pattern.specs.Limits.{pattern-limit}
 use Rattle.tree.specs.Limits.{row-limit}
 use Rattle.path.specs.Alive.{member, set-words}
 use Rattle.path.specs.State.{row-stride, own-of}
-use Rattle.path.specs.Wrote.{word-limit}
+use Rattle.signature.specs.Limits.{word-limit}
 
 -- row r stands in the table of rows, and where it is in the set its cursor is at one of its cells or behind the last
 abbrev pub RowThere : List ℕ → List ℕ → List ℕ → ℕ → Type 0
