@@ -1,4 +1,6 @@
 // The calls for a host in C or Rust: a slice goes over as a pointer and a length, an answer as a struct of numbers.
+pub mod promises;
+
 use compiling::compile::compile;
 use deciding::decide::decide;
 use emptying::empty::empty;
@@ -7,6 +9,12 @@ use entry::sound::Entry;
 use pattern::limits::VARIABLES;
 use run::run;
 use signature::refusals::SHARED;
+use stepping::begin::begin;
+use stepping::end::end;
+use stepping::state::STATE;
+use stepping::step::step;
+ghost use mathlib.Core.Path.{_≡_};
+ghost use Rattle.stepping.specs.State.{begin-state, step-state, refusal-in, end-number};
 ghost use Rattle.tree.specs.RunCall.{RunCall};
 ghost use Rattle.table.specs.Limits.{limits};
 ghost use Rattle.table.specs.Calls.{Empty, Enter, Withdraw, Compile, DecideCall};
@@ -144,4 +152,29 @@ pub extern "C" fn bellgantlet_part(signature: &[u16], booking: &[u16], place: us
         start: place,
         length: p.len(),
     }
+}
+
+#[no_mangle]
+pub extern "C" fn bellgantlet_check_begin(signature: &[u16], check: &mut [u16; STATE]) -> u16
+    ensures { λ r. ⌜ (now (check .exit) ≡ begin-state (now (signature .entry))) × (r ≡ refusal-in (begin-state (now (signature .entry)))) ⌝ }
+{
+    begin(signature, check)
+}
+
+#[no_mangle]
+pub extern "C" fn bellgantlet_check_step(
+    signature: &[u16],
+    check: &mut [u16; STATE],
+    word: u16,
+) -> u16
+    ensures { λ r. ⌜ (now (check .exit) ≡ step-state (now (signature .entry)) (now (check .entry)) word) × (r ≡ refusal-in (step-state (now (signature .entry)) (now (check .entry)) word)) ⌝ }
+{
+    step(signature, check, word)
+}
+
+#[no_mangle]
+pub extern "C" fn bellgantlet_check_end(check: &[u16; STATE]) -> u16
+    ensures { λ r. ⌜ r ≡ end-number (now (check .entry)) ⌝ }
+{
+    end(check)
 }
