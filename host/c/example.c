@@ -30,6 +30,16 @@ static void show(const char *call, bellgantlet_answer a)
     printf("\n");
 }
 
+/* A booking whose words arrive one by one. */
+static void arrive(const uint16_t *words, size_t n)
+{
+    bellgantlet_check check;
+    printf("check: begin %u", bellgantlet_check_begin(signature, N(signature), &check));
+    for (size_t i = 0; i < n; i++)
+        printf(", %u: step %u", words[i], bellgantlet_check_step(signature, N(signature), &check, words[i]));
+    printf(", end %u\n", bellgantlet_check_end(&check));
+}
+
 int main(void)
 {
     static const uint16_t seven[] = {0, 1, 261}, nine[] = {0, 260, 1, 5}, other[] = {0, 258, 4};
@@ -59,5 +69,8 @@ int main(void)
     printf("part at 1: %u, %zu from %zu\n", p.number, p.length, p.start);
     p = bellgantlet_part(signature, N(signature), bookings[0], 3, 3);
     printf("part at 3: %u, %zu from %zu\n", p.number, p.length, p.start);
+    arrive(bookings[0], 3);
+    arrive(bookings[0], 2);
+    arrive(bookings[3], 3);
     return 0;
 }

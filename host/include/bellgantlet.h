@@ -3,12 +3,12 @@
  * Link target/staticlib/libbellgantlet.a, which `rt staticlib bellgantlet` writes (x86-64 Linux).
  *
  * Words are 16 bits. A slice is a pointer and a number of words; the pointer is not null, also where the number is 0.
- * What a call writes (table, witness, space) must not overlap another slice of the same call. No call keeps a pointer,
- * allocates, or fails otherwise than by its number; each is defined on every content of its slices. A call may run at
- * the same time as any other that does not write what it is lent.
+ * What a call writes (table, witness, space, check) must not overlap anything else that the same call is lent. No call
+ * keeps a pointer, allocates, or fails otherwise than by its number; each is defined on every content of what it is lent.
+ * A call may run at the same time as any other that does not write what it is lent.
  *
  * Every answer has a number: 0, or that of the first refusal that applies, in the order given. On a refusal all other
- * results are 0 and nothing is written, except on 12.
+ * results are 0 and nothing is written, except on 12, and by a check, which keeps the number.
  *
  * Stack: a call takes up to BELLGANTLET_STACK_ENTER bytes and its like. What a thread itself needs comes on top:
  * PTHREAD_STACK_MIN and the host's own functions. A stack that is too small ends the program: nothing else is written.
@@ -23,8 +23,8 @@
 extern "C" {
 #endif
 
-#define BELLGANTLET_VERSION "0.3.0"
-#define BELLGANTLET_VERSION_NUMBER 300  /* 10,000 times the first number, 100 times the second, the third */
+#define BELLGANTLET_VERSION "0.4.0"
+#define BELLGANTLET_VERSION_NUMBER 400  /* 10,000 times the first number, 100 times the second, the third */
 
 enum {
     BELLGANTLET_SIGNATURE = 1533,   /* the most words of a lawful signature: 255 constructors with four arguments, one without */
@@ -33,6 +33,7 @@ enum {
     BELLGANTLET_TREE = 32768,       /* the most words of a tree */
     BELLGANTLET_BOOKING = 4096,     /* the most words of a booking */
     BELLGANTLET_PATTERN = 64,       /* the most words of a pattern */
+    BELLGANTLET_CHECK_WORDS = 835,  /* the words of a check */
     BELLGANTLET_LAST_RULE = 999,    /* rules are numbered from 1 */
     BELLGANTLET_VARIABLES = 16,
     BELLGANTLET_LEVEL = 1000,       /* the word of level 0 at a number kind; of level n it is n more */
@@ -49,6 +50,9 @@ enum {
     BELLGANTLET_STACK_COMPILE = 2228224,
     BELLGANTLET_STACK_RUN = 16384,
     BELLGANTLET_STACK_PART = 8192,
+    BELLGANTLET_STACK_CHECK_BEGIN = 8192,
+    BELLGANTLET_STACK_CHECK_STEP = 4096,
+    BELLGANTLET_STACK_CHECK_END = 4096,
     BELLGANTLET_STACK_ANY = 2228224     /* the most of all calls */
 };
 
@@ -128,6 +132,18 @@ typedef struct {
     size_t length;
 } bellgantlet_part_at;
 
+/* What a check of a booking keeps between two of its words, by index:
+ *   0           the number: 0, or 1 or 13 once it is certain
+ *   1           how many words were read
+ *   2           how many words of open values there are
+ *   3 to 66     for each of 32 kinds its first head and the count of its heads, 0 and 0 where there is none
+ *   67 to 322   for each of 256 constructors the index in the signature at which its row begins, 0 where there is none
+ *   323 to 834  the open values, at the end, the innermost in front: the index in the signature of the kind of the next
+ *               argument; 256 times the number of arguments still due, plus how deep each may be nested */
+typedef struct {
+    uint16_t words[BELLGANTLET_CHECK_WORDS];
+} bellgantlet_check;
+
 /* Makes a table without rules: 4,289 words become 0, those behind stay. Refusals: 2. */
 uint16_t bellgantlet_empty(uint16_t *table, size_t table_words);
 
@@ -170,6 +186,25 @@ bellgantlet_part_at bellgantlet_part(
     const uint16_t *signature, size_t signature_words,
     const uint16_t *booking, size_t booking_words,
     size_t place);
+
+/* Begins the check of a booking whose words arrive one by one. Every word of the check is written, its old words do not
+ * matter. Refusals: 1; then every step and the end are refused with it. */
+uint16_t bellgantlet_check_begin(
+    const uint16_t *signature, size_t signature_words,
+    bellgantlet_check *check);
+
+/* Takes the next word of the booking, under the signature that the check was begun with. A refusal is final: no later word
+ * can mend it, every later step gives it again, and in the check nothing but its number changes; how many words were read
+ * is then the place of the word that may not stand there. A check that was not begun, or begun with another signature, is
+ * stepped as its words say, and does no harm. Refusals: 1, 13. */
+uint16_t bellgantlet_check_step(
+    const uint16_t *signature, size_t signature_words,
+    bellgantlet_check *check,
+    uint16_t word);
+
+/* The number of the words read so far, as part and run give it: also 13 where values are still due, and where no word was
+ * read. It may be asked after any step. Refusals: 1, 13. */
+uint16_t bellgantlet_check_end(const bellgantlet_check *check);
 
 #ifdef __cplusplus
 }

@@ -31,6 +31,8 @@ pub const TREE: usize = 32768;
 pub const BOOKING: usize = 4096;
 /// The most words of a pattern.
 pub const PATTERN: usize = 64;
+/// Words of a check.
+pub const CHECK_WORDS: usize = 835;
 /// Rules are numbered from 1 to this.
 pub const LAST_RULE: u16 = 999;
 /// Variables are numbered from 0.
@@ -88,6 +90,46 @@ impl<'a> Booking<'a> {
             return Err(Refusal::of(p.number));
         }
         Ok(&self.words[p.start..p.start + p.length])
+    }
+}
+
+/// The check of a booking whose words arrive one by one.
+#[derive(Clone, Debug)]
+pub struct Checker {
+    signature: Signature,
+    check: raw::Check,
+}
+
+impl Checker {
+    /// No word has arrived yet. Takes up to [`stack::CHECK_BEGIN`] bytes.
+    pub fn new(signature: &Signature) -> Checker {
+        let mut check = raw::Check::default();
+        let number = raw::check_begin(&signature.0, &mut check);
+        debug_assert_eq!(number, 0);
+        Checker { signature: signature.clone(), check }
+    }
+
+    /// The next word; refused with [`Refusal::BookingUnlawful`] alone, as is every word behind it: no later word can mend it.
+    pub fn push(&mut self, word: u16) -> Result<(), Refusal> {
+        match raw::check_step(&self.signature.0, &mut self.check, word) {
+            0 => Ok(()),
+            n => Err(Refusal::of(n)),
+        }
+    }
+
+    /// The place of the word that was refused first.
+    pub fn went_wrong_at(&self) -> Option<usize> {
+        // a refused word is not counted as read
+        if self.check.words[0] == 0 { None } else { Some(self.check.words[1] as usize) }
+    }
+
+    /// Whether the words so far are a lawful booking; else [`Refusal::BookingUnlawful`], also where some are still due. May be
+    /// asked at any time.
+    pub fn finish(&self) -> Result<(), Refusal> {
+        match raw::check_end(&self.check) {
+            0 => Ok(()),
+            n => Err(Refusal::of(n)),
+        }
     }
 }
 

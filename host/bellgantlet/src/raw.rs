@@ -1,4 +1,5 @@
 //! The calls as they are, over slices and numbers. Every one is defined on every input.
+use crate::CHECK_WORDS;
 
 /// On 12 the lowest rule that shares a booking and the booking's length; else 0 and 0.
 #[repr(C)]
@@ -34,6 +35,19 @@ pub struct Part {
     pub number: u16,
     pub start: usize,
     pub length: usize,
+}
+
+/// What a check of a booking keeps between two of its words; the header has what stands where.
+#[repr(C)]
+#[derive(Clone, Debug, PartialEq, Eq)]
+pub struct Check {
+    pub words: [u16; CHECK_WORDS],
+}
+
+impl Default for Check {
+    fn default() -> Check {
+        Check { words: [0; CHECK_WORDS] }
+    }
 }
 
 mod link {
@@ -78,11 +92,14 @@ mod link {
             booking_n: usize,
         ) -> Answer;
         pub fn bellgantlet_part(signature: *const u16, signature_n: usize, booking: *const u16, booking_n: usize, place: usize) -> Part;
+        pub fn bellgantlet_check_begin(signature: *const u16, signature_n: usize, check: *mut Check) -> u16;
+        pub fn bellgantlet_check_step(signature: *const u16, signature_n: usize, check: *mut Check, word: u16) -> u16;
+        pub fn bellgantlet_check_end(check: *const Check) -> u16;
     }
 }
 
-// SAFETY, of all calls: pointer and length come from one slice each; lent slices that are written are exclusive by their
-// type; the library keeps no pointer, and is proved to stay within what it is lent.
+// SAFETY, of all calls: pointer and length come from one slice each, or a pointer from a reference; what is lent and written
+// is exclusive by its type; the library keeps no pointer, and is proved to stay within what it is lent.
 
 pub fn empty(table: &mut [u16]) -> u16 {
     unsafe { link::bellgantlet_empty(table.as_mut_ptr(), table.len()) }
@@ -127,4 +144,16 @@ pub fn run(signature: &[u16], tree: &[u16], booking: &[u16]) -> Answer {
 
 pub fn part(signature: &[u16], booking: &[u16], place: usize) -> Part {
     unsafe { link::bellgantlet_part(signature.as_ptr(), signature.len(), booking.as_ptr(), booking.len(), place) }
+}
+
+pub fn check_begin(signature: &[u16], check: &mut Check) -> u16 {
+    unsafe { link::bellgantlet_check_begin(signature.as_ptr(), signature.len(), check) }
+}
+
+pub fn check_step(signature: &[u16], check: &mut Check, word: u16) -> u16 {
+    unsafe { link::bellgantlet_check_step(signature.as_ptr(), signature.len(), check, word) }
+}
+
+pub fn check_end(check: &Check) -> u16 {
+    unsafe { link::bellgantlet_check_end(check) }
 }

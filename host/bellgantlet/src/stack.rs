@@ -10,5 +10,8 @@ pub const DECIDE: usize = 840 << 10;
 pub const COMPILE: usize = 2176 << 10;
 pub const RUN: usize = 16 << 10;
 pub const PART: usize = 8 << 10;
+pub const CHECK_BEGIN: usize = 8 << 10;
+pub const CHECK_STEP: usize = 4 << 10;
+pub const CHECK_END: usize = 4 << 10;
 /// The most of all calls.
 pub const ANY: usize = COMPILE;

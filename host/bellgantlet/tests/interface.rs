@@ -29,27 +29,46 @@ fn given(structs: &Structs, of: &str) -> Vec<Named> {
     structs.get(of.trim()).cloned().unwrap_or_else(|| vec![named("", of)])
 }
 
+/// A pointer; to a struct it is one to the fields, and an array alone is the struct of its words.
+fn pointer(structs: &Structs, sort: &str, of: &str) -> String {
+    match structs.get(of) {
+        Some(fields) => format!("{sort} {fields:?}"),
+        None if of.starts_with('[') => format!("{sort} {:?}", [named("words", &numbered(of))]),
+        None => format!("{sort} {of}"),
+    }
+}
+
+/// The length of an array as a number.
+fn numbered(of: &str) -> String {
+    let check = CHECK_WORDS.to_string();
+    of.replace("VARIABLES", &VARIABLES.to_string()).replace("CHECK_WORDS", &check).replace("STATE", &check)
+}
+
 // ---- the header
 
 fn without_comments(text: &str) -> String {
     text.split("/*").enumerate().map(|(i, t)| if i == 0 { t } else { t.split_once("*/").unwrap().1 }).collect()
 }
 
+/// `uint16_t` or `const bellgantlet_check *`, as Rust writes it.
+fn c_type(structs: &Structs, of: &str) -> String {
+    let Some(of) = of.strip_suffix('*') else {
+        return of.replace("uint16_t", "u16").replace("size_t", "usize");
+    };
+    match of.trim().strip_prefix("const ") {
+        Some(of) => pointer(structs, "*const", &c_type(structs, of)),
+        None => pointer(structs, "*mut", &c_type(structs, of.trim())),
+    }
+}
+
 /// `const uint16_t *table` or `uint16_t places[BELLGANTLET_VARIABLES]`.
-fn c_named(text: &str) -> Named {
+fn c_named(structs: &Structs, text: &str) -> Named {
     let text = text.trim();
     let from = text.rfind([' ', '*']).unwrap() + 1;
-    let (of, name) = (text[..from].trim(), &text[from..]);
-    let rust = match of {
-        "uint16_t" => "u16",
-        "size_t" => "usize",
-        "uint16_t *" => "*mut u16",
-        "const uint16_t *" => "*const u16",
-        _ => panic!("{text}"),
-    };
-    match name.strip_suffix("[BELLGANTLET_VARIABLES]") {
-        Some(name) => named(name, &format!("[{rust}; 16]")),
-        None => named(&name.replace("_words", "_n"), rust),
+    let (of, name) = (c_type(structs, text[..from].trim()), &text[from..]);
+    match name.split_once("[BELLGANTLET_") {
+        Some((name, length)) => named(name, &numbered(&format!("[{of}; {length}"))),
+        None => named(&name.replace("_words", "_n"), &of),
     }
 }
 
@@ -60,7 +79,8 @@ fn of_header() -> Calls {
     while rest.contains("typedef struct {") {
         let (fields, behind) = between(rest, "typedef struct {", "}");
         let name = behind.split_once(';').unwrap().0.trim();
-        structs.insert(name.into(), fields.split(';').filter(|f| !f.trim().is_empty()).map(c_named).collect());
+        let fields = fields.split(';').filter(|f| !f.trim().is_empty()).map(|f| c_named(&structs, f)).collect();
+        structs.insert(name.into(), fields);
         rest = behind;
     }
     let mut calls = Calls::new();
@@ -69,7 +89,8 @@ fn of_header() -> Calls {
         let before: Vec<&str> = before.split_whitespace().collect();
         let [.., of, name] = before[..] else { panic!("{line}") };
         let of = if of == "uint16_t" { vec![named("", "u16")] } else { given(&structs, of) };
-        calls.insert(name.into(), (parameters.trim_end_matches(')').split(',').map(c_named).collect(), of));
+        let parameters = parameters.trim_end_matches(')').split(',').map(|p| c_named(&structs, p)).collect();
+        calls.insert(name.into(), (parameters, of));
     }
     calls
 }
@@ -83,11 +104,21 @@ fn structs(text: &str) -> Structs {
         let (fields, _) = between(part, "{", "}");
         let fields = fields.split(",\n").filter(|f| f.contains(':')).map(|f| {
             let (n, of) = f.trim().trim_start_matches("pub ").split_once(':').unwrap();
-            named(n, &of.trim_end_matches(',').replace("VARIABLES", "16"))
+            named(n, &numbered(of.trim_end_matches(',')))
         });
         all.insert(name.trim().into(), fields.collect());
     }
     all
+}
+
+/// `&mut [u16; STATE]` or `*mut Check`, or what is no pointer.
+fn lent(structs: &Structs, of: &str) -> String {
+    for (start, sort) in [("&mut ", "*mut"), ("*mut ", "*mut"), ("*const ", "*const"), ("&", "*const")] {
+        if let Some(of) = of.strip_prefix(start) {
+            return pointer(structs, sort, of);
+        }
+    }
+    of.to_string()
 }
 
 /// The functions behind each `mark`; a slice is a pointer and a length.
@@ -102,7 +133,7 @@ fn functions(text: &str, mark: &str, end: &str, structs: &Structs) -> Calls {
             match of.trim() {
                 "&[u16]" => all.extend([named(n, "*const u16"), named(&format!("{}_n", n.trim()), "usize")]),
                 "&mut [u16]" => all.extend([named(n, "*mut u16"), named(&format!("{}_n", n.trim()), "usize")]),
-                of => all.push(named(n, of)),
+                of => all.push(named(n, &lent(structs, of))),
             }
         }
         calls.insert(name.into(), (all, given(structs, behind.split(end).next().unwrap())));
@@ -113,7 +144,7 @@ fn functions(text: &str, mark: &str, end: &str, structs: &Structs) -> Calls {
 #[test]
 fn the_same_calls() {
     let header = of_header();
-    assert_eq!(header.len(), 7);
+    assert_eq!(header.len(), 10);
     let (link, _) = between(RAW, "extern \"C\" {", "\n    }");
     assert_eq!(functions(link, "pub fn ", ";", &structs(RAW)), header);
     assert_eq!(functions(EXPORTED, "pub extern \"C\" fn ", "\n", &structs(EXPORTED)), header);
@@ -146,6 +177,7 @@ fn the_same_constants() {
         ("TREE", TREE),
         ("BOOKING", BOOKING),
         ("PATTERN", PATTERN),
+        ("CHECK_WORDS", CHECK_WORDS),
         ("LAST_RULE", LAST_RULE as usize),
         ("VARIABLES", VARIABLES),
         ("LEVEL", LEVEL as usize),
@@ -158,6 +190,9 @@ fn the_same_constants() {
         ("STACK_COMPILE", stack::COMPILE),
         ("STACK_RUN", stack::RUN),
         ("STACK_PART", stack::PART),
+        ("STACK_CHECK_BEGIN", stack::CHECK_BEGIN),
+        ("STACK_CHECK_STEP", stack::CHECK_STEP),
+        ("STACK_CHECK_END", stack::CHECK_END),
         ("STACK_ANY", stack::ANY),
         ("DONE", 0),
     ];
@@ -188,8 +223,17 @@ fn written(n: usize) -> String {
 #[test]
 fn the_readme_has_the_stacks() {
     assert_eq!((stack::ENTER, stack::ENTER), (stack::WITHDRAW, stack::DECIDE));
-    let calls = [("enter, withdraw, decide", stack::ENTER), ("compile", stack::COMPILE), ("run", stack::RUN)];
-    for (call, bytes) in calls.into_iter().chain([("part", stack::PART), ("empty", stack::EMPTY)]) {
+    let calls = [
+        ("enter, withdraw, decide", stack::ENTER),
+        ("compile", stack::COMPILE),
+        ("run", stack::RUN),
+        ("part", stack::PART),
+        ("empty", stack::EMPTY),
+        ("check_begin", stack::CHECK_BEGIN),
+        ("check_step", stack::CHECK_STEP),
+        ("check_end", stack::CHECK_END),
+    ];
+    for (call, bytes) in calls {
         assert!(README.contains(&format!("| {call} | {} | `BELLGANTLET_STACK_", written(bytes))), "{call}");
     }
 }

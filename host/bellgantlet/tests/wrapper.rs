@@ -103,6 +103,54 @@ fn what_is_checked_once() {
     assert_eq!(sig.booking(&words[..2]).unwrap_err(), Refusal::BookingUnlawful);
 }
 
+/// Each booking pushed word by word is refused as it is whole, and at the first word that may not stand there.
+#[test]
+fn word_by_word() {
+    let sig = Signature::new(&T).unwrap();
+    let bookings: [(&[u16], Option<usize>); 8] = [
+        (&[], None),
+        (&[0, 1], None),
+        (&[0, 1, 5], None),
+        (&[1], Some(0)),
+        (&[0, 4, 5], Some(1)),
+        (&[0, 1, 1000], Some(2)),
+        (&[0, 1, 5, 5], Some(3)),
+        (&[0, 1, 65535, 5], Some(2)),
+    ];
+    for (words, wrong) in bookings {
+        let mut checker = Checker::new(&sig);
+        for (i, w) in words.iter().enumerate() {
+            assert_eq!(checker.finish(), sig.booking(&words[..i]).map(|_| ()));
+            let expected = if wrong.is_some_and(|at| at <= i) { Err(Refusal::BookingUnlawful) } else { Ok(()) };
+            assert_eq!(checker.push(*w), expected);
+        }
+        assert_eq!(checker.finish(), sig.booking(words).map(|_| ()));
+        assert_eq!(checker.went_wrong_at(), wrong);
+    }
+}
+
+/// Bookings of 4,096 words and 256 deep, and of one more.
+#[test]
+fn word_by_word_at_the_limits() {
+    // 0 has one argument, 1 two, 2 none
+    let sig = Signature::new(&[3, 0, 1, 0, 0, 2, 0, 0, 0, 0]).unwrap();
+    fn exact(n: usize) -> Vec<u16> {
+        match n {
+            1 => vec![2],
+            2 => vec![0, 2],
+            _ => [vec![1], exact((n - 1) / 2), exact(n - 1 - (n - 1) / 2)].concat(),
+        }
+    }
+    let deep = |n: usize| [vec![0; n - 1], vec![2]].concat();
+    for (words, wrong) in [(exact(4096), None), (exact(4097), Some(4096)), (deep(256), None), (deep(257), Some(256))] {
+        let mut checker = Checker::new(&sig);
+        let refused = words.iter().position(|w| checker.push(*w).is_err());
+        assert_eq!((refused, checker.went_wrong_at()), (wrong, wrong));
+        assert_eq!(checker.finish().is_ok(), wrong.is_none());
+    }
+    assert_eq!(std::mem::size_of::<raw::Check>(), 2 * CHECK_WORDS);
+}
+
 /// `?` where a refusal is due, and where any error is.
 #[test]
 fn errors() {

@@ -2,7 +2,7 @@
 use bellgantlet::{raw, stack, TABLE, TREE, WITNESS};
 
 /// The names of the calls and what each is documented to take of the stack.
-pub const CALLS: [(&str, usize); 7] = [
+pub const CALLS: [(&str, usize); 10] = [
     ("part", stack::PART),
     ("run", stack::RUN),
     ("empty", stack::EMPTY),
@@ -10,6 +10,9 @@ pub const CALLS: [(&str, usize); 7] = [
     ("enter", stack::ENTER),
     ("withdraw", stack::WITHDRAW),
     ("compile", stack::COMPILE),
+    ("check_begin", stack::CHECK_BEGIN),
+    ("check_step", stack::CHECK_STEP),
+    ("check_end", stack::CHECK_END),
 ];
 
 #[derive(Clone, Default)]
@@ -23,6 +26,8 @@ pub struct Lent {
     pub place: usize,
     pub space: Vec<u16>,
     pub witness: Vec<u16>,
+    pub check: raw::Check,
+    pub word: u16,
 }
 
 impl Lent {
@@ -45,6 +50,9 @@ impl Lent {
             "enter" => raw::enter(&l.signature, l.number, 1, &l.pattern, &mut l.table, &mut l.witness).number,
             "withdraw" => raw::withdraw(&l.signature, l.number, &mut l.table),
             "compile" => raw::compile(&l.signature, &l.table, &mut l.space).number,
+            "check_begin" => raw::check_begin(&l.signature, &mut l.check),
+            "check_step" => raw::check_step(&l.signature, &mut l.check, l.word),
+            "check_end" => raw::check_end(&l.check),
             _ => panic!("no call {call}"),
         }
     }

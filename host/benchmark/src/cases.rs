@@ -178,19 +178,78 @@ pub fn with_levels() -> Vec<Case> {
     vec![boxes("10 rules, levels", 10), boxes("64 rules, levels", 64)]
 }
 
+/// A value of n words: 0 has one argument, 1 two, 2 none.
+fn exact(n: usize) -> Vec<u16> {
+    match n {
+        1 => vec![2],
+        2 => vec![0, 2],
+        _ => [vec![1], exact((n - 1) / 2), exact(n - 1 - (n - 1) / 2)].concat(),
+    }
+}
+
 /// One rule that takes every booking, and a booking of 4,096 words, of a list with two elements a cell.
 pub fn long() -> Case {
-    fn exact(n: usize) -> Vec<u16> {
-        match n {
-            1 => vec![2],
-            2 => vec![0, 2],
-            _ => [vec![1], exact((n - 1) / 2), exact(n - 1 - (n - 1) / 2)].concat(),
-        }
-    }
     Case {
         name: "4,096 words",
         signature: vec![3, 0, 1, 0, 0, 2, 0, 0, 0, 0],
         rules: vec![(1, 1, vec![257, 1, 261, 258, 0, 261])],
         bookings: vec![exact(4096)],
     }
+}
+
+/// The 20 constructors of the grid with a booking of 4,096 words: its energy has parts of parts.
+pub fn long_grid() -> Case {
+    fn energy(n: usize, out: &mut Vec<u16>) {
+        if n == 1 {
+            return out.push(18 + (out.len() % 3 == 0) as u16);
+        }
+        out.push(17);
+        let left = (n - 1) / 4 * 2 + 1;
+        energy(left, out);
+        energy(n - 1 - left, out);
+    }
+    let mut booking = vec![0, 3, 12];
+    energy(4093, &mut booking);
+    Case { name: "20 constructors, 4,096 words", bookings: vec![booking], ..grid("", 1) }
+}
+
+/// 256 constructors of four kinds, by turns without arguments, with one and with two of the next kinds; a booking of 4,096 words
+/// that has all of them.
+pub fn long_wide() -> Case {
+    let mut signature = vec![256];
+    for c in 0..256u16 {
+        let kind = c / 64;
+        signature.extend([kind, c % 3]);
+        signature.extend((0..c % 3).map(|i| (kind + 1 + i) % 4));
+    }
+    // the constructors of a kind with so many arguments, by turns
+    let mut turn = 0;
+    let mut head = |kind: u16, arguments: u16| {
+        turn += 1;
+        let all: Vec<u16> = (64 * kind..64 * kind + 64).filter(|c| c % 3 == arguments).collect();
+        all[turn % all.len()]
+    };
+    fn value(kind: u16, n: usize, head: &mut impl FnMut(u16, u16) -> u16, out: &mut Vec<u16>) {
+        let arguments = (n - 1).min(2);
+        out.push(head(kind, arguments as u16));
+        match arguments {
+            0 => {}
+            1 => value((kind + 1) % 4, n - 1, head, out),
+            _ => {
+                value((kind + 1) % 4, (n - 1) / 2, head, out);
+                value((kind + 2) % 4, n - 1 - (n - 1) / 2, head, out);
+            }
+        }
+    }
+    let mut booking = vec![];
+    value(0, 4096, &mut head, &mut booking);
+    Case { name: "256 constructors, 4,096 words", signature, rules: vec![(1, 1, vec![258])], bookings: vec![booking] }
+}
+
+/// A booking of 4,096 words that begins with 254 nested ones: each has a value due until the words behind it are read.
+pub fn long_deep() -> Case {
+    let sides = (0..254).flat_map(|i| exact(if i < 20 { 1 } else if i < 97 { 17 } else { 16 }));
+    let booking: Vec<u16> = [1; 254].into_iter().chain([2]).chain(sides).collect();
+    assert_eq!(booking.len(), 4096);
+    Case { name: "3 constructors, 4,096 words, 255 deep", bookings: vec![booking], ..long() }
 }

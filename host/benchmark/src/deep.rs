@@ -1,6 +1,6 @@
 //! Where the calls go deepest: patterns of 64 words that nest in every way, entered and held; and words that are not lawful.
 use crate::calls::{Lent, Row};
-use crate::cases::{cases, with_levels, Case};
+use crate::cases::{cases, long_deep, long_grid, long_wide, with_levels, Case};
 use bellgantlet::{raw, TABLE, TREE, WITNESS};
 
 /// One kind: 0 has no argument, 1 one, 2 two, 3 four.
@@ -18,6 +18,7 @@ pub fn rows() -> Vec<Row> {
     all.push(of_patterns("variables under or", variables()));
     all.push(of_case(&letters()));
     all.push(not_lawful());
+    all.push(arriving());
     all
 }
 
@@ -42,6 +43,23 @@ fn asked(l: &Lent, bookings: &[Vec<u16>]) -> Vec<(&'static str, Lent)> {
         let l = Lent { booking: b.clone(), tree: tree.clone(), place: b.len() - 1, ..l.clone() };
         all.extend(["decide", "run", "part"].into_iter().map(|c| (c, l.clone())));
     }
+    all
+}
+
+/// The calls of a check: its beginning, the steps at the first word of the booking, halfway and at the last, and its end.
+fn stepped(signature: &[u16], booking: &[u16]) -> Vec<(&'static str, Lent)> {
+    let mut l = Lent { signature: signature.to_vec(), booking: booking.to_vec(), ..Lent::default() };
+    let mut all = vec![("check_begin", l.clone())];
+    l.make("check_begin");
+    let n = l.booking.len();
+    for i in 0..n {
+        l.word = l.booking[i];
+        if [0, n / 2, n - 1].contains(&i) {
+            all.push(("check_step", l.clone()));
+        }
+        l.make("check_step");
+    }
+    all.push(("check_end", l));
     all
 }
 
@@ -154,9 +172,24 @@ fn not_lawful() -> Row {
         for word in [0, 1, 2, 3] {
             let l = Lent { booking: vec![word; n], tree: vec![3; n], ..Lent::empty(&ONE_KIND) };
             inputs.extend(["part", "run", "decide"].map(|c| (c, l.clone())));
+            inputs.extend(stepped(&ONE_KIND, &l.booking));
             let l = Lent { booking: vec![0], number: 1, pattern: vec![258], ..Lent::empty(&vec![word; n]) };
             inputs.extend(["part", "run", "decide", "enter", "withdraw", "compile"].map(|c| (c, l.clone())));
+            inputs.extend(stepped(&l.signature, &[0]));
         }
     }
     Row { name: "not lawful", inputs }
+}
+
+/// Bookings checked word by word: those of the cases, of 4,096 words, 256 deep, and under the longest signature.
+fn arriving() -> Row {
+    let mut inputs = vec![];
+    for c in cases().iter().chain(&with_levels()).chain(&[letters(), long_grid(), long_wide(), long_deep()]) {
+        inputs.extend(c.bookings.last().into_iter().flat_map(|b| stepped(&c.signature, b)));
+    }
+    let mut longest = vec![256];
+    (0..255).for_each(|c| longest.extend([c / 64, 4, 3, 3, 3, 3]));
+    longest.extend([3, 0]);
+    inputs.extend(stepped(&longest, &[vec![0], vec![192; 254], vec![255; 255 * 3 + 1]].concat()));
+    Row { name: "word by word", inputs }
 }

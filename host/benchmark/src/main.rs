@@ -1,7 +1,7 @@
 //! The calls side by side with the prototype, with a first-match list of the same rules, and a run with one pass over the
 //! booking. Times are the least of many rounds, in which the parties take turns.
 use bellgantlet::raw;
-use benchmark::cases::{cases, long, with_levels, Case};
+use benchmark::cases::{cases, long, long_deep, long_grid, long_wide, with_levels, Case};
 use benchmark::first_match;
 use std::hint::black_box;
 use std::time::Instant;
@@ -62,6 +62,8 @@ fn times(rounds: usize) {
     run(&long(), rounds);
     part(&all[0], rounds);
     part(&long(), rounds);
+    part(&long_grid(), rounds);
+    part(&long_wide(), rounds);
     for c in all.iter().filter(|c| !c.bookings.is_empty()) {
         decide(c, rounds);
     }
@@ -77,6 +79,36 @@ fn times(rounds: usize) {
     for c in &with_levels() {
         alone(c, rounds);
     }
+    for c in [long_grid(), long_wide()] {
+        let (name, mut check) = (format!("{} constructors", c.signature[0]), raw::Check::default());
+        by_itself("check_begin", &name, rounds, || { black_box(raw::check_begin(&c.signature, &mut check)); });
+    }
+    println!("\n| checked word by word | a step | the check inside part, a word | ratio |\n|---|---|---|---|");
+    for c in [long_grid(), long_wide(), long_deep()] {
+        stepped(&c, rounds);
+    }
+}
+
+/// A step beside a word of the check inside part, which is without what part takes of the least booking. The part is that of
+/// the last place, as the end of a longer one would be looked for in a second walk.
+fn stepped(c: &Case, rounds: usize) {
+    let (sig, b) = (&c.signature, &c.bookings[0]);
+    let least = reference::signature::Signature::read(sig).unwrap().least_value(0).words();
+    let mut begun = raw::Check::default();
+    assert_eq!(raw::check_begin(sig, &mut begun), 0);
+    let mut check = begun.clone();
+    let mut parties: Vec<Party> = vec![
+        ("steps", Box::new(|| {
+            check.words = begun.words;
+            b.iter().for_each(|w| { black_box(raw::check_step(sig, &mut check, *w)); });
+            assert_eq!(raw::check_end(&check), 0);
+        })),
+        ("part", Box::new(|| assert_eq!(black_box(raw::part(sig, b, b.len() - 1)).number, 0))),
+        ("least", Box::new(|| assert_eq!(black_box(raw::part(sig, &least, least.len() - 1)).number, 0))),
+    ];
+    let t = turns(&mut parties, rounds);
+    let (step, inside) = (t[0] / b.len() as f64, (t[1] - t[2]) / (b.len() - least.len()) as f64);
+    println!("| {} | {step:.2} ns | {inside:.2} ns | {:.2} |", c.name, step / inside);
 }
 
 fn compiled(c: &Case) -> Vec<u16> {
@@ -124,7 +156,8 @@ fn part(c: &Case, rounds: usize) {
         ("prototype", Box::new(|| { black_box(prototype::booking::part_at(sig, b, 1)); })),
         ("sum", Box::new(|| { black_box(b.iter().map(|w| *w as u64).sum::<u64>()); })),
     ];
-    line("part", &format!("a booking of {} words", b.len()), &mut parties, rounds);
+    let constructors = format!("{} constructors", sig[0]);
+    line("part", &format!("{constructors}, a booking of {} words", b.len()), &mut parties, rounds);
 }
 
 fn decide(c: &Case, rounds: usize) {

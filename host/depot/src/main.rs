@@ -105,6 +105,22 @@ impl Depot {
             assert_eq!(self.tree.run(&words), self.table.decide(&words));
         }
     }
+
+    /// A booking that arrives in pieces: checked word by word, answered when it is whole, and given up at the first wrong word.
+    fn receive(&self, pieces: &[&[u16]]) {
+        let mut checker = Checker::new(self.table.signature());
+        for piece in pieces {
+            println!("    {piece:?} arrives");
+            if piece.iter().any(|word| checker.push(*word).is_err()) {
+                break;
+            }
+        }
+        match (checker.went_wrong_at(), checker.finish()) {
+            (None, Ok(())) => self.answer(&self.names.show(&pieces.concat())),
+            (None, Err(_)) => println!("it is not whole"),
+            (Some(at), _) => println!("wrong at index {at}, the word {}: no more is awaited", pieces.concat()[at]),
+        }
+    }
 }
 
 fn main() -> Result<(), Refusal> {
@@ -153,6 +169,11 @@ fn main() -> Result<(), Refusal> {
     depot.answer("booking(solo, street, low, 61)");
     depot.answer("booking(solo, street, low, 101)");
     depot.answer("booking(trolley, seven, low, 50)");
+
+    println!("-- bookings arrive in pieces:");
+    depot.receive(&[&[0, 2, 5], &[9], &[15, 16, 14, 1060]]);
+    depot.receive(&[&[0, 4, 18], &[12, 1050]]);
+    depot.receive(&[&[0, 4, 7, 12]]);
 
     println!("-- rules in force:");
     for (number, plan, pattern) in depot.table.rules() {

@@ -2,6 +2,7 @@
 use crate::calls::{Answer, Model, WITNESS};
 use crate::pattern;
 use crate::signature::Signature;
+use crate::stepped;
 use bellgantlet::raw;
 use std::collections::BTreeMap;
 
@@ -28,8 +29,44 @@ impl Lent {
     }
 }
 
+/// A state of the library, lent with guards around it, and the reference's.
+pub struct States {
+    library: LentCheck,
+    reference: Vec<u16>,
+}
+
+#[repr(C)]
+struct LentCheck {
+    before: [u16; GUARD],
+    check: raw::Check,
+    after: [u16; GUARD],
+}
+
+impl States {
+    /// The same words, whatever they are.
+    pub fn of(words: &[u16]) -> States {
+        let check = raw::Check { words: words.try_into().unwrap() };
+        States { library: LentCheck { before: GUARDS, check, after: GUARDS }, reference: words.to_vec() }
+    }
+
+    pub fn words(&self) -> &[u16] {
+        &self.reference
+    }
+
+    fn after(&self) -> &[u16] {
+        let l = &self.library;
+        assert!(l.before == GUARDS && l.after == GUARDS, "a word around a state was written");
+        &l.check.words
+    }
+}
+
+/// Of a booking stepped, the numbers are asked after each of so many words, and at the end.
+const ASKED: usize = 64;
+
 pub struct Compare {
     pub model: Model,
+    /// What was stepped last: the calls of one test often have the same booking.
+    last: (Vec<u16>, Vec<u16>),
     /// How often each call gave each number.
     pub given: BTreeMap<(&'static str, u16), u64>,
 }
@@ -50,11 +87,16 @@ fn form(a: raw::Answer) -> Answer {
 
 impl Compare {
     pub fn new() -> Compare {
-        Compare { model: Model::default(), given: BTreeMap::new() }
+        Compare { model: Model::default(), last: (vec![], vec![]), given: BTreeMap::new() }
     }
 
     pub fn calls(&self) -> u64 {
         self.given.values().sum()
+    }
+
+    /// Those of checks word by word.
+    pub fn of_checks(&self) -> u64 {
+        self.given.iter().filter(|((call, _), _)| call.starts_with("check_")).map(|(_, n)| n).sum()
     }
 
     fn count(&mut self, call: &'static str, number: u16) {
@@ -121,6 +163,7 @@ impl Compare {
         let expected = self.model.decide(sig, table, booking);
         same!("decide", "answer", got, expected, sig, table, booking);
         self.count("decide", got.0);
+        self.stepped_too(sig, booking);
         got
     }
 
@@ -129,6 +172,7 @@ impl Compare {
         let expected = self.model.run(sig, tree, booking);
         same!("run", "answer", got, expected, sig, tree, booking);
         self.count("run", got.0);
+        self.stepped_too(sig, booking);
         got
     }
 
@@ -139,7 +183,76 @@ impl Compare {
         same!("part", "start", p.start, if p.number == 0 { place } else { 0 }, sig, booking, place);
         same!("part", "words", &booking[p.start..p.start + p.length], &expected.1[..], sig, booking, place);
         self.count("part", p.number);
+        self.stepped_too(sig, booking);
         p.number
+    }
+
+    /// The states before the first word, whatever the words were before.
+    pub fn check_begin(&mut self, sig: &[u16]) -> States {
+        let old: Vec<u16> = (0..stepped::STATE).map(|i| (i * 7 + sig.len()) as u16).collect();
+        let mut states = States::of(&old);
+        let number = raw::check_begin(sig, &mut states.library.check);
+        states.reference = stepped::begin(sig);
+        same!("check_begin", "number", number, states.words()[0], sig);
+        same!("check_begin", "state", states.after(), states.words(), sig);
+        self.count("check_begin", number);
+        states
+    }
+
+    pub fn check_step(&mut self, sig: &[u16], states: &mut States, word: u16) -> u16 {
+        let number = raw::check_step(sig, &mut states.library.check, word);
+        let before = states.reference.clone();
+        let expected = stepped::step(sig, &mut states.reference, word);
+        same!("check_step", "number", number, expected, sig, before, word);
+        same!("check_step", "state", states.after(), states.words(), sig, before, word);
+        self.count("check_step", number);
+        number
+    }
+
+    pub fn check_end(&mut self, states: &States) -> u16 {
+        let number = raw::check_end(&states.library.check);
+        same!("check_end", "number", number, stepped::end(states.words()), states.words());
+        same!("check_end", "state", states.after(), states.words(), number);
+        self.count("check_end", number);
+        number
+    }
+
+    /// A booking checked word by word: the numbers of its first words, up to 64, and of all. They are those of the check of
+    /// the same words whole, and it goes wrong where a word may not stand.
+    pub fn stepped(&mut self, sig: &[u16], booking: &[u16]) -> (Vec<u16>, u16) {
+        let whole = Signature::read(sig);
+        let number = |words: &[u16]| match &whole {
+            None => 1,
+            Some(s) => if s.read_booking(words).is_some() { 0 } else { 13 },
+        };
+        let mut states = self.check_begin(sig);
+        let mut first = vec![];
+        let mut n = 0;
+        loop {
+            let last = n == booking.len();
+            if n <= ASKED || last {
+                let got = self.check_end(&states);
+                same!("check_end", "number of the words so far", got, number(&booking[..n]), sig, booking, n);
+                first.push(got);
+            }
+            if last {
+                break;
+            }
+            self.check_step(sig, &mut states, booking[n]);
+            n += 1;
+        }
+        let wrong = (states.words()[0] == 13).then_some(states.words()[1] as usize);
+        same!("check_step", "where it goes wrong", wrong, whole.as_ref().and_then(|s| s.wrong_at(booking)), sig, booking);
+        let last = *first.last().unwrap();
+        first.truncate(ASKED + 1);
+        (first, last)
+    }
+
+    fn stepped_too(&mut self, sig: &[u16], booking: &[u16]) {
+        if self.last.0 != sig || self.last.1 != booking {
+            self.last = (sig.to_vec(), booking.to_vec());
+            self.stepped(sig, booking);
+        }
     }
 }
 

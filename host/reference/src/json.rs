@@ -19,6 +19,10 @@ impl Json {
         &fields.iter().find(|(k, _)| k == key).expect(key).1
     }
 
+    pub fn has(&self, key: &str) -> bool {
+        matches!(self, Json::Record(fields) if fields.iter().any(|(k, _)| k == key))
+    }
+
     pub fn list(&self) -> &[Json] {
         let Json::List(l) = self else { panic!("no list") };
         l

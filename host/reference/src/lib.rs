@@ -7,6 +7,7 @@ pub mod pattern;
 pub mod random;
 pub mod rows;
 pub mod signature;
+pub mod stepped;
 pub mod stored;
 pub mod text;
 pub mod tree;

@@ -2,12 +2,13 @@
 //!
 //!     differential [--vectors FOLDER] [--records FOLDER] [--seed N] [--scale PERCENT]
 use reference::calls::{sound, TABLE};
-use reference::compare::Compare;
+use reference::compare::{Compare, States};
 use reference::json::Json;
 use reference::pattern::{self, admitted};
 use reference::random::*;
 use reference::rows::{rows_of, shared_value, Side};
 use reference::signature::{all_values, Signature};
+use reference::stepped::step;
 use std::time::Instant;
 
 const T: [u16; 15] = [6, 0, 2, 1, 2, 1, 0, 1, 0, 1, 0, 2, 0, 2, 0];
@@ -35,7 +36,7 @@ fn work() {
     if let Some(folder) = option("--records") {
         timed(&mut c, "records", |c| records(c, &folder));
     }
-    let tests: [(&str, usize, fn(&mut Compare, &mut Random)); 9] = [
+    let tests: [(&str, usize, fn(&mut Compare, &mut Random)); 10] = [
         ("signatures", 12000, signatures),
         ("bookings and parts", 12000, bookings),
         ("patterns into an empty table", 60000, patterns),
@@ -45,6 +46,7 @@ fn work() {
         ("changed tables", 4000, tables),
         ("changed trees", 2500, trees),
         ("limits", 1, limits),
+        ("forged states", 20000, forged),
     ];
     for (i, (name, times, test)) in tests.into_iter().enumerate() {
         timed(&mut c, name, |c| {
@@ -65,7 +67,7 @@ fn timed(c: &mut Compare, name: &str, f: impl FnOnce(&mut Compare)) {
 
 /// Each call's numbers: those that 01 lets it give, all of them reached.
 fn summary(c: &Compare, scale: usize) {
-    let known: [(&str, &[u16]); 7] = [
+    let known: [(&str, &[u16]); 10] = [
         ("empty", &[0, 2]),
         ("enter", &[0, 1, 2, 3, 4, 5, 7, 8, 9, 10, 11, 12, 18]),
         ("withdraw", &[0, 1, 2, 3, 4, 6]),
@@ -73,15 +75,18 @@ fn summary(c: &Compare, scale: usize) {
         ("decide", &[0, 1, 2, 3, 13]),
         ("run", &[0, 1, 13, 15]),
         ("part", &[0, 1, 13, 16]),
+        ("check_begin", &[0, 1]),
+        ("check_step", &[0, 1, 13]),
+        ("check_end", &[0, 1, 13]),
     ];
     for (call, numbers) in known {
         let of = |n: &u16| c.given.get(&(call, *n)).copied().unwrap_or(0);
         let line: Vec<String> = numbers.iter().map(|n| format!("{n}: {}", of(n))).collect();
-        println!("{call:9} {}", line.join(", "));
+        println!("{call:12} {}", line.join(", "));
         assert!(scale < 100 || numbers.iter().all(|n| of(n) > 0), "a number of {call} was not reached");
     }
-    println!("{} calls compared, no difference", c.calls());
-    assert!(scale < 100 || c.calls() >= 100_000);
+    println!("{} calls compared, {} of them of checks word by word, no difference", c.calls(), c.of_checks());
+    assert!(scale < 100 || c.calls() - c.of_checks() >= 100_000);
 }
 
 // ---- the tests
@@ -451,6 +456,60 @@ fn trees(c: &mut Compare, r: &mut Random) {
     }
 }
 
+/// States of a check that no begin and step made, or that were made under another signature, stepped some words.
+fn forged(c: &mut Compare, r: &mut Random) {
+    let of = size(r);
+    let (mut words, sig) = signature(r, of);
+    let b = booking(r, &sig);
+    let mut states = match r.below(4) {
+        0 => States::of(&state(r, words.len())),
+        1 => {
+            let of = size(r);
+            let (other, sig) = signature(r, of);
+            let b = booking(r, &sig);
+            begun(c, r, &other, &b)
+        }
+        2 => {
+            let mut state = begun(c, r, &words, &b).words().to_vec();
+            change_state(r, &mut state);
+            States::of(&state)
+        }
+        _ => begun(c, r, &words, &b),
+    };
+    match r.below(6) {
+        0 => damage(r, &mut words),
+        1 => words.truncate(r.below(words.len() + 1)),
+        2 => words.resize(*r.pick(&[1533, 1536, 1537, 1538, 4000]), r.below(6) as u16),
+        _ => {}
+    }
+    for _ in 0..r.between(1, 40) {
+        let word = if r.once_in(10) { odd_word(r) } else { likely(r, &words, states.words()) };
+        c.check_step(&words, &mut states, word);
+        c.check_end(&states);
+    }
+}
+
+/// A check begun, and stepped some of the words.
+fn begun(c: &mut Compare, r: &mut Random, sig: &[u16], booking: &[u16]) -> States {
+    let mut states = c.check_begin(sig);
+    for word in &booking[..r.below(booking.len() + 1)] {
+        c.check_step(sig, &mut states, *word);
+    }
+    states
+}
+
+/// A word that may stand next, if one is soon found.
+fn likely(r: &mut Random, sig: &[u16], state: &[u16]) -> u16 {
+    let mut word = 0;
+    for i in 0..12 {
+        word = if i % 4 == 0 { r.between(1000, 1100) } else { r.below(if i % 2 == 0 { 12 } else { 150 }) } as u16;
+        if step(sig, &mut state.to_vec(), word) == 0 {
+            break;
+        }
+    }
+    word
+}
+
 /// Bookings of 4,095 to 4,097 words and 255 to 257 deep, tables and patterns at their limits, Case T.
 fn limits(c: &mut Compare, r: &mut Random) {
     // kind 0: 0 (one argument), 1 (two), 2 (none)
@@ -523,10 +582,106 @@ fn limits(c: &mut Compare, r: &mut Random) {
     for n in [0, 1, 4288, 4289, 4290] {
         c.empty(&mut vec![7; n]);
     }
+    stepped_at_limits(c);
     signatures_at_limits(c);
     tables_at_limits(c);
     case_t(c);
     let _ = r;
+}
+
+/// Checks with as many open values as there can be, under the longest signature, and under longer slices.
+fn stepped_at_limits(c: &mut Compare) {
+    // so many nested, with three values of each due at the innermost
+    let sig = [2, 0, 4, 0, 0, 0, 0, 0, 0];
+    for n in 254..258 {
+        for behind in [0, 1, 3 * n - 1, 3 * n, 3 * n + 1] {
+            c.stepped(&sig, &[vec![0; n], vec![1], vec![1; behind]].concat());
+        }
+    }
+    let longest = longest();
+    c.stepped(&longest, &[0, 255, 254, 255, 255, 255, 255, 192, 255, 255, 255, 255, 255]);
+    c.stepped(&longest, &[63, 255, 191, 255]);
+    for n in [1534, 1537, 1538, 65536] {
+        let mut long = longest.clone();
+        long.resize(n, 0);
+        c.stepped(&long, &[0, 255]);
+        c.stepped(&vec![0; n], &[0, 255]);
+        // a state made under the signature, stepped under a longer slice
+        let mut states = c.check_begin(&longest);
+        for word in [63, 255, 191] {
+            c.check_step(&long, &mut states, word);
+        }
+    }
+    c.stepped(&[], &[]);
+    c.stepped(&[1, 0, 5], &[1000]);
+    forged_at_limits(c);
+}
+
+/// 255 constructors with four arguments of kind 3, and one of that kind without: no lawful signature is longer.
+fn longest() -> Vec<u16> {
+    let rows = (0..256).flat_map(|c| if c == 255 { vec![3, 0] } else { vec![c / 64, 4, 3, 3, 3, 3] });
+    [256].into_iter().chain(rows).collect()
+}
+
+/// States by hand, each just inside and just outside of what a step asks for.
+fn forged_at_limits(c: &mut Compare) {
+    let sig = longest();
+    let n = sig.len();
+    // words behind the signature that a step must not read
+    let more = [&sig[..], &[0; 9]].concat();
+    let sig = &more[..n];
+    // every word of the open values can be the index of kind 0, and one argument due that may be nested 3 deep
+    let mut base = c.check_begin(sig).words().to_vec();
+    base[1] = 7;
+    base[2] = 4;
+    base[323..].fill(259);
+    let mut tried = |sig: &[u16], changes: &[(usize, u16)], word: u16| {
+        let mut state = base.clone();
+        changes.iter().for_each(|(i, w)| state[*i] = *w);
+        let mut states = States::of(&state);
+        for word in [word, 5, 255] {
+            c.check_step(sig, &mut states, word);
+            c.check_end(&states);
+        }
+    };
+    for w in [0, 1, 2, 12, 13, 14, 65535] {
+        tried(sig, &[(0, w)], 5);
+    }
+    for w in [0, 1, 4094, 4095, 4096, 65535] {
+        tried(sig, &[(1, w)], 5);
+        tried(sig, &[(1, w), (2, 0)], 5);
+    }
+    for w in (0..5).chain(507..516).chain([65535]) {
+        tried(sig, &[(2, w)], 5);
+        tried(sig, &[(1, 0), (2, w)], 5);
+    }
+    for x in [0, 1, 255, 256, 257, 511, 512, 513, 1279, 1280, 1281, 65279, 65280, 65535] {
+        tried(sig, &[(832, x)], 5);
+    }
+    for w in n - 2..n + 2 {
+        tried(sig, &[(831, w as u16)], 5);
+        tried(sig, &[(67 + 5, w as u16)], 5);
+    }
+    tried(sig, &[(831, 65535)], 5);
+    tried(sig, &[(67 + 5, 65535)], 5);
+    // kind 31 is the last one; behind it stand the rows
+    for kind in [30, 31, 32, 33, 65535] {
+        let mut sig = sig.to_vec();
+        sig[259] = kind;
+        tried(&sig, &[(65, 1000), (66, 5), (67, 1000), (68, 5)], 1002);
+    }
+    for (first, count) in [(5, 0), (5, 1), (4, 1), (4, 2), (6, 1), (6, 65535), (0, 65535)] {
+        tried(sig, &[(3, first), (4, count)], 5);
+        tried(sig, &[(3, 65530 + first), (4, count)], 65535);
+    }
+    for w in (253..260).chain(998..1003) {
+        tried(sig, &[(3, 250), (4, 1000), (322, 1), (323, 1), (324, 1)], w);
+    }
+    for m in 0..8 {
+        let mut sig = sig.to_vec();
+        sig[2] = m;
+        tried(&sig, &[], 0);
+    }
 }
 
 /// Signatures by hand: 31 to 34 kinds, 63 to 66 constructors of a kind, 255 to 257 constructors, least values of 5 to 8 words, 3 to 5 arguments.
@@ -656,9 +811,12 @@ fn vectors(c: &mut Compare, folder: &str) {
     files.sort();
     for f in &files {
         let v = Json::read(&std::fs::read_to_string(f).unwrap());
-        vector(c, &v, &f.display().to_string());
+        match v.has("calls") {
+            true => vector(c, &v, &f.display().to_string()),
+            false => v.get("records").list().iter().for_each(|r| record(c, r)),
+        }
     }
-    println!("{} lists of calls in {folder}", files.len());
+    println!("{} files in {folder}", files.len());
 }
 
 fn vector(c: &mut Compare, v: &Json, name: &str) {
@@ -712,6 +870,12 @@ fn record(c: &mut Compare, r: &Json) {
         assert_eq!(([a.0, a.1, a.2], a.3.to_vec()), (expected, out.get("places").packed()), "{r:?}");
     };
     match r.get("call").text() {
+        "stepped" => {
+            let (first, last) = c.stepped(&sig, &words("booking"));
+            number(last);
+            let expected = out.get("prefixes").packed();
+            assert_eq!(first[..expected.len()], expected, "{r:?}");
+        }
         "sig_lawful" => assert_eq!(c.part(&sig, &[], 0) != 1, out.get("lawful").truth(), "{r:?}"),
         "booking_number" => number(c.part(&sig, &words("booking"), 0)),
         "part" => number(c.part(&sig, &words("booking"), given.get("place").number())),

@@ -2,6 +2,7 @@
 use crate::pattern::Pattern;
 use crate::rows::{Row, Side, Test};
 use crate::signature::{Signature, Value};
+use crate::stepped::STATE;
 
 pub struct Random(u64);
 
@@ -315,4 +316,59 @@ pub fn heavy_pattern(r: &mut Random, sig: &Signature) -> Vec<u16> {
         }
     }
     out
+}
+
+/// The words of a state of a stepped check that none made, many of them near to what one makes under a signature of n words.
+pub fn state(r: &mut Random, n: usize) -> Vec<u16> {
+    let mut words = vec![0; STATE];
+    words[0] = if r.once_in(20) { *r.pick(&[1, 2, 13, 65535]) } else { 0 };
+    words[1] = match r.below(4) {
+        0 => *r.pick(&[0, 1, 4094, 4095, 4096, 65535]),
+        _ => r.below(4096) as u16,
+    };
+    words[2] = match r.below(3) {
+        0 => *r.pick(&[0, 1, 2, 3, 509, 510, 511, 512, 513, 65535]),
+        1 => r.below(512) as u16,
+        _ => 2 * r.below(256) as u16,
+    };
+    for kind in 0..32 {
+        let (first, count) = match r.below(4) {
+            0 => (1000, 101),
+            1 => (odd_word(r), odd_word(r)),
+            _ => (r.below(100) as u16, r.below(300) as u16),
+        };
+        words[3 + 2 * kind] = first;
+        words[4 + 2 * kind] = count;
+    }
+    for c in 67..323 {
+        words[c] = if r.once_in(10) { odd_word(r) } else { r.below(n + 2) as u16 };
+    }
+    for i in 323..STATE {
+        words[i] = match r.below(10) {
+            0 => odd_word(r),
+            _ if i % 2 == 1 => r.below(n + 2) as u16,
+            _ => (256 * r.between(0, 5) + *r.pick(&[0, 1, 2, 100, 255])) as u16,
+        };
+    }
+    words
+}
+
+/// A few words of a state changed, mostly of those that a step looks at.
+pub fn change_state(r: &mut Random, words: &mut [u16]) {
+    for _ in 0..r.between(1, 3) {
+        let open = STATE - (words[2] as usize).min(512);
+        let i = match r.below(6) {
+            0 => r.below(3),
+            1 => r.between(3, 66),
+            2 => r.between(67, 100),
+            3 => r.below(STATE),
+            _ => (open + r.below(4)).min(STATE - 1),
+        };
+        words[i] = match r.below(4) {
+            0 => words[i].wrapping_add(1),
+            1 => words[i].wrapping_sub(1),
+            2 => words[i] ^ 256,
+            _ => odd_word(r),
+        };
+    }
 }

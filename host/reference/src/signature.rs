@@ -121,6 +121,13 @@ impl Signature {
         let value = self.read_value(0, words, &mut at, 256)?;
         if at == words.len() { Some(value) } else { None }
     }
+
+    /// The place of the first word of a booking that may not stand there: of another kind, 257 deep, behind the end, or the 4,097th.
+    pub fn wrong_at(&self, words: &[u16]) -> Option<usize> {
+        let mut at = 0;
+        self.read_value(0, words, &mut at, 256);
+        Some(at.min(4096)).filter(|at| *at < words.len())
+    }
 }
 
 /// Sizes shrink round by round until nothing changes; none if a kind has no value.

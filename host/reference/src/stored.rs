@@ -1,10 +1,11 @@
-//! The test data of the gate's programs `calls` and `runs`: words of 16 bits, the lower byte first. Here as text, as words,
+//! The test data of the gate's programs `calls`, `runs` and `steps`: words of 16 bits, the lower byte first. Here as text, as words,
 //! and with the lines that the programs must print.
 use crate::calls::{Answer, Model, TABLE};
 use crate::json::Json;
 use crate::pattern::admitted;
 use crate::rows::{rows_of, shared_value, Side};
 use crate::signature::Signature;
+use crate::stepped::through;
 
 /// A step of `calls`, each with its number in the file.
 #[derive(Clone, Debug, PartialEq)]
@@ -190,6 +191,27 @@ pub fn run_text((s, t, b): &Run3) -> String {
     format!("signature{} tree{} booking{}", spaced(s), spaced(t), spaced(b))
 }
 
+/// A booking of `steps`: signature, booking.
+pub type Booking = (Vec<u16>, Vec<u16>);
+
+pub fn bookings_of(words: &[u16]) -> Vec<Booking> {
+    let mut w = Words(words);
+    let mut all = vec![];
+    while !w.0.is_empty() {
+        let n = [w.one(), w.one()].map(usize::from);
+        all.push((w.some(n[0]), w.some(n[1])));
+    }
+    all
+}
+
+pub fn booking_words((s, b): &Booking) -> Vec<u16> {
+    [&[s.len() as u16, b.len() as u16], &s[..], b].concat()
+}
+
+pub fn booking_text((s, b): &Booking) -> String {
+    format!("signature{} booking{}", spaced(s), spaced(b))
+}
+
 // ---- from the vectors
 
 /// The steps of a list of calls: the calls, the table where the signature is lawful, compile, the bookings decided and the first eight runs.
@@ -225,6 +247,11 @@ pub fn runs_in(v: &Json) -> Vec<Run3> {
         return vec![(sig, vec![0], v.get("decide").list()[0].get("booking").words())];
     }
     v.get("run").list().iter().map(|d| (sig.clone(), d.get("tree").words(), d.get("booking").words())).collect()
+}
+
+/// The booking of a record.
+pub fn booking_in(r: &Json) -> Booking {
+    (r.get("in").get("sig").packed(), r.get("in").get("booking").packed())
 }
 
 // ---- what the programs print
@@ -297,4 +324,21 @@ fn shown(sig: &[u16], table: &[u16], rule: u16, pattern: &[u16]) -> Vec<u16> {
 pub fn ran(runs: &[Run3]) -> String {
     let mut model = Model::default();
     runs.iter().map(|(s, t, b)| answer_line(model.run(s, t, b))).collect()
+}
+
+/// The line of `steps` for a booking, which must have the numbers of its record: the number at the end, how many words were read,
+/// and after how many the booking was lawful, 0 for none. The numbers are also those of the same words checked whole.
+pub fn stepped(booking: &Booking, record: &Json) -> String {
+    assert_eq!(*booking, booking_in(record), "the data file has another booking than the vectors");
+    let (s, b) = booking;
+    let (numbers, read) = through(s, b);
+    let last = numbers[b.len()];
+    let out = record.get("out");
+    let first = out.get("prefixes").packed();
+    assert_eq!((last as usize, &numbers[..first.len()]), (out.get("number").number(), &first[..]), "{record:?}");
+    let sig = Signature::read(s);
+    let whole = |words: &[u16]| sig.as_ref().map_or(1, |sig| if sig.read_booking(words).is_some() { 0 } else { 13 });
+    assert!((0..=b.len()).all(|n| numbers[n] == whole(&b[..n])), "{record:?}");
+    let lawful = numbers.iter().position(|n| *n == 0).unwrap_or(0);
+    format!("{last} {read} {lawful}\n")
 }

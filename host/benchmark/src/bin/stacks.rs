@@ -4,7 +4,7 @@
 //!     stacks check    each call at all these inputs on a thread of just the documented stack: one that is too small ends the program.
 //!                     Where a thread cannot be so small, the call's peak is held to what is documented
 //!     stacks search N the deepest of N random nests for each call, to find inputs that are worse
-use bellgantlet::{stack, RuleNumber, Signature, Table};
+use bellgantlet::{stack, Checker, RuleNumber, Signature, Table};
 use benchmark::calls::CALLS;
 use benchmark::cases::cases;
 use benchmark::deep::rows;
@@ -91,6 +91,9 @@ fn wrapper() {
     let tree = on(stack::COMPILE, || table.compile()).unwrap();
     assert_eq!(on(stack::RUN, || tree.run(&chain)).unwrap().plan(), 40);
     on(stack::WITHDRAW, || table.withdraw(number)).unwrap();
+    let mut checker = on(stack::CHECK_BEGIN, || Checker::new(&signature));
+    on(stack::CHECK_STEP, || chain.iter().try_for_each(|w| checker.push(*w))).unwrap();
+    on(stack::CHECK_END, || checker.finish()).unwrap();
     let deepest = cases().pop().unwrap();
     let signature = Signature::new(&deepest.signature).unwrap();
     let table = Table::from_words(&signature, &deepest.table(64)).unwrap();

@@ -1,10 +1,11 @@
 //! The gate's test data and stored outputs, made again by the reference; host/vectors/README.md says how they hang together.
 //!
-//!     vectors make calls|runs                             the data file, to standard output
-//!     vectors show calls|runs                             the data file of the repository as text
-//!     vectors answer calls|runs|texts|parts|patterns      what the program must print
-//!     vectors text                                        what the text program prints for standard input
+//!     vectors make calls|runs|steps                           the data file, to standard output
+//!     vectors show calls|runs|steps                           the data file of the repository as text
+//!     vectors answer calls|runs|steps|texts|parts|patterns    what the program must print
+//!     vectors text                                            what the text program prints for standard input
 use reference::json::Json;
+use reference::stored::{booking_in, booking_text, booking_words, bookings_of, stepped};
 use reference::stored::{played, ran, run_text, run_words, runs_in, runs_of, steps_of, to_bytes, to_words, Step};
 use reference::{by_hand, text};
 use std::fs::{read, read_dir, read_to_string};
@@ -19,7 +20,14 @@ fn vectors() -> Vec<Json> {
     let mut files: Vec<_> = read_dir(at("host/vectors")).unwrap().map(|f| f.unwrap().path()).collect();
     files.retain(|f| f.extension().is_some_and(|e| e == "json"));
     files.sort();
-    files.iter().map(|f| Json::read(&read_to_string(f).unwrap())).collect()
+    let all = files.iter().map(|f| Json::read(&read_to_string(f).unwrap()));
+    // the others are files of single calls
+    all.filter(|v| v.has("calls")).collect()
+}
+
+/// The file of the single calls that `steps` has.
+fn records() -> Json {
+    Json::read(&read_to_string(at("host/vectors/stepped-gate-4302.json")).unwrap())
 }
 
 fn make(what: &str) -> Vec<u8> {
@@ -31,7 +39,8 @@ fn make(what: &str) -> Vec<u8> {
             steps.iter().flat_map(Step::words).collect()
         }
         "runs" => vectors().iter().flat_map(runs_in).flat_map(|r| run_words(&r)).collect(),
-        _ => panic!("calls or runs"),
+        "steps" => records().get("records").list().iter().flat_map(|r| booking_words(&booking_in(r))).collect(),
+        _ => panic!("calls, runs or steps"),
     };
     to_bytes(&words)
 }
@@ -44,7 +53,8 @@ fn show(what: &str) -> String {
     let lines: Vec<String> = match what {
         "calls" => Step::lines(&Step::all(&data(what))),
         "runs" => runs_of(&data(what)).iter().map(run_text).collect(),
-        _ => panic!("calls or runs"),
+        "steps" => bookings_of(&data(what)).iter().map(booking_text).collect(),
+        _ => panic!("calls, runs or steps"),
     };
     lines.iter().map(|l| format!("{l}\n")).collect()
 }
@@ -53,6 +63,12 @@ fn answer(what: &str) -> String {
     match what {
         "calls" => played(&Step::all(&data(what))),
         "runs" => ran(&runs_of(&data(what))),
+        "steps" => {
+            let (bookings, records) = (bookings_of(&data(what)), records());
+            let records = records.get("records").list();
+            assert_eq!(bookings.len(), records.len(), "the data file has other bookings than the vectors");
+            bookings.iter().zip(records).map(|(b, r)| stepped(b, r)).collect()
+        }
         "texts" => {
             let names = read_to_string(at("crates/texts/data/list.txt")).unwrap();
             let line = |n: &str| format!("{n}\n{}", text::printed(&read(at(&format!("crates/texts/data/{n}"))).unwrap()));
@@ -60,7 +76,7 @@ fn answer(what: &str) -> String {
         }
         "parts" => by_hand::part_lines(),
         "patterns" => by_hand::pattern_lines(),
-        _ => panic!("calls, runs, texts, parts or patterns"),
+        _ => panic!("calls, runs, steps, texts, parts or patterns"),
     }
 }
 
