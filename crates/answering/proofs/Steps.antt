@@ -115,7 +115,8 @@ module _ {text : List ℕ} {at : ℕ} {ss table : List ℕ} (r : Ready text at s
                   sig = r .sig;
                   lawful = r .lawful;
                   held = add-rule (here .rule) (r .held);
-                  in-force = entry-stored ss (r .sig) (r .lawful) table (r .held) (r .in-force) n p (take m w′) witness long (entry-answer y) after witness′ did z ∙ ap (λ q. some (add-rule q (r .held))) rule-is;
+                  in-force = entry-stored ss (r .sig) (r .lawful) table (r .held) (r .in-force) n p (take m w′) witness long (entry-answer y) after witness′ did z .0 ∙ ap (λ q. some (add-rule q (r .held))) rule-is;
+                  default-is = entry-stored ss (r .sig) (r .lawful) table (r .held) (r .in-force) n p (take m w′) witness long (entry-answer y) after witness′ did z .1 ∙ r .default-is;
                   within = lines-fit .1;
                   going = subst (λ v. Going text (r .sig) v (add-rule (here .rule) (r .held))) (ap (λ i. drop i (drop at text)) (values .3) ∙ drop-drop u at text) (entered (r .going) here (entry-answer y .number) number-is z);
                 }
@@ -148,10 +149,10 @@ module _ {text : List ℕ} {at : ℕ} {ss table : List ℕ} (r : Ready text at s
             shown = subst (λ z. DecideCall limits ss table z number a) book-is did
 
             pub book-refused : 1 ≤ number → printed text ≡ print-refused number
-            book-refused h = last .prints ∙ not-decided ss (r .sig) (r .lawful) table (r .held) (r .in-force) (r .going .book) number a shown h
+            book-refused h = last .prints ∙ not-decided ss (r .sig) (r .lawful) table (r .held) (r .in-force) (r .going .book) number a shown (r .default-is) h
 
             pub book-answered : number ≡ 0 → printed text ≡ print-answer a
-            book-answered h = last .prints ∙ decided ss (r .sig) (r .lawful) table (r .held) (r .in-force) (r .going .book) number a shown h
+            book-answered h = last .prints ∙ decided ss (r .sig) (r .lawful) table (r .held) (r .in-force) (r .going .book) number a shown (r .default-is) h
 
 -- sig= is next
 module _ (text : List ℕ) (keeps : true ≡ is-some (read-text text)) where
@@ -187,7 +188,8 @@ module _ (text : List ℕ) (keeps : true ≡ is-some (read-text text)) where
               sig = sig;
               lawful = lawful;
               held = [];
-              in-force = emptied sig lent after number long did;
+              in-force = emptied sig lent after number long did .0;
+              default-is = emptied sig lent after number long did .1;
               within = let b = sig-line text whole read .within in omega (arith, b, sizes .1);
               going = subst (λ i. Going text sig (drop i text) []) (sizes .1) (started text whole read sig (ap read-signature (sym sig-is) ∙ lawful));
             }

@@ -6,8 +6,8 @@ use Prim.Native.Nat.{ℕ, _≤_}
 use lib.ListN.{length, drop}
 use Rattle.signature.specs.Read.{read-signature}
 use Rattle.signature.specs.Signature.{Signature}
-use Rattle.table.specs.Limits.{limits}
-use Rattle.table.specs.Rule.{Rule}
+use Rattle.table.specs.Limits.{limits, emptied-default}
+use Rattle.table.specs.Rule.{Rule, default-of}
 use Rattle.table.specs.Sound.{sound}
 use Rattle.text.specs.Print.{printed, print-entered, enter-all}
 use Rattle.lines.specs.Lines.{rest-text}
@@ -25,5 +25,6 @@ pub record Ready (text : List ℕ) (at : ℕ) (ss table : List ℕ) : Type 0 whe
   pub lawful : read-signature ss ≡ some sig
   pub held : List Rule
   pub in-force : sound limits sig table ≡ some held
+  pub default-is : default-of table ≡ emptied-default
   pub within : at ≤ length text
   pub going : Going text sig (drop at text) held

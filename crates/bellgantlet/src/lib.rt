@@ -3,6 +3,7 @@ pub mod promises;
 
 use compiling::compile::compile;
 use deciding::decide::decide;
+use defaulting::set_default;
 use emptying::empty::empty;
 use entering::enter::enter;
 use entry::sound::Entry;
@@ -17,7 +18,7 @@ ghost use mathlib.Core.Path.{_≡_};
 ghost use Rattle.stepping.specs.State.{begin-state, step-state, refusal-in, end-number};
 ghost use Rattle.tree.specs.RunCall.{RunCall};
 ghost use Rattle.table.specs.Limits.{limits};
-ghost use Rattle.table.specs.Calls.{Empty, Enter, Withdraw, Compile, DecideCall};
+ghost use Rattle.table.specs.Calls.{Empty, Enter, Withdraw, SetDefault, Compile, DecideCall};
 ghost use Rattle.bellgantlet.specs.Answers.{entered-of, host-answer, PartCall};
 
 // On 12 the rule that shares a booking and the length of the booking.
@@ -93,6 +94,13 @@ pub extern "C" fn bellgantlet_withdraw(signature: &[u16], number: u16, table: &m
     ensures { λ r. ⌜ Withdraw limits (now (signature .entry)) number (now (table .entry)) r (now (table .exit)) ⌝ }
 {
     withdrawing::withdraw(signature, number, table)
+}
+
+#[no_mangle]
+pub extern "C" fn bellgantlet_set_default(signature: &[u16], plan: u16, table: &mut [u16]) -> u16
+    ensures { λ r. ⌜ SetDefault limits (now (signature .entry)) plan (now (table .entry)) r (now (table .exit)) ⌝ }
+{
+    set_default(signature, plan, table)
 }
 
 #[no_mangle]

@@ -2,12 +2,12 @@
 use crate::show;
 use compiling::compile::compile;
 use deciding::decide::decide;
+use defaulting::set_default;
 use emptying::empty::empty;
 use entering::enter::enter;
 use shown::file::size;
 use shown::print;
 use withdrawing::withdraw;
-ghost use mathlib.Core.Path.{_≡_};
 ghost use Prim.Native.Nat.{_≤_};
 ghost use lib.ListN.{length};
 
@@ -100,6 +100,17 @@ fn withdrawal(w: &[u16], ss: &[u16], table: &mut [u16]) -> usize
     2
 }
 
+// plan
+fn default_set(w: &[u16], ss: &[u16], table: &mut [u16]) -> usize
+    ensures { λ r. ⌜ r ≤ length (now (w .entry)) ⌝ }
+{
+    if w.len() < 2 {
+        return 0;
+    }
+    show::line(set_default(ss, w[1], table));
+    2
+}
+
 // words of the lent space
 fn compilation(w: &[u16], ss: &[u16], table: &[u16], space: &mut [u16]) -> usize
     ensures { λ r. ⌜ r ≤ length (now (w .entry)) ⌝ }
@@ -185,6 +196,7 @@ fn call(w: &[u16], ss: &[u16], table: &mut [u16], space: &mut [u16], witness: &m
         6 => holding(w, table),
         7 => damage(w, table),
         IN_FULL => entry(w, ss, table, witness),
+        9 => default_set(w, ss, table),
         _ => 0,
     }
 }

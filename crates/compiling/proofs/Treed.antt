@@ -7,16 +7,16 @@ use native.Mathlib.Omega.{arith}
 use lib.Dec.{leb, ltb}
 use lib.ListN.{length, drop}
 use Rattle.signature.proofs.Tests.{le-of, lt-of-not, ltb-yes, ltb-no}
-use Rattle.tree.specs.Limits.{row-limit, tree-limit, default-plan}
+use Rattle.tree.specs.Limits.{row-limit, tree-limit}
 use Rattle.tree.specs.Tree.{Line, Tree, compile}
 use Rattle.tree.specs.Words.{words, layout}
 use Rattle.tree.proofs.RunFacts.{length-layout}
 use Rattle.table.specs.Calls.{TreeIn, too-large}
 use Rattle.table.specs.Limits.{limits, visit-bound}
 use Rattle.table.specs.Matrix.{tree, tree-words}
-use Rattle.table.specs.Rule.{total-weight}
+use Rattle.table.specs.Rule.{total-weight, default-of}
 use Rattle.store.specs.Laid.{Holds}
-use Rattle.path.specs.State.{row-stride}
+use Rattle.path.specs.State.{row-stride, default-in}
 use Rattle.writer.specs.Write.{GivenRows, fits, answer, space-after, tree-of-rows}
 use Rattle.path.specs.Rows.{line-of}
 use Rattle.writer.specs.declared.write.Written.{Written}
@@ -24,7 +24,7 @@ use Rattle.writer.specs.declared.write.Written.the-variants.{Done, TooLarge}
 use Rattle.loading.proofs.Tested.{tests}
 use Rattle.loading.proofs.Loads.{sound-holds}
 use Rattle.loading.proofs.Tested.{tests-light}
-use Rattle.indexing.specs.Indexing.{rows-all, GivenRules, RulesIndexed}
+use Rattle.indexing.specs.Indexing.{rows-all, GivenRules, TableIndexed}
 use Rattle.compiling.specs.Compile.{InTable}
 use Rattle.compiling.proofs.RowsOf.{lines-are, few-rows, rows-are-fit}
 
@@ -92,40 +92,41 @@ module _ {t table lists : List ℕ} (g : InTable t table lists) where
   pub few : length (rows-all (g .force .known .sig) (g .force .rs)) ≤ row-limit
   few = omega (arith, few-rows (g .force .known .sig) (g .force .rs), light)
 
-  pub given-rules : (room : ℕ) → row-stride * row-limit ≤ room → GivenRules t table lists room
+  pub given-rules : (room : ℕ) → row-stride * row-limit < room → GivenRules t table lists room
   given-rules room x = record {
     used = g .used;
     total = g .total;
     force = g .force;
     near = omega (arith, g .force .ready .used-is, g .force .ready .total-is, g .force .ready .small, light, holds .few);
     fit = rows-are-fit (g .force .known) (g .force .rs) good;
-    room-is = omega (arith, few, x);
+    few = few;
+    room-is = x;
   }
 
-  module _ (room : ℕ) (x : row-stride * row-limit ≤ room) (n : ℕ) (tab : List ℕ) (gave : (q : GivenRules t table lists room) → RulesIndexed (q .force .known .sig) t lists (q .force .rs) n tab) where
-    indexed : RulesIndexed (g .force .known .sig) t lists (g .force .rs) n tab
+  module _ (room : ℕ) (x : row-stride * row-limit < room) (n : ℕ) (tab : List ℕ) (gave : (q : GivenRules t table lists room) → TableIndexed (q .force .known .sig) t table lists (q .force .rs) n tab) where
+    indexed : TableIndexed (g .force .known .sig) t table lists (g .force .rs) n tab
     unfolding given-rules
     indexed = gave (given-rules room x)
 
     pub many : n ≤ row-limit
-    many = omega (arith, indexed .many, few)
+    many = omega (arith, indexed .rows .many, few)
 
     pub given-rows : GivenRows t lists tab n
     given-rows = record {
       known = g .force .known;
       rows = rows-all (g .force .known .sig) (g .force .rs);
-      count = indexed .many;
+      count = indexed .rows .many;
       few = many;
       fit = rows-are-fit (g .force .known) (g .force .rs) good;
-      placed = indexed .placed;
+      placed = indexed .rows .placed;
     }
 
-    tree-is : layout (compile default-plan visit-bound (g .force .known .sig) (0 ∷ []) (map line-of (rows-all (g .force .known .sig) (g .force .rs))) 0) 0 ≡ tree-words default-plan (g .force .known .sig) (g .force .rs)
+    tree-is : layout (compile (default-in tab) visit-bound (g .force .known .sig) (0 ∷ []) (map line-of (rows-all (g .force .known .sig) (g .force .rs))) 0) 0 ≡ tree-words (default-of table) (g .force .known .sig) (g .force .rs)
     unfolding tree-words tree
-    tree-is = ap (λ (ls : List Line). layout (compile default-plan visit-bound (g .force .known .sig) (0 ∷ []) ls 0) 0) (lines-are (g .force .known .sig) (g .force .rs))
+    tree-is = ap₂ (λ (d : ℕ) (ls : List Line). layout (compile d visit-bound (g .force .known .sig) (0 ∷ []) ls 0) 0) (indexed .default-is) (lines-are (g .force .known .sig) (g .force .rs))
 
-    pub written : (w : Written) (space space′ : List ℕ) → ((q : GivenRows t lists tab n) (dft fuel : ℕ) → tree-limit < fuel → (w ≡ answer (tree-of-rows q dft fuel) space) × (space′ ≡ space-after (tree-of-rows q dft fuel) space)) → (v : Written) → w ≡ v → TreeIn (tree-words default-plan (g .force .known .sig) (g .force .rs)) space (number-by v) (length-by v) space′
+    pub written : (w : Written) (space space′ : List ℕ) → ((q : GivenRows t lists tab n) (fuel : ℕ) → tree-limit < fuel → (w ≡ answer (tree-of-rows q fuel) space) × (space′ ≡ space-after (tree-of-rows q fuel) space)) → (v : Written) → w ≡ v → TreeIn (tree-words (default-of table) (g .force .known .sig) (g .force .rs)) space (number-by v) (length-by v) space′
     unfolding given-rows
     written w space space′ h v e =
-        let z = h given-rows default-plan visit-bound (omega arith) in
-        treed (compile default-plan visit-bound (g .force .known .sig) (0 ∷ []) (map line-of (rows-all (g .force .known .sig) (g .force .rs))) 0) (tree-words default-plan (g .force .known .sig) (g .force .rs)) space v space′ tree-is (sym e ∙ z .0) (z .1)
+        let z = h given-rows visit-bound (omega arith) in
+        treed (compile (default-in tab) visit-bound (g .force .known .sig) (0 ∷ []) (map line-of (rows-all (g .force .known .sig) (g .force .rs))) 0) (tree-words (default-of table) (g .force .known .sig) (g .force .rs)) space v space′ tree-is (sym e ∙ z .0) (z .1)

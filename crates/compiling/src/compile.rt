@@ -16,10 +16,10 @@ ghost use lib.ListN.{length};
 ghost use Rattle.signature.specs.Decoded.{decoded-length};
 ghost use Rattle.loading.specs.Add.{rows-room};
 ghost use Rattle.opening.specs.Open.{OpenedAs};
-ghost use Rattle.tree.specs.Limits.{default-plan};
 ghost use Rattle.table.specs.Limits.{limits};
 ghost use Rattle.table.specs.Calls.{Compile, long-table, TreeIn};
 ghost use Rattle.table.specs.Matrix.{tree-words};
+ghost use Rattle.table.specs.Rule.{default-of};
 ghost use Rattle.compiling.specs.Compile.{InTable};
 
 // The call's number, and the tree's length in words.
@@ -41,7 +41,7 @@ fn open_table(ss: &[u16], table: &[u16], t: &mut [u16], lists: &mut [u64]) -> Op
 // The tree of the table's rules, with the writer's workspaces.
 fn write_tree(t: &[u16; DECODED], table: &[u16], lists: &[u64], space: &mut [u16]) -> Compiled
     requires { ⌜ InTable (now t) (now table) (now lists) ⌝ }
-    ensures { λ r. ⌜ ((g : InTable (now (t .entry)) (now (table .entry)) (now (lists .entry))) → TreeIn (tree-words default-plan (g .force .known .sig) (g .force .rs)) (now (space .entry)) (r .number) (r .len) (now (space .exit))) ⌝ }
+    ensures { λ r. ⌜ ((g : InTable (now (t .entry)) (now (table .entry)) (now (lists .entry))) → TreeIn (tree-words (default-of (now (table .entry))) (g .force .known .sig) (g .force .rs)) (now (space .entry)) (r .number) (r .len) (now (space .exit))) ⌝ }
 {
     let mut rows = [0u16; INDEX_ROOM];
     let mut cur = [0u8; CURSORS];

@@ -8,12 +8,13 @@ use signature::decoded::DECODED;
 use signature::refusals::TREE_TOO_LARGE;
 use writer::write::Written;
 use writer::write::write;
-ghost use Prim.Native.Nat.{_*_, _≤_};
+ghost use Prim.Native.Nat.{_*_, _≤_, _<_};
 ghost use lib.ListN.{length};
 ghost use Rattle.pattern.specs.Limits.{pattern-limit};
-ghost use Rattle.tree.specs.Limits.{row-limit, tree-limit, default-plan};
+ghost use Rattle.tree.specs.Limits.{row-limit, tree-limit};
 ghost use Rattle.path.specs.State.{row-stride};
 ghost use Rattle.table.specs.Matrix.{tree-words};
+ghost use Rattle.table.specs.Rule.{default-of};
 ghost use Rattle.table.specs.Calls.{TreeIn};
 ghost use Rattle.compiling.specs.Compile.{InTable};
 
@@ -28,8 +29,8 @@ pub fn write_rules(
     tree: &mut [u16],
     space: &mut [u16],
 ) -> Compiled
-    requires { ⌜ InTable (now t) (now table) (now lists) × (row-stride * row-limit ≤ length (now rows)) × (row-limit ≤ length (now cur)) × (pattern-limit * row-limit ≤ length (now vis)) × (tree-limit ≤ length (now tree)) ⌝ }
-    ensures { λ r. ⌜ ((g : InTable (now (t .entry)) (now (table .entry)) (now (lists .entry))) → TreeIn (tree-words default-plan (g .force .known .sig) (g .force .rs)) (now (space .entry)) (r .number) (r .len) (now (space .exit))) ⌝ }
+    requires { ⌜ InTable (now t) (now table) (now lists) × (row-stride * row-limit < length (now rows)) × (row-limit ≤ length (now cur)) × (pattern-limit * row-limit ≤ length (now vis)) × (tree-limit ≤ length (now tree)) ⌝ }
+    ensures { λ r. ⌜ ((g : InTable (now (t .entry)) (now (table .entry)) (now (lists .entry))) → TreeIn (tree-words (default-of (now (table .entry))) (g .force .known .sig) (g .force .rs)) (now (space .entry)) (r .number) (r .len) (now (space .exit))) ⌝ }
 {
     let n = index_rules(t, table, lists, rows);
     let w = write(t, lists, rows, n, cur, vis, tree, space);

@@ -1,7 +1,7 @@
 -- The rules of a sound table against a booking, one after the other.
-use mathlib.Core.Path.{_≡_, refl, sym, ap, ap₂, subst, _∙_}
+use mathlib.Core.Path.{_≡_, refl, sym, ap, ap₂, _∙_}
 use mathlib.Core.List.{List, [], _∷_, _++_}
-use mathlib.Core.Option.{Option, none, some}
+use mathlib.Core.Option.{none, some}
 use mathlib.Core.Bool.{Bool, true, false}
 use Prim.Native.Nat.{ℕ, _+_, _-_, _<_, _≤_}
 use native.Mathlib.Omega.{arith}
@@ -19,10 +19,9 @@ use Rattle.matching.specs.Asked.{Asked}
 use Rattle.row.specs.Admitted.{Passed}
 use Rattle.row.proofs.PassedFacts.{passed-of}
 use Rattle.tree.specs.Answer.{Answer, no-rule}
-use Rattle.tree.specs.Limits.{default-plan}
 use Rattle.table.specs.Decide.{direct, answer-by, or-none}
-use Rattle.table.specs.Limits.{limits, table-length}
-use Rattle.table.specs.Rule.{Rule}
+use Rattle.table.specs.Limits.{limits, table-length, rules-at}
+use Rattle.table.specs.Rule.{Rule, default-of}
 use Rattle.store.specs.Laid.{Holds}
 use Rattle.store.specs.Place.{Walked, NextRule}
 use Rattle.store.proofs.LaidFacts.{is-stored}
@@ -33,13 +32,13 @@ use Rattle.loading.proofs.Tested.{tests}
 use Rattle.deciding.specs.Decide.{Judging, ByRule, answered-by, places-by}
 
 -- the answer by a rule, where its pattern is read
-taken : (sig : Signature) (r : Rule) (rs : List Rule) (v : Value) (p : Pattern) (σ : Binds) → read-pattern sig (r .pattern) ≡ some p → decide p v 0 ≡ fit σ → direct default-plan sig (r ∷ rs) v ≡ record { rule = r .number; plan = r .plan; places = bind-all σ unbound }
-taken sig r rs v p σ e f = ap (λ o. or-none (o >>= λ q. answer-by r (decide q v 0)) (direct default-plan sig rs v)) e ∙ ap (λ o. or-none (answer-by r o) (direct default-plan sig rs v)) f
+taken : (dft : ℕ) (sig : Signature) (r : Rule) (rs : List Rule) (v : Value) (p : Pattern) (σ : Binds) → read-pattern sig (r .pattern) ≡ some p → decide p v 0 ≡ fit σ → direct dft sig (r ∷ rs) v ≡ record { rule = r .number; plan = r .plan; places = bind-all σ unbound }
+taken dft sig r rs v p σ e f = ap (λ o. or-none (o >>= λ q. answer-by r (decide q v 0)) (direct dft sig rs v)) e ∙ ap (λ o. or-none (answer-by r o) (direct dft sig rs v)) f
 
-not-taken : (sig : Signature) (r : Rule) (rs : List Rule) (v : Value) (p : Pattern) → read-pattern sig (r .pattern) ≡ some p → is-fit (decide p v 0) ≡ false → direct default-plan sig (r ∷ rs) v ≡ direct default-plan sig rs v
-not-taken sig r rs v p e f = ap (λ o. or-none (o >>= λ q. answer-by r (decide q v 0)) (direct default-plan sig rs v)) e ∙ go (decide p v 0) f
+not-taken : (dft : ℕ) (sig : Signature) (r : Rule) (rs : List Rule) (v : Value) (p : Pattern) → read-pattern sig (r .pattern) ≡ some p → is-fit (decide p v 0) ≡ false → direct dft sig (r ∷ rs) v ≡ direct dft sig rs v
+not-taken dft sig r rs v p e f = ap (λ o. or-none (o >>= λ q. answer-by r (decide q v 0)) (direct dft sig rs v)) e ∙ go (decide p v 0) f
   where
-    go : (o : Out) → is-fit o ≡ false → or-none (answer-by r o) (direct default-plan sig rs v) ≡ direct default-plan sig rs v
+    go : (o : Out) → is-fit o ≡ false → or-none (answer-by r o) (direct dft sig rs v) ≡ direct dft sig rs v
     go (fit σ) h = true≢false h
     go (fail σ) h = refl
 
@@ -71,14 +70,14 @@ module _ {t table bs : List ℕ} (g : Judging t table bs) where
     pub before : List Rule
     pub after : List Rule
     pub walked : Walked (g .force .rs) before after i at
-    pub same : direct default-plan (g .force .known .sig) (g .force .rs) (g .value) ≡ direct default-plan (g .force .known .sig) after (g .value)
+    pub same : direct (default-of table) (g .force .known .sig) (g .force .rs) (g .value) ≡ direct (default-of table) (g .force .known .sig) after (g .value)
 
-  pub start : Mid 1 0
+  pub start : Mid rules-at 0
   start = record { before = []; after = g .force .rs; walked = walk-start (g .force .rs); same = refl }
 
   module _ {at i : ℕ} (l : Mid at i) where
-    pub finished : getD table 0 0 ≤ i → direct default-plan (g .force .known .sig) (g .force .rs) (g .value) ≡ no-rule default-plan
-    finished e = l .same ∙ ap (λ z. direct default-plan (g .force .known .sig) z (g .value)) (walk-end (l .walked) (omega (arith, e, count-is)) .0)
+    pub finished : getD table 0 0 ≤ i → direct (default-of table) (g .force .known .sig) (g .force .rs) (g .value) ≡ no-rule (default-of table)
+    finished e = l .same ∙ ap (λ z. direct (default-of table) (g .force .known .sig) z (g .value)) (walk-end (l .walked) (omega (arith, e, count-is)) .0)
 
     module _ (e : i < getD table 0 0) where
       abbrev step : NextRule table (g .force .rs) (l .before) (l .after) i at
@@ -115,19 +114,19 @@ module _ {t table bs : List ℕ} (g : Judging t table bs) where
         pub by-rule : b ≡ true → ByRule t table at words bs
         by-rule h = record { asked = asked; fits = λ q. sym (gave q) ∙ h; within = omega (arith, end-le, long) }
 
-        pub hit : (h : b ≡ true) → (r : ℕ × Answer) → ((q : ByRule t table at words bs) → r ≡ answered-by q) → r ≡ (0, direct default-plan (g .force .known .sig) (g .force .rs) (g .value))
+        pub hit : (h : b ≡ true) → (r : ℕ × Answer) → ((q : ByRule t table at words bs) → r ≡ answered-by q) → r ≡ (0, direct (default-of table) (g .force .known .sig) (g .force .rs) (g .value))
         unfolding by-rule asked
         hit h r f =
             let q = the-binds (decide (passed .pat) (g .value) 0) (said ∙ h) in
             f (by-rule h)
             ∙ ap (λ o. (0, record { rule = getD table at 0; plan = getD table (at + 1) 0; places = places-by o })) (q .1)
             ∙ ap₂ (λ (x y : ℕ). (0, record { rule = x; plan = y; places = bind-all (q .0) unbound })) (step .reads .number-is) (step .reads .plan-is)
-            ∙ ap (λ a. (0, a)) (sym (l .same ∙ ap (λ z. direct default-plan (g .force .known .sig) z (g .value)) (step .here) ∙ taken (g .force .known .sig) (step .rule) (step .later) (g .value) (passed .pat) (q .0) (passed .read) (q .1)))
+            ∙ ap (λ a. (0, a)) (sym (l .same ∙ ap (λ z. direct (default-of table) (g .force .known .sig) z (g .value)) (step .here) ∙ taken (default-of table) (g .force .known .sig) (step .rule) (step .later) (g .value) (passed .pat) (q .0) (passed .read) (q .1)))
 
         pub again : b ≡ false → Mid (at + 3 + getD table (at + 2) 0) (i + 1)
         again h = record {
           before = l .before ++ (step .rule ∷ []);
           after = step .later;
           walked = step .next;
-          same = l .same ∙ ap (λ z. direct default-plan (g .force .known .sig) z (g .value)) (step .here) ∙ not-taken (g .force .known .sig) (step .rule) (step .later) (g .value) (passed .pat) (passed .read) (said ∙ h);
+          same = l .same ∙ ap (λ z. direct (default-of table) (g .force .known .sig) z (g .value)) (step .here) ∙ not-taken (default-of table) (g .force .known .sig) (step .rule) (step .later) (g .value) (passed .pat) (passed .read) (said ∙ h);
         }

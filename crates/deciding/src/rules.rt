@@ -3,13 +3,14 @@ use matching::places::places;
 use matching::takes::takes;
 use run::Ran;
 use run::leaf::no_rule;
+use store::layout::DEFAULT_AT;
 use store::layout::LENGTH;
 use store::layout::PLAN;
 use store::layout::RULE_HEAD;
 use store::layout::RULES_AT;
 ghost use mathlib.Core.Path.{_≡_};
-ghost use Rattle.tree.specs.Limits.{default-plan};
 ghost use Rattle.table.specs.Decide.{direct};
+ghost use Rattle.table.specs.Rule.{default-of};
 ghost use Rattle.run.specs.Outcome.{outcome};
 ghost use Rattle.deciding.specs.Decide.{Judging, ByRule, answered-by};
 
@@ -28,7 +29,7 @@ fn by_rule(t: &[u16], table: &[u16], at: usize, p: &[u16], b: &[u16]) -> Ran
 
 pub fn by_rules(t: &[u16], table: &[u16], b: &[u16]) -> Ran
     requires { ⌜ Judging (now t) (now table) (now b) ⌝ }
-    ensures { λ r. ⌜ ((g : Judging (now (t .entry)) (now (table .entry)) (now (b .entry))) → outcome r ≡ (0, direct default-plan (g .force .known .sig) (g .force .rs) (g .value))) ⌝ }
+    ensures { λ r. ⌜ ((g : Judging (now (t .entry)) (now (table .entry)) (now (b .entry))) → outcome r ≡ (0, direct (default-of (now (table .entry))) (g .force .known .sig) (g .force .rs) (g .value))) ⌝ }
 {
     let n = table[0];
     let mut at = RULES_AT;
@@ -42,5 +43,5 @@ pub fn by_rules(t: &[u16], table: &[u16], b: &[u16]) -> Ran
         at = end;
         i += 1;
     }
-    no_rule()
+    no_rule(table[DEFAULT_AT])
 }

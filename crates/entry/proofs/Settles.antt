@@ -16,7 +16,7 @@ use Rattle.cell.specs.RowList.{list-code}
 use Rattle.cell.proofs.Walk.{from-is}
 use Rattle.table.specs.Limits.{limits}
 use Rattle.table.specs.Refusals.{entry-refusal}
-use Rattle.table.specs.Rule.{add-rule, stored}
+use Rattle.table.specs.Rule.{add-rule, default-of, stored}
 use Rattle.table.proofs.SoundFacts.{sound-valid}
 use Rattle.table.proofs.TableFacts.{Valid}
 use Rattle.builder.specs.Build.{row-room}
@@ -113,19 +113,19 @@ module _ {t table : List ℕ} {n : ℕ} {ws : List ℕ} {at used : ℕ} {rows : 
           let z : entry-refusal limits (g .force .known .sig) n ws (g .force .rs) ≡ 12 = g .cleared .refusal-is ∙ ap (λ b. cond b 12 0) e in
           record {
             number-is = sym z;
-            table-is = sym (ap (λ q. cond (eqb q 0) (stored limits (add-rule (record { number = n; plan = plan; pattern = ws }) (g .force .rs)) table) table) z);
+            table-is = sym (ap (λ q. cond (eqb q 0) (stored limits (default-of table) (add-rule (record { number = n; plan = plan; pattern = ws }) (g .force .rs)) table) table) z);
             not-12 = λ f. absurd (f refl);
             on-12 = λ x. w;
           }
 
-      pub entered : s .length ≤ 0 → (after : List ℕ) → ((q : GivenPut table at n ws) → after ≡ stored limits (add-rule (record { number = n; plan = plan; pattern = ws }) (q .rs)) table) → EntryOf (g .force .known .sig) (g .force .rs) n plan ws table witness (entry-answer Entered) after witness′
+      pub entered : s .length ≤ 0 → (after : List ℕ) → ((q : GivenPut table at n ws) → after ≡ stored limits (default-of table) (add-rule (record { number = n; plan = plan; pattern = ws }) (q .rs)) table) → EntryOf (g .force .known .sig) (g .force .rs) n plan ws table witness (entry-answer Entered) after witness′
       unfolding put-given
       entered h after did =
           let (e, u, w) = said .none-shares (omega (arith, h)) in
           let z : entry-refusal limits (g .force .known .sig) n ws (g .force .rs) ≡ 0 = g .cleared .refusal-is ∙ ap (λ b. cond b 12 0) e in
           record {
             number-is = sym z;
-            table-is = did put-given ∙ sym (ap (λ q. cond (eqb q 0) (stored limits (add-rule (record { number = n; plan = plan; pattern = ws }) (g .force .rs)) table) table) z);
+            table-is = did put-given ∙ sym (ap (λ q. cond (eqb q 0) (stored limits (default-of table) (add-rule (record { number = n; plan = plan; pattern = ws }) (g .force .rs)) table) table) z);
             not-12 = λ f. (refl, refl, w);
             on-12 = λ x. absurd (omega (arith, x));
           }

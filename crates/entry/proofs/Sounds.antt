@@ -9,7 +9,7 @@ use lib.ListN.{length}
 use Rattle.signature.proofs.Tests.{eqb-no}
 use Rattle.table.specs.Calls.{Entered as Answer}
 use Rattle.table.specs.Limits.{limits, witness-length}
-use Rattle.table.specs.Rule.{stored, add-rule}
+use Rattle.table.specs.Rule.{default-of, stored, add-rule}
 use Rattle.entry.specs.Check.{GivenCheck, CheckedAs}
 use Rattle.entry.specs.Entry.{entry-answer, Numbered}
 use Rattle.entry.specs.Settle.{GivenSettle, EntryOf}
@@ -26,7 +26,7 @@ module _ {t table : List ℕ} {used total : ℕ} {rows : List ℕ} {m : ℕ} (g 
       let (a, b, c) = subst (λ z. CheckedAs (g .force .known .sig) (g .force .rs) n ws used total z rows′) e (gave g) in
       record {
         number-is = sym c;
-        table-is = sym (ap (λ z. cond (eqb z 0) (stored limits (add-rule (record { number = n; plan = plan; pattern = ws }) (g .force .rs)) table) table) c ∙ not-0 q (stored limits (add-rule (record { number = n; plan = plan; pattern = ws }) (g .force .rs)) table) table a);
+        table-is = sym (ap (λ z. cond (eqb z 0) (stored limits (default-of table) (add-rule (record { number = n; plan = plan; pattern = ws }) (g .force .rs)) table) table) c ∙ not-0 q (stored limits (default-of table) (add-rule (record { number = n; plan = plan; pattern = ws }) (g .force .rs)) table) table a);
         not-12 = λ f. (refl, refl, refl);
         on-12 = λ x. absurd (b x);
       }

@@ -5,8 +5,8 @@ use mathlib.Core.List.{List, [], _∷_, _++_, map, append-assoc}
 use mathlib.Core.Option.{some}
 use Prim.Native.Nat.{ℕ, _+_, _*_, _-_, _<_, _≤_}
 use native.Mathlib.Omega.{arith}
-use lib.ListN.{length, drop, getD, length-append, length-drop, getElem?}
-use lib.Seq.{drop-at, drop-drop}
+use lib.ListN.{length, drop, getD, set, length-append, length-drop, getElem?}
+use lib.Seq.{drop-at, drop-drop, getD-set-same, getD-set-other}
 use Rattle.signature.specs.Lists.{All, none-left, also}
 use Rattle.signature.proofs.KnownFacts.{at-below}
 use Rattle.signature.proofs.ListFacts.{all-at, at-left}
@@ -18,15 +18,16 @@ use Rattle.cell.proofs.Walk.{word-at}
 use Rattle.path.specs.State.{row-stride}
 use Rattle.signature.specs.Limits.{word-limit}
 use Rattle.path.specs.Rows.{RuleRow, Fit, RowsKept, RowKept}
-use Rattle.table.specs.Limits.{limits, table-length}
-use Rattle.table.specs.Rule.{Rule}
+use Rattle.tree.specs.Limits.{row-limit}
+use Rattle.table.specs.Limits.{limits, table-length, rules-at}
+use Rattle.table.specs.Rule.{Rule, default-of}
 use Rattle.store.specs.Laid.{Holds}
 use Rattle.store.specs.Place.{Walked, NextRule}
 use Rattle.store.proofs.LaidFacts.{is-stored, sound-holds}
 use Rattle.store.proofs.Walk.{walk-start, walk-step, walk-end}
 use Rattle.loading.specs.Lists.{rows-for, lists-for, list-for}
 use Rattle.loading.specs.Load.{patterns}
-use Rattle.indexing.specs.Indexing.{row-of, rule-rows, rows-all, GivenList, ListIndexed, GivenRules, RulesIndexed}
+use Rattle.indexing.specs.Indexing.{row-of, rows-all, GivenList, ListIndexed, GivenRules, RulesIndexed, TableIndexed}
 use Rattle.indexing.proofs.ListLaws.{placed-same}
 use Rattle.indexing.proofs.RuleRows.{at-made, at-either, all-append, all-last, count-last, count-less}
 
@@ -61,7 +62,7 @@ module _ {t table lists : List ℕ} {room : ℕ} (g : GivenRules t table lists r
     pub fit : All (Fit (g .force .known .sig) t) (rows-all (g .force .known .sig) after)
     pub placed : RowsKept (g .force .known .sig) t lists tab (rows-all (g .force .known .sig) before)
 
-  pub start : (tab : List ℕ) → Mid 1 0 0 0 tab
+  pub start : (tab : List ℕ) → Mid rules-at 0 0 0 tab
   start tab = record { before = []; after = g .force .rs; walked = walk-start (g .force .rs); code-is = g .force .ready .code-is; within = omega arith; near = omega (arith, g .near); many = refl; fit = g .fit; placed = λ r e i. none≢some i }
 
   module _ {here from r i : ℕ} {tab : List ℕ} (l : Mid here from r i tab) where
@@ -127,7 +128,7 @@ module _ {t table lists : List ℕ} {room : ℕ} (g : GivenRules t table lists r
         within = omega (arith, list-word .1);
         near = omega (arith, near-later, length-append (entries (kinds-of (g .force .known .sig)) 0 ws) (0 ∷ []));
         fit = same-fit (λ w f. record { good = f .good; short = f .short }) rows-fit;
-        room-is = omega (arith, rows-le, g .room-is, x);
+        room-is = omega (arith, rows-le, g .few, g .room-is, x);
       }
 
       module _ (room' : ℕ) (x : room' ≡ room) (q : ℕ) (tab′ : List ℕ) (gave : (k : GivenList t lists (from + 1) r room') → ListIndexed (k .known .sig) t lists (k .ws) (getD table here 0) (getD table (here + 1) 0) r q tab tab′) where
@@ -159,3 +160,13 @@ module _ {t table lists : List ℕ} {room : ℕ} (g : GivenRules t table lists r
             go : (k : ℕ) (d : RuleRow) → (getElem? (rows-all (g .force .known .sig) (l .before)) k ≡ some d) ⊎ ((j : ℕ) × (k ≡ length (rows-all (g .force .known .sig) (l .before)) + j) × (getElem? (map named ws) j ≡ some d)) → RowKept (g .force .known .sig) t lists tab′ k d
             go k d (inl h) = placed-same (g .force .known .sig) t lists tab tab′ r k d (all-at (g .fit) k d (in-all k d h) .short) (omega (arith, l .many, at-below (rows-all (g .force .known .sig) (l .before)) k d h)) (said .kept) (l .placed k d h)
             go k d (inr (j, h, m)) = let z : k ≡ r + j = omega (arith, h, l .many) in rw z (mine j d m)
+
+-- the default's plan behind the rows
+pub with-default : {t table lists : List ℕ} {room : ℕ} (g : GivenRules t table lists room) (n : ℕ) (tab : List ℕ) → length tab ≡ room → RulesIndexed (g .force .known .sig) t lists (g .force .rs) n tab → TableIndexed (g .force .known .sig) t table lists (g .force .rs) n (set tab (row-stride * row-limit) (default-of table))
+with-default {t} {table} {lists} g n tab e x =
+    let sig = g .force .known .sig in
+    let at = row-stride * row-limit in
+    record {
+      rows = record { many = x .many; placed = λ k d h. placed-same sig t lists tab (set tab at (default-of table)) row-limit k d (all-at (g .fit) k d h .short) (omega (arith, at-below (rows-all sig (g .force .rs)) k d h, g .few)) (λ i l. getD-set-other tab at i (default-of table) 0 (λ z. omega arith)) (x .placed k d h) };
+      default-is = getD-set-same tab at (default-of table) 0 (omega (arith, e, g .room-is));
+    }

@@ -10,12 +10,11 @@ use Rattle.signature.specs.Signature.{Signature}
 use Rattle.row.specs.Row.{Row}
 use Rattle.cell.specs.Coded.{kinds-of}
 use Rattle.cell.specs.RowList.{entries}
-use Rattle.path.specs.State.{row-stride}
+use Rattle.path.specs.State.{row-stride, default-in}
 use Rattle.signature.specs.Limits.{word-limit}
 use Rattle.path.specs.Rows.{RuleRow, Fit, Before, RowKept, RowsKept}
-use Rattle.table.specs.Limits.{limits}
-use Rattle.table.specs.Rule.{Rule}
-use Rattle.store.specs.Laid.{Holds}
+use Rattle.tree.specs.Limits.{row-limit}
+use Rattle.table.specs.Rule.{Rule, default-of}
 use Rattle.loading.specs.Lists.{rows-for, lists-for}
 use Rattle.loading.specs.Load.{InForce, patterns}
 
@@ -49,16 +48,22 @@ pub record ListIndexed (sig : Signature) (t a : List ℕ) (ws : List Row) (numbe
   pub placed : (j : ℕ) (w : Row) → getElem? ws j ≡ some w → RowKept sig t a tab′ (r + j) (row-of number plan w)
   pub kept : Before (row-stride * r) tab tab′
 
--- rules in force with their lists of rows, and room for all rows
+-- rules in force with their lists of rows, and room for all rows and the default's plan
 pub record GivenRules (t table lists : List ℕ) (room : ℕ) : Type 0 where
   pub used : ℕ
   pub total : ℕ
   pub force : InForce t table used total lists
   pub near : length (lists-for (force .known .sig) (patterns (force .rs))) < word-limit
   pub fit : All (Fit (force .known .sig) t) (rows-all (force .known .sig) (force .rs))
-  pub room-is : row-stride * length (rows-all (force .known .sig) (force .rs)) ≤ room
+  pub few : length (rows-all (force .known .sig) (force .rs)) ≤ row-limit
+  pub room-is : row-stride * row-limit < room
 
 -- all rows are in it, so many
 pub record RulesIndexed (sig : Signature) (t lists : List ℕ) (rs : List Rule) (n : ℕ) (tab : List ℕ) : Type 0 where
   pub many : n ≡ length (rows-all sig rs)
   pub placed : RowsKept sig t lists tab (rows-all sig rs)
+
+-- and behind them the plan of the table's default
+pub record TableIndexed (sig : Signature) (t table lists : List ℕ) (rs : List Rule) (n : ℕ) (tab : List ℕ) : Type 0 where
+  pub rows : RulesIndexed sig t lists rs n tab
+  pub default-is : default-in tab ≡ default-of table

@@ -1,18 +1,18 @@
 -- A leaf is written.
 use mathlib.Core.Bool.{Bool, true, false}
-use mathlib.Core.Path.{_≡_, refl, sym, ap, ap₂, subst, _∙_}
+use mathlib.Core.Path.{_≡_, refl, sym, ap, subst, _∙_}
 use mathlib.Core.List.{List, [], _∷_, _++_, append-nil}
-use Prim.Native.Nat.{ℕ, zero, suc, _+_, _-_, _*_, _/_, _≤_, _<_, min, max}
+use Prim.Native.Nat.{ℕ, zero, suc, _+_, _-_, _*_, _/_, _≤_, _<_, max}
 use native.Mathlib.Nat.{zero-add}
 use native.Mathlib.Omega.{arith}
 use lib.Dec.{eqb}
-use lib.ListN.{length, getD, drop, take, set, length-append, length-drop, drop-of-length-le}
+use lib.ListN.{length, getD, drop, take, set, length-drop, drop-of-length-le}
 use lib.Seq.{take-all, length-take-le, drop-drop}
 use Rattle.sets.specs.Set.{bit}
 use Rattle.sets.proofs.SetLaws.{bit-lt}
 use Rattle.signature.proofs.Tests.{eqb-eq, eqb-ne}
 use Rattle.pattern.specs.Limits.{variable-count}
-use Rattle.tree.specs.Tree.{hit}
+use Rattle.tree.specs.Tree.{default, hit}
 use Rattle.tree.specs.Words.{pairs}
 use Rattle.leaf.specs.Leaf.{Paired, all-pairs, pairs-from, cell-pair, cell-pairs, Pairing, Used}
 use Rattle.cell.specs.Cursor.{cell-at}
@@ -142,3 +142,12 @@ pub none-bound : (a rows vis : List ℕ) (r q u x at : ℕ) (o : List ℕ) → U
 none-bound a rows vis r q u x at o h e l =
     let z : bit u x ≡ 0 = omega (arith, bit-lt u x, eqb-ne (bit u x) 1 e) in
     rw (unused a rows vis r q u x h z) (paired-none at o l)
+
+-- the default's leaf
+pub default-short : (d : ℕ) (o : List ℕ) → length o < 2 → Wrote (default d) 0 (length o + 1) o o
+default-short d o h = record { much = omega arith; wrote = λ w. absurd (omega arith) }
+
+pub default-wrote : (d : ℕ) (o : List ℕ) → 2 ≤ length o → Wrote (default d) 0 2 o (set (set o 0 0) 1 d)
+default-wrote d [] h = absurd (omega arith)
+default-wrote d (x ∷ []) h = absurd (omega arith)
+default-wrote d (x ∷ (y ∷ o)) h = record { much = omega arith; wrote = λ w. refl }

@@ -1,19 +1,24 @@
-// A leaf: a row's rule and plan, and which visit bound each of its variables.
+// A leaf: the default's plan; or a row's rule and plan, and which visit bound each of its variables.
+use path::rows::DEFAULT_PLAN;
 use path::rows::ROW;
 use path::rows::cell_of;
 use pattern::limits::PATTERN_WORDS;
 use pattern::limits::VARIABLES;
 use sets::set::has as has_bit;
 use sets::set::join;
+use tree::words::DEFAULT;
+use tree::words::DEFAULT_WORDS;
 use tree::words::HIT;
 use tree::words::HIT_WORDS;
 ghost use mathlib.Core.Path.{_≡_};
-ghost use Prim.Native.Nat.{ℕ, _+_, _*_, _≤_, _<_};
+ghost use Prim.Native.Nat.{_+_, _*_, _≤_, _<_};
 ghost use lib.ListN.{length, getD};
 ghost use Rattle.sets.specs.Set.{set-limit};
-ghost use Rattle.path.specs.State.{rule-of, plan-of, row-stride, cell-of};
+ghost use Rattle.path.specs.State.{rule-of, plan-of, row-stride, cell-of, default-in};
 ghost use Rattle.leaf.specs.Leaf.{Leaving, Pairing, Paired, Used, all-pairs, cell-pair, cell-pairs, leaf-of};
 ghost use Rattle.signature.specs.Limits.{word-limit};
+ghost use Rattle.tree.specs.Limits.{row-limit};
+ghost use Rattle.tree.specs.Tree.{default};
 ghost use Rattle.path.specs.Wrote.{Wrote};
 
 const VARIABLE_COUNT: u16 = VARIABLES as u16;
@@ -138,6 +143,19 @@ fn pairs(a: &[u64], rows: &[u16], vis: &[u16], r: usize, q: usize, out: &mut [u1
         x += 1;
     }
     to
+}
+
+// The leaf where no row is left: how long it is, or one more than there is room.
+pub fn default_leaf(rows: &[u16], out: &mut [u16]) -> usize
+    requires { ⌜ row-stride * row-limit < length (now rows) ⌝ }
+    ensures { λ x. ⌜ Wrote (default (default-in (now (rows .entry)))) 0 x (now (out .entry)) (now (out .exit)) ⌝ }
+{
+    if out.len() < DEFAULT_WORDS {
+        return out.len() + 1;
+    }
+    out[0] = DEFAULT;
+    out[1] = rows[DEFAULT_PLAN];
+    DEFAULT_WORDS
 }
 
 // The leaf of row r: how long it is, or one more than there is room.

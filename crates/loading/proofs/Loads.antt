@@ -1,22 +1,22 @@
 -- The rules of a table, one after the other.
-use mathlib.Core.Path.{_≡_, refl, sym, ap, ap₂, subst, _∙_}
+use mathlib.Core.Path.{_≡_, refl, sym, ap, subst, _∙_}
 use mathlib.Core.List.{List, [], _∷_, _++_, map-append}
 use mathlib.Core.Option.{Option, none, some}
 use mathlib.Core.Bool.{Bool, true, false}
-use Prim.Native.Nat.{ℕ, _+_, _*_, _-_, _<_, _≤_}
+use Prim.Native.Nat.{ℕ, _+_, _-_, _<_, _≤_}
 use native.Mathlib.Omega.{arith}
 use lib.ListN.{length, getD, take, drop, length-append, length-map}
 use Rattle.signature.specs.Lists.{is-some, require, _>>=_}
 use Rattle.signature.specs.Signature.{Signature}
 use Rattle.signature.proofs.Tests.{true≢false, bind-some, require-some, some-inj}
-use Rattle.table.specs.Limits.{limits, table-length}
+use Rattle.table.specs.Limits.{limits, table-length, rules-at}
 use Rattle.table.specs.Rule.{Rule}
 use Rattle.table.specs.Sound.{sound}
 use Rattle.store.specs.Laid.{laid, Holds}
 use Rattle.store.specs.Place.{Walked, NextRule}
 use Rattle.store.proofs.LaidFacts.{laid-holds, holds-laid, sound-laid, is-stored}
 use Rattle.store.proofs.Walk.{walk-start, walk-step, walk-end}
-use Rattle.loading.specs.Add.{GivenAdd, goes-with, weights, Stepped, lists-room}
+use Rattle.loading.specs.Add.{GivenAdd, goes-with, Stepped}
 use Rattle.loading.specs.Lists.{lists-for}
 use Rattle.loading.specs.Load.{GivenLoad, Ready, LoadedAs, patterns}
 use Rattle.loading.proofs.Tested.{tests}
@@ -55,7 +55,7 @@ module _ {t table : List ℕ} {n m : ℕ} (g : GivenLoad t table n m) (rs : List
     pub ready : Ready (g .known .sig) before used total rows
     pub good : tests (g .known .sig) before ≡ true
 
-  pub start : (rows : List ℕ) → Mid 1 0 0 0 rows
+  pub start : (rows : List ℕ) → Mid rules-at 0 0 0 rows
   start rows = record { before = []; after = rs; walked = walk-start rs; ready = record { rest = rows; code-is = refl; used-is = refl; total-is = refl; small = omega arith }; good = refl }
 
   module _ {at used total i : ℕ} {rows : List ℕ} (l : Mid at used total i rows) where

@@ -7,16 +7,23 @@ use Prim.Native.Nat.{ℕ, _+_, _≤_, _<_}
 use native.Mathlib.Omega.{arith}
 use lib.Dec.{eqb}
 use lib.ListN.{length, getD, getElem?}
-use Rattle.signature.specs.Decoded.{Known, Starts}
+use Rattle.signature.specs.Decoded.{Starts}
 use Rattle.signature.specs.Lawful.{OfKind, of-kind, OfKinds, of-kinds-nil, of-kinds-cons}
 use Rattle.signature.specs.Signature.{arguments-at}
 use Rattle.signature.specs.Value.{Values, vnil, vcons, con, size, codes}
 use Rattle.signature.proofs.ListFacts.{at-getD, at-out}
 use Rattle.signature.proofs.Tests.{eqb-no}
 use Rattle.nodes.specs.Parts.{Parts, HeadByTable}
-use Rattle.nodes.specs.Step.{link-to, split-to, or-0, link-step, step-on, step-at}
+use Rattle.nodes.specs.Step.{default-step, link-to, split-to, or-0, link-step, step-on, step-at}
 use Rattle.nodes.specs.declared.node.Step.the-variants.{Default, Hit, On, Broken}
 use Rattle.nodes.proofs.LinkLaws.{stands, link-above, split-above}
+
+-- a default leaf
+pub default-cut : (t : List ℕ) → length t < 2 → Broken ≡ default-step (getElem? t 1)
+default-cut t h = rw (at-out t 1 (omega arith))
+
+pub default-whole : (t : List ℕ) → 2 ≤ length t → Default (getD t 1 0) ≡ default-step (getElem? t 1)
+default-whole t h = rw (at-getD t 1 (omega arith))
 
 -- a link that is followed leads on
 step-same : (d : ℕ) (o : Option ℕ) → ((x : ℕ) → o ≡ some x → 0 < x) → d ≡ or-0 o → step-on d ≡ link-step o
@@ -67,7 +74,7 @@ module _ {table b : List ℕ} (p : Parts table b) where
       word : getElem? t 0 ≡ some (getD t 0 0)
       word = at-getD t 0 (omega arith)
 
-      pub node-default : getD t 0 0 ≡ 0 → Default ≡ step-at (p .known .sig) t i (p .values)
+      pub node-default : getD t 0 0 ≡ 0 → default-step (getElem? t 1) ≡ step-at (p .known .sig) t i (p .values)
       node-default e = rw (word, e)
 
       pub node-left : getD t 0 0 ≡ 1 → 0 < length b → Broken ≡ step-at (p .known .sig) t i (p .values)

@@ -51,6 +51,11 @@ link-step (some d) = On d 1
 abbrev pub step-on : ℕ → Step
 step-on d = cond (eqb d 0) Broken (On d 1)
 
+-- the default leaf answers with its plan, where that lies in the slice
+abbrev pub default-step : Option ℕ → Step
+default-step none = Broken
+default-step (some p) = Default p
+
 abbrev pub hit-step : Values → Step
 hit-step vnil = Hit
 hit-step (vcons v rest) = Broken
@@ -69,7 +74,7 @@ skip-step (vcons v rest) = On 1 (size v)
 
 abbrev pub word-step : Signature → List ℕ → ℕ → Values → Option ℕ → Step
 word-step sig t i vs none = Broken
-word-step sig t i vs (some w) = cond (eqb w 0) Default (cond (eqb w 1) (hit-step vs) (cond (eqb w 2) (test-step sig t i vs) (cond (eqb w 3) (skip-step vs) (cond (eqb w 4) (split-step t i vs) Broken))))
+word-step sig t i vs (some w) = cond (eqb w 0) (default-step (getElem? t 1)) (cond (eqb w 1) (hit-step vs) (cond (eqb w 2) (test-step sig t i vs) (cond (eqb w 3) (skip-step vs) (cond (eqb w 4) (split-step t i vs) Broken))))
 
 -- the node at index i, with these parts of the booking left; t is the tree from the node on
 abbrev pub step-at : Signature → List ℕ → ℕ → Values → Step

@@ -4,6 +4,7 @@ use signature::decoded;
 use signature::decoded::LAST_LEVEL;
 use signature::decoded::LEVEL_BASE;
 use tree::words::DEFAULT;
+use tree::words::DEFAULT_WORDS;
 use tree::words::HIT;
 use tree::words::SKIP;
 use tree::words::SPLIT;
@@ -12,16 +13,16 @@ use tree::words::TEST;
 use tree::words::TEST_WORDS;
 ghost use mathlib.Core.Path.{_≡_};
 ghost use Prim.Native.Nat.{_<_};
-ghost use lib.ListN.{length};
+ghost use lib.ListN.{getElem?};
 ghost use Rattle.signature.specs.Decoded.{Known};
 ghost use Rattle.signature.specs.Limits.{last-level};
 ghost use Rattle.tree.specs.Run.{place-of, rise-to};
 ghost use Rattle.nodes.specs.Parts.{Parts, HeadByTable};
-ghost use Rattle.nodes.specs.Step.{link-at, link-to, or-0, split-to, step-at, step-on};
+ghost use Rattle.nodes.specs.Step.{default-step, link-at, link-to, or-0, split-to, step-at, step-on};
 
-// The default; the hit leaf's answer; so many words on in the tree and in the booking; or the tree is broken.
+// The default, with its plan; the hit leaf's answer; so many words on in the tree and in the booking; or the tree is broken.
 pub enum Step {
-    Default,
+    Default { plan: u16 },
     Hit,
     On { tree: usize, book: usize },
     Broken,
@@ -130,6 +131,16 @@ fn split(t: &[u16], node: usize, c: u16) -> usize
     link(t, node, SPLIT_WORDS + k + place(es, c - LEVEL_BASE))
 }
 
+// A default leaf: its plan, where that lies in the slice.
+fn default_at(t: &[u16]) -> Step
+    ensures { λ r. ⌜ r ≡ default-step (getElem? (now (t .entry)) 1) ⌝ }
+{
+    if t.len() < DEFAULT_WORDS {
+        return Step::Broken;
+    }
+    Step::Default { plan: t[1] }
+}
+
 // One word on in the booking and so many in the tree, where there is a link to follow.
 fn step_on(d: usize) -> Step
     ensures { λ r. ⌜ r ≡ step-on d ⌝ }
@@ -149,7 +160,7 @@ pub fn at_node(table: &[u16], t: &[u16], node: usize, b: &[u16]) -> Step
     }
     let head = t[0];
     if head == DEFAULT {
-        return Step::Default;
+        return default_at(t);
     }
     if head == HIT {
         if b.len() > 0 {

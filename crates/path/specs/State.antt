@@ -11,6 +11,7 @@ use Rattle.signature.specs.Signature.{Signature}
 use Rattle.pattern.specs.Limits.{pattern-limit}
 use Rattle.cell.specs.Cell.{cell-width}
 use Rattle.cell.specs.Cursor.{opens-of}
+use Rattle.tree.specs.Limits.{row-limit}
 use Rattle.tree.specs.Tree.{Line, inserts}
 use Rattle.path.specs.Standing.{At, tag-of, vars-of, allowed-of}
 use Rattle.path.specs.Variables.{variables}
@@ -20,7 +21,7 @@ abbrev pub options : {A : Type 0} → (ℕ → Option A) → ℕ → ℕ → Lis
 options f i zero = []
 options f i (suc n) = f i ∷ options f (suc i) n
 
--- the table of the rows: where a row's words begin and end, its rule, its plan, and how many columns it has of its own at each cell
+-- the table of the rows: where a row's words begin and end, its rule, its plan, and how many columns it has of its own at each cell; behind the rows the default's plan
 
 -- the words of a row before those numbers
 abbrev pub row-head : ℕ
@@ -45,12 +46,17 @@ plan-of rows r = getD rows (row-stride * r + 3) 0
 abbrev pub own-of : List ℕ → ℕ → ℕ → ℕ
 own-of rows r q = getD rows (row-stride * r + row-head + q) 0
 
+-- the default's plan, behind the last row that there may be
+abbrev pub default-in : List ℕ → ℕ
+default-in rows = getD rows (row-stride * row-limit) 0
+
 -- the word where cell q of row r begins
 abbrev pub cell-of : List ℕ → ℕ → ℕ → ℕ
 cell-of rows r q = start-of rows r + cell-width * q
 
 pub record Indexed (t a rows : List ℕ) (n : ℕ) : Type 0 where
   pub long : row-stride * n ≤ length rows
+  pub whole : row-stride * row-limit < length rows
   pub counts : (r q : ℕ) → r < n → cell-of rows r q + cell-width ≤ stop-of rows r → own-of rows r (q + 1) ≡ own-of rows r q - 1 + opens-of t (tag-of a (cell-of rows r q))
   pub within : (r : ℕ) → r < n → (stop-of rows r ≤ length a) × (stop-of rows r ≤ start-of rows r + cell-width * pattern-limit)
 

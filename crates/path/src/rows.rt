@@ -1,4 +1,4 @@
-// The table of rows: for each where its words begin and end, its rule, its plan, and how many columns are its own at each of its cells.
+// The table of rows: for each where its words begin and end, its rule, its plan, and how many columns are its own at each of its cells; behind them the default's plan.
 use cell::cell::CELL;
 use cell::cell::Cell;
 use cell::cell::cell_at;
@@ -17,8 +17,11 @@ pub const OWN: usize = 4;
 // A count at each cell and one behind the last, and 3 words that are free: 72 is a multiple of 8.
 pub const ROW: usize = OWN + PATTERN_WORDS + 1 + 3;
 
+// Behind all rows: the default's plan.
+pub const DEFAULT_PLAN: usize = ROWS * ROW;
+
 // For all rows: their table, cursors and visits.
-pub const INDEX_ROOM: usize = ROWS * ROW;
+pub const INDEX_ROOM: usize = DEFAULT_PLAN + 1;
 
 pub const CURSORS: usize = ROWS;
 

@@ -2,7 +2,7 @@
 use mathlib.Core.Path.{_≡_, refl, sym, ap, ap₂, subst, _∙_}
 use mathlib.Core.List.{List, [], _∷_, _++_, append-nil, append-assoc}
 use mathlib.Core.Bool.{Bool, true, false, _&&_}
-use Prim.Native.Nat.{ℕ, zero, suc, _+_, _-_, _%_, _≤_, _<_, min}
+use Prim.Native.Nat.{ℕ, zero, suc, _+_, _-_, _%_, _≤_, _<_}
 use native.Mathlib.Nat.{add-zero, zero-add, suc-add}
 use native.Mathlib.Omega.{arith}
 use lib.Dec.{eqb}
@@ -14,8 +14,8 @@ use Rattle.signature.proofs.Tests.{eqb-no, true≢false}
 use Rattle.tree.proofs.RunFacts.{some-word}
 use Rattle.tree.specs.Tree.{Tree, skip}
 use Rattle.tree.specs.Words.{words, layout}
-use Rattle.path.specs.Alive.{member, FirstAlive}
-use Rattle.path.specs.State.{Raised, real-of, own-of, one-if}
+use Rattle.path.specs.Alive.{member}
+use Rattle.path.specs.State.{Raised, real-of, own-of, default-in}
 use Rattle.column.specs.Column.{Column}
 use Rattle.visits.specs.Blank.{Blank}
 use Rattle.path.specs.Wrote.{Wrote}
@@ -157,8 +157,11 @@ module _ (b : ℕ) (o o1 : List ℕ) (l : b ≤ length o) (e : o1 ≡ replicate 
       ∙ ap (λ (z : List ℕ). replicate b 3 ++ z) (append-nil ys)
 
 module _ {t a rows : List ℕ} {n : ℕ} {s cur vis : List ℕ} {ncols vn base : ℕ} (o : List ℕ) (g : Given t a rows n s cur vis ncols vn base (length o)) (b : ℕ) (w : Blank rows n s cur ncols b) where
-  pub blank-short : (dft fuel : ℕ) → length o < fuel → length o < b → Wrote (tree-of g dft fuel) base (length o + 1) o o
-  blank-short dft fuel f l =
+  abbrev dft : ℕ
+  dft = default-in rows
+
+  pub blank-short : (fuel : ℕ) → length o < fuel → length o < b → Wrote (tree-of g dft fuel) base (length o + 1) o o
+  blank-short fuel f l =
       let h = behind (length o) g (ncols - length o) (vn + length o) (base + length o) 0 (omega (arith, w .most)) refl refl (omega arith) (fewer (length o) w (omega arith)) in
       let T = tree-of (h .given) dft (fuel - length o) in
       let e : length o + (fuel - length o) ≡ fuel = omega arith in
@@ -173,15 +176,15 @@ module _ {t a rows : List ℕ} {n : ℕ} {s cur vis : List ℕ} {ncols vn base :
     pub blank-given : Given t a rows n s cur vis (ncols - b) (vn + b) (base + b) (length (take (length o1 - b) (drop b o1)))
     blank-given = there .given
 
-    module _ (u : ℕ) (ys : List ℕ) (call : (g2 : Given t a rows n s cur vis (ncols - b) (vn + b) (base + b) (length (take (length o1 - b) (drop b o1)))) (d2 f2 : ℕ) → length (take (length o1 - b) (drop b o1)) < f2 → Wrote (tree-of g2 d2 f2) (base + b) u (take (length o1 - b) (drop b o1)) ys) where
+    module _ (u : ℕ) (ys : List ℕ) (call : (g2 : Given t a rows n s cur vis (ncols - b) (vn + b) (base + b) (length (take (length o1 - b) (drop b o1)))) (f2 : ℕ) → length (take (length o1 - b) (drop b o1)) < f2 → Wrote (tree-of g2 dft f2) (base + b) u (take (length o1 - b) (drop b o1)) ys) where
       pub blank-most : b + u ≤ suc (length o)
-      blank-most = omega (arith, call (there .given) 0 (suc (length (take (length o1 - b) (drop b o1)))) (omega arith) .much, part-long b o o1 l e)
+      blank-most = omega (arith, call (there .given) (suc (length (take (length o1 - b) (drop b o1)))) (omega arith) .much, part-long b o o1 l e)
 
-      pub blank-wrote : (dft fuel : ℕ) → length o < fuel → Wrote (tree-of g dft fuel) base (b + u) o (take b o1 ++ (ys ++ drop (length o1 - b) (drop b o1)))
-      blank-wrote dft fuel f =
+      pub blank-wrote : (fuel : ℕ) → length o < fuel → Wrote (tree-of g dft fuel) base (b + u) o (take b o1 ++ (ys ++ drop (length o1 - b) (drop b o1)))
+      blank-wrote fuel f =
           let h = there in
           let T = tree-of (h .given) dft (fuel - b) in
           let i : b + (fuel - b) ≡ fuel = omega arith in
           let q : tree-of g dft fuel ≡ skipped b T = ap (tree-of g dft) (sym i) ∙ h .tree dft (fuel - b) in
-          let v : Wrote T (base + b) u (drop b o) ys = subst (λ (z : List ℕ). Wrote T (base + b) u z ys) (part-is b o o1 l e) (call (h .given) dft (fuel - b) (omega (arith, part-long b o o1 l e))) in
+          let v : Wrote T (base + b) u (drop b o) ys = subst (λ (z : List ℕ). Wrote T (base + b) u z ys) (part-is b o o1 l e) (call (h .given) (fuel - b) (omega (arith, part-long b o o1 l e))) in
           rw (q, back-is b o o1 l e ys) (wrote-skipped T b base u o ys l v)

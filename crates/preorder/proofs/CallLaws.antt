@@ -2,7 +2,7 @@
 use mathlib.Core.Path.{_≡_, refl, sym, ap, subst, _∙_}
 use mathlib.Core.List.{List, [], _∷_, _++_, append-nil}
 use mathlib.Core.Bool.{Bool, true, false}
-use Prim.Native.Nat.{ℕ, zero, suc, _+_, _-_, _*_, _≤_, _<_, min}
+use Prim.Native.Nat.{ℕ, zero, suc, _+_, _-_, _≤_, _<_, min}
 use native.Mathlib.Omega.{arith}
 use borrow.Author.Tests.{ltb-true, ltb-false}
 use lib.Dec.{ltb}
@@ -11,15 +11,14 @@ use lib.Seq.{take-all}
 use Rattle.signature.specs.Limits.{kind-limit}
 use Rattle.signature.specs.Lists.{All, also}
 use Rattle.signature.proofs.ListFacts.{same-lists}
-use Rattle.pattern.specs.Limits.{pattern-limit}
-use Rattle.tree.specs.Tree.{Tree, hit, skip}
+use Rattle.tree.specs.Tree.{Tree, default, hit, skip}
 use Rattle.path.specs.Alive.{member, FirstAlive}
-use Rattle.path.specs.State.{Raised, Lowered, Kept, real-of, cell-of, own-of, rule-of, plan-of, bound, one-if}
+use Rattle.path.specs.State.{Raised, Lowered, Kept, real-of, cell-of, own-of, rule-of, plan-of, default-in, bound, one-if}
 use Rattle.column.specs.Column.{Column, Looking}
 use Rattle.leaf.specs.Leaf.{Leaving}
 use Rattle.path.specs.Wrote.{Wrote}
 use Rattle.preorder.specs.Node.{Given, Branching, tree-of, branch-of}
-use Rattle.preorder.proofs.NodeLaws.{row-alive, real-cell, skip-given, branch-given, tree-none, tree-hit, tree-skip, tree-branch, wrote-default, wrote-skip}
+use Rattle.preorder.proofs.NodeLaws.{row-alive, real-cell, skip-given, branch-given, tree-none, tree-hit, tree-skip, tree-branch, wrote-skip}
 
 -- raised and lowered again
 pub restored : (n vn : ℕ) (re : ℕ → Bool) (cur vis cur2 vis2 cur3 cur4 : List ℕ) → Raised n re vn cur vis cur2 vis2 → cur3 ≡ cur2 → Lowered n re cur3 cur4 → length cur4 ≡ length cur → cur4 ≡ cur
@@ -91,56 +90,56 @@ module _ {t a rows : List ℕ} {n : ℕ} {s cur vis : List ℕ} {ncols vn base :
   pub skip-child : (g : Given t a rows n s cur vis ncols vn base (length o)) → res ≡ kind-limit → (len2 : ℕ) → len2 < length o → Given t a rows n s cur2 vis2 (ncols - 1) (vn + 1) (base + 1) len2
   skip-child g z len2 l = let k = cols g pos in skip-given g re cur2 vis2 (k .k) res (k .rest) (k .is) (k .there) h (column-of g) z w lc lv len2 l
 
-  pub skip-result : (g : Given t a rows n s cur vis ncols vn base (length o)) (dft fuel : ℕ) → res ≡ kind-limit → r < n → FirstAlive s n r → 0 < length o → length o < fuel
-      → ((g2 : Given t a rows n s cur2 vis2 (ncols - 1) (vn + 1) (base + 1) (length (take (length (set o 0 3) - 1) (drop 1 (set o 0 3))))) (d2 f2 : ℕ) → length (take (length (set o 0 3) - 1) (drop 1 (set o 0 3))) < f2
-      → Wrote (tree-of g2 d2 f2) (base + 1) u (take (length (set o 0 3) - 1) (drop 1 (set o 0 3))) ys)
-      → Wrote (tree-of g dft fuel) base (u + 1) o (take 1 (set o 0 3) ++ (ys ++ drop (length (set o 0 3) - 1) (drop 1 (set o 0 3))))
-  skip-result g dft zero z i x l f call = absurd (omega arith)
-  skip-result g dft (suc fuel) z i x l f call =
+  pub skip-result : (g : Given t a rows n s cur vis ncols vn base (length o)) (fuel : ℕ) → res ≡ kind-limit → r < n → FirstAlive s n r → 0 < length o → length o < fuel
+      → ((g2 : Given t a rows n s cur2 vis2 (ncols - 1) (vn + 1) (base + 1) (length (take (length (set o 0 3) - 1) (drop 1 (set o 0 3))))) (f2 : ℕ) → length (take (length (set o 0 3) - 1) (drop 1 (set o 0 3))) < f2
+      → Wrote (tree-of g2 (default-in rows) f2) (base + 1) u (take (length (set o 0 3) - 1) (drop 1 (set o 0 3))) ys)
+      → Wrote (tree-of g (default-in rows) fuel) base (u + 1) o (take 1 (set o 0 3) ++ (ys ++ drop (length (set o 0 3) - 1) (drop 1 (set o 0 3))))
+  skip-result g zero z i x l f call = absurd (omega arith)
+  skip-result g (suc fuel) z i x l f call =
       let k = cols g pos in
       let p = part-one o l in
       let less : length (take (length (set o 0 3) - 1) (drop 1 (set o 0 3))) < length o = omega (arith, ap length p, length-drop 1 o) in
       let g2 = skip-given g re cur2 vis2 (k .k) res (k .rest) (k .is) (k .there) h (column-of g) z w lc lv (length (take (length (set o 0 3) - 1) (drop 1 (set o 0 3)))) less in
-      let e = tree-skip g re cur2 vis2 (k .k) res (k .rest) (k .is) (k .there) h (column-of g) z w lc lv (length (take (length (set o 0 3) - 1) (drop 1 (set o 0 3)))) less dft fuel r i x in
+      let e = tree-skip g re cur2 vis2 (k .k) res (k .rest) (k .is) (k .there) h (column-of g) z w lc lv (length (take (length (set o 0 3) - 1) (drop 1 (set o 0 3)))) less (default-in rows) fuel r i x in
       let q : base + 1 ≡ suc base = omega arith in
-      let v : Wrote (tree-of g2 dft fuel) (suc base) u (drop 1 o) ys = subst (λ (y : ℕ). Wrote (tree-of g2 dft fuel) y u (drop 1 o) ys) q (subst (λ (y : List ℕ). Wrote (tree-of g2 dft fuel) (base + 1) u y ys) p (call g2 dft fuel (omega arith))) in
-      rw (e, back-one o ys l) (wrote-skip (tree-of g2 dft fuel) base u o ys l v)
+      let v : Wrote (tree-of g2 (default-in rows) fuel) (suc base) u (drop 1 o) ys = subst (λ (y : ℕ). Wrote (tree-of g2 (default-in rows) fuel) y u (drop 1 o) ys) q (subst (λ (y : List ℕ). Wrote (tree-of g2 (default-in rows) fuel) (base + 1) u y ys) p (call g2 fuel (omega arith))) in
+      rw (e, back-one o ys l) (wrote-skip (tree-of g2 (default-in rows) fuel) base u o ys l v)
 
   pub skip-fits : (g : Given t a rows n s cur vis ncols vn base (length o)) → res ≡ kind-limit → 0 < length o
-      → ((g2 : Given t a rows n s cur2 vis2 (ncols - 1) (vn + 1) (base + 1) (length (take (length (set o 0 3) - 1) (drop 1 (set o 0 3))))) (d2 f2 : ℕ) → length (take (length (set o 0 3) - 1) (drop 1 (set o 0 3))) < f2
-      → Wrote (tree-of g2 d2 f2) (base + 1) u (take (length (set o 0 3) - 1) (drop 1 (set o 0 3))) ys)
+      → ((g2 : Given t a rows n s cur2 vis2 (ncols - 1) (vn + 1) (base + 1) (length (take (length (set o 0 3) - 1) (drop 1 (set o 0 3))))) (f2 : ℕ) → length (take (length (set o 0 3) - 1) (drop 1 (set o 0 3))) < f2
+      → Wrote (tree-of g2 (default-in rows) f2) (base + 1) u (take (length (set o 0 3) - 1) (drop 1 (set o 0 3))) ys)
       → u ≤ length o
   skip-fits g z l call =
       let p = part-one o l in
       let less : length (take (length (set o 0 3) - 1) (drop 1 (set o 0 3))) < length o = omega (arith, ap length p, length-drop 1 o) in
-      let v = call (skip-child g z (length (take (length (set o 0 3) - 1) (drop 1 (set o 0 3)))) less) 0 (length o) less in
+      let v = call (skip-child g z (length (take (length (set o 0 3) - 1) (drop 1 (set o 0 3)))) less) (length o) less in
       omega (arith, v .much)
 
   pub branch-child : (g : Given t a rows n s cur vis ncols vn base (length o)) → ¬ (res ≡ kind-limit) → Branching t a rows n s re cur2 vis2 ncols vn base (length o) res
   branch-child g z = let k = cols g pos in let e : res ≡ k .k = column-of g .kind z in branch-given g re cur2 vis2 res (k .rest) (k .is ∙ ap (λ (y : ℕ). y ∷ k .rest) (sym e)) h w lc lv
 
-  pub branch-result : (g : Given t a rows n s cur vis ncols vn base (length o)) (dft fuel : ℕ) → ¬ (res ≡ kind-limit) → r < n → FirstAlive s n r → length o < fuel
-      → ((b : Branching t a rows n s re cur2 vis2 ncols vn base (length o) res) (d2 f2 : ℕ) → length o ≤ f2 → Wrote (branch-of b d2 f2) base u o ys)
-      → Wrote (tree-of g dft fuel) base u o ys
-  branch-result g dft zero z i x f call = absurd (omega arith)
-  branch-result g dft (suc fuel) z i x f call =
+  pub branch-result : (g : Given t a rows n s cur vis ncols vn base (length o)) (fuel : ℕ) → ¬ (res ≡ kind-limit) → r < n → FirstAlive s n r → length o < fuel
+      → ((b : Branching t a rows n s re cur2 vis2 ncols vn base (length o) res) (f2 : ℕ) → length o ≤ f2 → Wrote (branch-of b (default-in rows) f2) base u o ys)
+      → Wrote (tree-of g (default-in rows) fuel) base u o ys
+  branch-result g zero z i x f call = absurd (omega arith)
+  branch-result g (suc fuel) z i x f call =
       let k = cols g pos in
       let e : res ≡ k .k = column-of g .kind z in
       let ks : g .ks ≡ res ∷ k .rest = k .is ∙ ap (λ (y : ℕ). y ∷ k .rest) (sym e) in
       let small : res < g .known .decoded .n = omega (arith, k .there) in
       let c : Column (g .known .sig) a rows n re cur res res = subst (λ (y : ℕ). Column (g .known .sig) a rows n re cur y res) (sym e) (column-of g) in
-      rw (tree-branch g re cur2 vis2 res res (k .rest) ks small h c z w lc lv dft fuel r i x) (call (branch-given g re cur2 vis2 res (k .rest) ks h w lc lv) dft fuel (omega arith))
+      rw (tree-branch g re cur2 vis2 res res (k .rest) ks small h c z w lc lv (default-in rows) fuel r i x) (call (branch-given g re cur2 vis2 res (k .rest) ks h w lc lv) fuel (omega arith))
 
 pub at-most : (T : Tree) (base u : ℕ) (o o2 : List ℕ) → Wrote T base u o o2 → u ≤ suc (length o)
 at-most T base u o o2 w = omega (arith, w .much)
 
 module _ {t a rows : List ℕ} {n : ℕ} {s cur vis : List ℕ} {ncols vn base : ℕ} {o : List ℕ} (g : Given t a rows n s cur vis ncols vn base (length o)) where
-  pub none-result : (dft fuel r : ℕ) → length o < fuel → 0 < length o → r ≡ n → FirstAlive s n r → Wrote (tree-of g dft fuel) base 1 o (set o 0 0)
-  none-result dft fuel r f l e x = rw (tree-none g dft fuel (omega arith) (subst (λ (y : ℕ). FirstAlive s n y) e x)) (wrote-default dft base o l)
+  pub none-result : (fuel r u : ℕ) (o2 : List ℕ) → length o < fuel → r ≡ n → FirstAlive s n r → Wrote (default (default-in rows)) 0 u o o2 → Wrote (tree-of g (default-in rows) fuel) base u o o2
+  none-result fuel r u o2 f e x w = rw (tree-none g (default-in rows) fuel (omega arith) (subst (λ (y : ℕ). FirstAlive s n y) e x)) (record { much = w .much; wrote = w .wrote })
 
-  pub leaf-result : (dft fuel r u : ℕ) (o2 : List ℕ) → length o < fuel → r < n → FirstAlive s n r → ncols ≡ 0
-      → Wrote (hit (rule-of rows r) (plan-of rows r) (bound a rows vis r (getD cur r 0))) 0 u o o2 → Wrote (tree-of g dft fuel) base u o o2
-  leaf-result dft fuel r u o2 f i x c w = rw (tree-hit g dft fuel r (omega arith) i x c) (record { much = w .much; wrote = w .wrote })
+  pub leaf-result : (fuel r u : ℕ) (o2 : List ℕ) → length o < fuel → r < n → FirstAlive s n r → ncols ≡ 0
+      → Wrote (hit (rule-of rows r) (plan-of rows r) (bound a rows vis r (getD cur r 0))) 0 u o o2 → Wrote (tree-of g (default-in rows) fuel) base u o o2
+  leaf-result fuel r u o2 f i x c w = rw (tree-hit g (default-in rows) fuel r (omega arith) i x c) (record { much = w .much; wrote = w .wrote })
 
 pub lower-ok : (n vn : ℕ) (re : ℕ → Bool) (cur vis cur2 vis2 cur3 : List ℕ) → Raised n re vn cur vis cur2 vis2 → cur3 ≡ cur2 → (r : ℕ) → r < n → re r ≡ true → 0 < getD cur3 r 0
 lower-ok n vn re cur vis cur2 vis2 cur3 u e r l i = rw e (omega (arith, u .cursor r l, ap one-if i))

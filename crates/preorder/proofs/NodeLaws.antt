@@ -4,7 +4,7 @@ use mathlib.Core.Logic.{_⊎_}
 use mathlib.Core.List.{List, [], _∷_, _++_, map}
 use mathlib.Core.Option.{Option, none, some}
 use mathlib.Core.Bool.{Bool, true, false, _&&_, cond}
-use Prim.Native.Nat.{ℕ, zero, suc, _+_, _-_, _≤_, _<_, min}
+use Prim.Native.Nat.{ℕ, zero, suc, _+_, _-_, _≤_, _<_}
 use native.Mathlib.Omega.{arith}
 use lib.ListN.{length, getD, drop, set}
 use Rattle.cell.specs.Cell.{kind-tag}
@@ -18,7 +18,6 @@ use Rattle.pattern.specs.Limits.{pattern-limit}
 use Rattle.rowlist.proofs.Kinded.{sized-kind}
 use Rattle.tree.proofs.RunFacts.{some-word}
 use Rattle.tree.specs.Tree.{Tree, Line, default, hit, skip, refined, taken, passed, after, compile, branches, branch, children}
-use Rattle.tree.specs.Words.{words, layout}
 use Rattle.path.specs.Alive.{member, FirstAlive}
 use Rattle.path.specs.Standing.{At, refined-cell, tag-of, allowed-of}
 use Rattle.path.specs.State.{options, State, RowIs, LineAt, Raised, real-of, cell-of, own-of, stop-of, rule-of, plan-of, bound, one-if}
@@ -32,11 +31,6 @@ use Rattle.path.proofs.StepLaws.{real-room, real-tag}
 -- no room
 pub no-room : (T : Tree) (base : ℕ) (o o2 : List ℕ) → length o ≡ 0 → Wrote T base 1 o o2
 no-room T base o o2 e = record { much = omega (arith, some-word T); wrote = λ h. absurd (omega (arith, some-word T)) }
-
--- 0
-pub wrote-default : (d base : ℕ) (o : List ℕ) → 0 < length o → Wrote (default d) base 1 o (set o 0 0)
-wrote-default d base [] h = absurd (omega arith)
-wrote-default d base (x ∷ o) h = record { much = omega arith; wrote = λ w. refl }
 
 -- 3
 pub wrote-skip : (T : Tree) (base u : ℕ) (o o2 : List ℕ) → 0 < length o → Wrote T (suc base) u (drop 1 o) o2 → Wrote (skip T) base (u + 1) o (3 ∷ o2)

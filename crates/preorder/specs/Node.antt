@@ -1,6 +1,6 @@
 -- What the writer is given at a node, and the tree that it writes.
 use mathlib.Core.Path.{_≡_}
-use mathlib.Core.List.{List, [], _∷_, _++_, map}
+use mathlib.Core.List.{List, _∷_, _++_, map}
 use mathlib.Core.Option.{Option}
 use Prim.Native.Nat.{ℕ, suc, _+_, _*_, _^_, _≤_, _<_}
 use lib.ListN.{length, getD}
@@ -11,7 +11,7 @@ use Rattle.pattern.specs.Limits.{pattern-limit}
 use Rattle.tree.specs.Tree.{Tree, Line, taken, after, compile, branches, branch, children}
 use Rattle.tree.specs.Limits.{row-limit}
 use Rattle.path.specs.Alive.{member}
-use Rattle.path.specs.State.{options, State, Raised, Kept, real-of, Indexed}
+use Rattle.path.specs.State.{options, State, Raised, Kept, real-of, Indexed, default-in}
 use Rattle.signature.specs.Limits.{word-limit}
 use Rattle.path.specs.Wrote.{Wrote}
 
@@ -47,7 +47,7 @@ pub record Branching (t a rows : List ℕ) (n : ℕ) (s re cur vis : List ℕ) (
 abbrev pub lines : {t a rows : List ℕ} {n : ℕ} {s cur vis : List ℕ} {ncols v base len : ℕ} → Given t a rows n s cur vis ncols v base len → List Line
 lines {n = n} g = somes (options (g .f) 0 n)
 
--- the tree of the lines, whatever the default's plan and however far the bound on visits reaches
+-- the tree of the lines, for a default's plan, however far the bound on visits reaches
 abbrev pub tree-of : {t a rows : List ℕ} {n : ℕ} {s cur vis : List ℕ} {ncols v base len : ℕ} → Given t a rows n s cur vis ncols v base len → ℕ → ℕ → Tree
 tree-of {v = v} g dft fuel = compile dft fuel (g .known .sig) (g .ks) (lines g) v
 
@@ -69,11 +69,11 @@ pub record WorkKept (n : ℕ) (cur vis cur′ vis′ : List ℕ) : Type 0 where
   pub visits : Kept n cur vis vis′
   pub long : length vis′ ≡ length vis
 
--- the tree of what is given, first in o′, and so many words; whatever bound is above the room reaches far enough
+-- the tree of what is given, with the default's plan of the table of rows, first in o′, and so many words; whatever bound is above the room reaches far enough
 pub record NodeWrote (t a rows : List ℕ) (n : ℕ) (s cur vis : List ℕ) (ncols v base : ℕ) (o : List ℕ) (u : ℕ) (o′ cur′ vis′ : List ℕ) : Type 0 where
-  pub wrote : (g : Given t a rows n s cur vis ncols v base (length o)) (dft fuel : ℕ) → length o < fuel → Wrote (tree-of g dft fuel) base u o o′
+  pub wrote : (g : Given t a rows n s cur vis ncols v base (length o)) (fuel : ℕ) → length o < fuel → Wrote (tree-of g (default-in rows) fuel) base u o o′
   pub kept : WorkKept n cur vis cur′ vis′
 
 pub record BranchWrote (t a rows : List ℕ) (n : ℕ) (s re cur vis : List ℕ) (ncols v base k : ℕ) (o : List ℕ) (u : ℕ) (o′ cur′ vis′ : List ℕ) : Type 0 where
-  pub wrote : (g : Branching t a rows n s re cur vis ncols v base (length o) k) (dft fuel : ℕ) → length o ≤ fuel → Wrote (branch-of g dft fuel) base u o o′
+  pub wrote : (g : Branching t a rows n s re cur vis ncols v base (length o) k) (fuel : ℕ) → length o ≤ fuel → Wrote (branch-of g (default-in rows) fuel) base u o o′
   pub kept : WorkKept n cur vis cur′ vis′

@@ -7,6 +7,7 @@ use column::heads;
 use column::keep;
 use front::front as put_front;
 use front::front_words;
+use leaf::default_leaf;
 use leaf::leaf;
 use path::alive::SET_WORDS;
 use path::alive::first_alive;
@@ -19,7 +20,6 @@ use sets::heads::without;
 use signature::decoded::DECODED;
 use signature::decoded::first_of;
 use signature::decoded::head_arity;
-use tree::words::DEFAULT;
 use tree::words::SKIP;
 use visits::blank;
 use visits::lower;
@@ -104,8 +104,7 @@ fn visit(
     }
     let r = first_alive(s, n);
     if r == n {
-        out[0] = DEFAULT;
-        return 1;
+        return default_leaf(rows, out);
     }
     if ncols == 0 {
         return leaf(a, rows, r, cur, vis, out);

@@ -14,7 +14,6 @@ use Rattle.signature.proofs.Tests.{pair-first}
 use Rattle.booking.proofs.PartLaws.{Of, there, missing}
 use Rattle.tree.specs.Answer.{Answer}
 use Rattle.tree.specs.Leaf.{Treed}
-use Rattle.tree.specs.Limits.{default-plan}
 use Rattle.tree.specs.Run.{run, run-words}
 use Rattle.tree.specs.RunCall.{RunCall, refusal, run-at, run-booking, run-signature}
 use Rattle.tree.specs.Tree.{Tree}
@@ -38,16 +37,16 @@ module _ {t : List ℕ} (g : Known t) (tree bs : List ℕ) where
   pub booked : true ≡ is-some (read-booking (g .sig) bs) → Booked t bs
   booked e = let (v, r) = there (read-booking (g .sig) bs) e in record { known = g; value = v; read = r }
 
-  pub walked : (r : Ran) (e : true ≡ is-some (read-booking (g .sig) bs)) → ((k : Booked t bs) → outcome r ≡ run-at (run default-plan (length tree) (k .known .sig) tree 0 (vcons (k .value) vnil) 0 [])) → outcome r ≡ run-booking (g .sig) tree (read-booking (g .sig) bs)
+  pub walked : (r : Ran) (e : true ≡ is-some (read-booking (g .sig) bs)) → ((k : Booked t bs) → outcome r ≡ run-at (run (length tree) (k .known .sig) tree 0 (vcons (k .value) vnil) 0 [])) → outcome r ≡ run-booking (g .sig) tree (read-booking (g .sig) bs)
   walked r e f = go (there (read-booking (g .sig) bs) e)
     where
       go : (v : Value) × (read-booking (g .sig) bs ≡ some v) → outcome r ≡ run-booking (g .sig) tree (read-booking (g .sig) bs)
       go (v, q) = f (record { known = g; value = v; read = q }) ∙ rw q
 
-not-refused : (ss bs behind : List ℕ) (sig : Signature) (v : Value) (t : Tree) → read-signature ss ≡ some sig → read-booking sig bs ≡ some v → Treed sig (0 ∷ []) 0 t → (number : ℕ) (a : Answer) → RunCall ss (layout t 0 ++ behind) bs number a → number ≡ 0
-not-refused ss bs behind sig v t e f h number a c =
-    let (b, q) = tree-laws.laws .never-broken default-plan sig (ss, e) t h behind bs v f in
-    let w : run-signature (read-signature ss) (layout t 0 ++ behind) bs ≡ run-at (run-words default-plan sig (layout t 0 ++ behind) bs) = rw (e, f) in
+not-refused : (ss bs behind : List ℕ) (sig : Signature) (v : Value) (t : Tree) (dft : ℕ) → read-signature ss ≡ some sig → read-booking sig bs ≡ some v → Treed dft sig (0 ∷ []) 0 t → (number : ℕ) (a : Answer) → RunCall ss (layout t 0 ++ behind) bs number a → number ≡ 0
+not-refused ss bs behind sig v t dft e f h number a c =
+    let (b, q) = tree-laws.laws .never-broken dft sig (ss, e) t h behind bs v f in
+    let w : run-signature (read-signature ss) (layout t 0 ++ behind) bs ≡ run-at (run-words sig (layout t 0 ++ behind) bs) = rw (e, f) in
     pair-first (c .result-is ∙ w ∙ ap run-at q)
 
 pub laws : Laws

@@ -20,10 +20,10 @@ use Rattle.signature.proofs.ListFacts.{at-drop, at-out, drop-exact}
 use Rattle.signature.proofs.Tests.{le-of, lt-of-not}
 use Rattle.signature.proofs.Values.{length-code, some-size}
 use Rattle.tree.specs.Answer.{Answer, no-rule}
-use Rattle.tree.specs.Run.{run, vjoin, at-hit, at-test, at-split, at-skip, rise-to, place-of}
+use Rattle.tree.specs.Run.{run, vjoin, at-default, at-hit, at-test, at-split, at-skip, rise-to, place-of}
 use Rattle.tree.proofs.RunFuel.{run-enough}
 use Rattle.tree.proofs.TreeFacts.{kindeds-join}
-use Rattle.nodes.specs.Step.{link-at, link-step, hit-step, test-step, split-step, skip-step, word-step, step-at}
+use Rattle.nodes.specs.Step.{link-at, link-step, default-step, hit-step, test-step, split-step, skip-step, word-step, step-at}
 use Rattle.nodes.specs.declared.node.Step.{Step}
 use Rattle.nodes.specs.declared.node.Step.the-variants.{Default, Hit, On, Broken}
 use Rattle.run.specs.Hit.{hit-at}
@@ -32,13 +32,13 @@ join-codes : (us vs : Values) → codes (vjoin us vs) ≡ codes us ++ codes vs
 join-codes vnil vs = refl
 join-codes (vcons u us) vs = rw (join-codes us vs, append-assoc (code u) (codes us) (codes vs))
 
-module _ (dft : ℕ) (sig : Signature) (tree : List ℕ) where
+module _ (sig : Signature) (tree : List ℕ) where
   -- the bound is always the tree's length
   abbrev pub run-from : ℕ → Values → ℕ → List ℕ → Option Answer
-  run-from i vs j visits = run dft (length tree) sig tree i vs j visits
+  run-from i vs j visits = run (length tree) sig tree i vs j visits
 
-  unrolled : (i : ℕ) (vs : Values) (j : ℕ) (visits : List ℕ) → run-from i vs j visits ≡ run dft (suc (length tree)) sig tree i vs j visits
-  unrolled i vs j visits = run-enough dft sig tree (length tree) (suc (length tree)) i vs j visits (omega arith) (omega arith)
+  unrolled : (i : ℕ) (vs : Values) (j : ℕ) (visits : List ℕ) → run-from i vs j visits ≡ run (suc (length tree)) sig tree i vs j visits
+  unrolled i vs j visits = run-enough sig tree (length tree) (suc (length tree)) i vs j visits (omega arith) (omega arith)
 
   outside : (i : ℕ) (vs : Values) (j : ℕ) (visits : List ℕ) → length tree ≤ i → run-from i vs j visits ≡ none
   outside i vs j visits l = unrolled i vs j visits ∙ rw (at-out tree i l)
@@ -58,7 +58,7 @@ module _ (dft : ℕ) (sig : Signature) (tree : List ℕ) where
 
     -- where a step leads a run with the result r
     abbrev pub Leads : Option Answer → Step → Type 0
-    Leads r Default = r ≡ some (no-rule dft)
+    Leads r (Default p) = r ≡ some (no-rule p)
     Leads r Hit = r ≡ hit-at (drop i tree) visits
     Leads r (On d m) = More r d m
     Leads r Broken = r ≡ none
@@ -77,6 +77,13 @@ module _ (dft : ℕ) (sig : Signature) (tree : List ℕ) where
     leads-when : (b : Bool) (r : Option Answer) (h : Option ℕ) → (b ≡ true → Leads r (link-step h)) → Leads (require b >>= λ u. r) (link-step (require b >>= λ u. h))
     leads-when true r h x = x refl
     leads-when false r h x = refl
+
+  default-law : (i : ℕ) (vs : Values) (j : ℕ) (visits : List ℕ) → Leads i vs j visits (at-default tree i vs j visits) (default-step (getElem? (drop i tree) 1))
+  default-law i vs j visits = subst (λ o. Leads i vs j visits (o >>= λ p. some (no-rule p)) (default-step (getElem? (drop i tree) 1))) (sym (at-drop tree i 1)) (go (getElem? (drop i tree) 1))
+    where
+      go : (o : Option ℕ) → Leads i vs j visits (o >>= λ p. some (no-rule p)) (default-step o)
+      go none = refl
+      go (some p) = refl
 
   hit-law : (i : ℕ) (vs : Values) (j : ℕ) (visits : List ℕ) → Leads i vs j visits (at-hit tree i vs j visits) (hit-step vs)
   hit-law i vnil j visits = rw (at-drop tree i 1, at-drop tree i 2, at-drop tree i 3, ← drop-drop 4 i tree)
@@ -140,6 +147,6 @@ module _ (dft : ℕ) (sig : Signature) (tree : List ℕ) where
   pub step-law : (i : ℕ) (vs : Values) (j : ℕ) (visits : List ℕ) {ks : List ℕ} → OfKinds sig ks vs → i ≤ length tree → Leads i vs j visits (run-from i vs j visits) (step-at sig (drop i tree) i vs)
   step-law i vs j visits k l = subst (λ r. Leads i vs j visits r (step-at sig (drop i tree) i vs)) (sym (unrolled i vs j visits)) (go (getElem? (drop i tree) 0) (ap (getElem? tree) (sym (add-zero i)) ∙ at-drop tree i 0))
     where
-      go : (o : Option ℕ) → getElem? tree i ≡ o → Leads i vs j visits (run dft (suc (length tree)) sig tree i vs j visits) (word-step sig (drop i tree) i vs o)
+      go : (o : Option ℕ) → getElem? tree i ≡ o → Leads i vs j visits (run (suc (length tree)) sig tree i vs j visits) (word-step sig (drop i tree) i vs o)
       go none e = rw e
-      go (some w) e = rw e (leads-cond i vs j visits (eqb w 0) _ _ _ _ refl (leads-cond i vs j visits (eqb w 1) _ _ _ _ (hit-law i vs j visits) (leads-cond i vs j visits (eqb w 2) _ _ _ _ (test-law i vs j visits k l) (leads-cond i vs j visits (eqb w 3) _ _ _ _ (skip-law i vs j visits k (at-below tree i w e)) (leads-cond i vs j visits (eqb w 4) _ _ _ _ (split-law i vs j visits k l) refl)))))
+      go (some w) e = rw e (leads-cond i vs j visits (eqb w 0) _ _ _ _ (default-law i vs j visits) (leads-cond i vs j visits (eqb w 1) _ _ _ _ (hit-law i vs j visits) (leads-cond i vs j visits (eqb w 2) _ _ _ _ (test-law i vs j visits k l) (leads-cond i vs j visits (eqb w 3) _ _ _ _ (skip-law i vs j visits k (at-below tree i w e)) (leads-cond i vs j visits (eqb w 4) _ _ _ _ (split-law i vs j visits k l) refl)))))

@@ -13,7 +13,6 @@ use Rattle.signature.specs.Limits.{booking-limit}
 use Rattle.signature.specs.Value.{Values, vnil, vcons, code, codes}
 use Rattle.signature.proofs.Values.{booking-lawful}
 use Rattle.tree.specs.Answer.{no-rule}
-use Rattle.tree.specs.Limits.{default-plan}
 use Rattle.tree.specs.RunCall.{refusal, run-at}
 use Rattle.nodes.specs.Parts.{Parts}
 use Rattle.nodes.specs.Step.{step-at}
@@ -30,7 +29,7 @@ pub record Here {table book : List ℕ} (k : Booked table book) (tree visits : L
   pub kinded : OfKinds (k .known .sig) kinds values
   pub words : b ≡ codes values
   pub rest : t ≡ drop node tree
-  pub goes : run-from default-plan (k .known .sig) tree 0 (vcons (k .value) vnil) 0 [] ≡ run-from default-plan (k .known .sig) tree node values place (take n visits)
+  pub goes : run-from (k .known .sig) tree 0 (vcons (k .value) vnil) 0 [] ≡ run-from (k .known .sig) tree node values place (take n visits)
 
 module _ {table book : List ℕ} (k : Booked table book) where
   pub few-words : length book ≤ booking-limit
@@ -49,20 +48,20 @@ module _ {table book : List ℕ} {k : Booked table book} {tree visits : List ℕ
     step-is : s ≡ step-at (k .known .sig) (drop node tree) node (h .values)
     step-is = e parts-of ∙ ap (λ w. step-at (k .known .sig) w node (h .values)) (h .rest)
 
-    leads : (u : Step) → s ≡ u → Leads default-plan (k .known .sig) tree node (h .values) place (take n visits) (run-from default-plan (k .known .sig) tree node (h .values) place (take n visits)) u
-    leads u q = subst (Leads default-plan (k .known .sig) tree node (h .values) place (take n visits) (run-from default-plan (k .known .sig) tree node (h .values) place (take n visits))) (sym step-is ∙ q) (step-law default-plan (k .known .sig) tree node (h .values) place (take n visits) (h .kinded) (omega arith))
+    leads : (u : Step) → s ≡ u → Leads (k .known .sig) tree node (h .values) place (take n visits) (run-from (k .known .sig) tree node (h .values) place (take n visits)) u
+    leads u q = subst (Leads (k .known .sig) tree node (h .values) place (take n visits) (run-from (k .known .sig) tree node (h .values) place (take n visits))) (sym step-is ∙ q) (step-law (k .known .sig) tree node (h .values) place (take n visits) (h .kinded) (omega arith))
 
-    pub broken-here : s ≡ Broken → refusal 15 ≡ run-at (run-from default-plan (k .known .sig) tree 0 (vcons (k .value) vnil) 0 [])
+    pub broken-here : s ≡ Broken → refusal 15 ≡ run-at (run-from (k .known .sig) tree 0 (vcons (k .value) vnil) 0 [])
     broken-here q = sym (ap run-at (h .goes ∙ leads Broken q))
 
-    pub default-here : s ≡ Default → run-at (some (no-rule default-plan)) ≡ run-at (run-from default-plan (k .known .sig) tree 0 (vcons (k .value) vnil) 0 [])
-    default-here q = sym (ap run-at (h .goes ∙ leads Default q))
+    pub default-here : (p : ℕ) → s ≡ Default p → run-at (some (no-rule p)) ≡ run-at (run-from (k .known .sig) tree 0 (vcons (k .value) vnil) 0 [])
+    default-here p q = sym (ap run-at (h .goes ∙ leads (Default p) q))
 
-    pub hit-here : s ≡ Hit → run-at (hit-at t (take n visits)) ≡ run-at (run-from default-plan (k .known .sig) tree 0 (vcons (k .value) vnil) 0 [])
+    pub hit-here : s ≡ Hit → run-at (hit-at t (take n visits)) ≡ run-at (run-from (k .known .sig) tree 0 (vcons (k .value) vnil) 0 [])
     hit-here q = ap (λ w. run-at (hit-at w (take n visits))) (h .rest) ∙ sym (ap run-at (h .goes ∙ leads Hit q))
 
     module _ (d m : ℕ) (q : s ≡ On d m) where
-      more : More default-plan (k .known .sig) tree node (h .values) place (take n visits) (run-from default-plan (k .known .sig) tree node (h .values) place (take n visits)) d m
+      more : More (k .known .sig) tree node (h .values) place (take n visits) (run-from (k .known .sig) tree node (h .values) place (take n visits)) d m
       more = leads (On d m) q
 
       pub ahead : (1 ≤ d) × (d ≤ length t) × (1 ≤ m) × (m ≤ length b)

@@ -14,5 +14,5 @@ use Rattle.tree.specs.Words.{layout}
 
 pub record Laws : Type 0 where
   -- a run over the words of a compiled tree, whatever stands behind them, is not refused: what run promises then has the number 0
-  pub not-refused : (ss bs behind : List ℕ) (sig : Signature) (v : Value) (t : Tree) → read-signature ss ≡ some sig → read-booking sig bs ≡ some v → Treed sig (0 ∷ []) 0 t
+  pub not-refused : (ss bs behind : List ℕ) (sig : Signature) (v : Value) (t : Tree) (dft : ℕ) → read-signature ss ≡ some sig → read-booking sig bs ≡ some v → Treed dft sig (0 ∷ []) 0 t
       → (number : ℕ) (a : Answer) → RunCall ss (layout t 0 ++ behind) bs number a → number ≡ 0

@@ -9,7 +9,6 @@ use tree::words::LAST_NUMBER;
 ghost use mathlib.Core.Path.{_≡_};
 ghost use mathlib.Core.Option.{some};
 ghost use Rattle.tree.specs.Answer.{no-rule};
-ghost use Rattle.tree.specs.Limits.{default-plan};
 ghost use Rattle.tree.specs.RunCall.{refusal, run-at};
 ghost use Rattle.run.specs.Outcome.{outcome};
 ghost use Rattle.run.specs.Hit.{hit-at, hit-binds};
@@ -25,13 +24,14 @@ pub fn refused(n: u16) -> Ran
     }
 }
 
-pub fn no_rule() -> Ran
-    ensures { λ r. ⌜ outcome r ≡ run-at (some (no-rule default-plan)) ⌝ }
+// The default, with its plan.
+pub fn no_rule(plan: u16) -> Ran
+    ensures { λ r. ⌜ outcome r ≡ run-at (some (no-rule plan)) ⌝ }
 {
     Ran {
         number: 0,
         rule: 0,
-        plan: 0,
+        plan: plan,
         places: [UNBOUND; VARIABLES],
     }
 }

@@ -18,7 +18,6 @@ ghost use lib.ListN.{length};
 ghost use Rattle.signature.specs.Decoded.{Known};
 ghost use Rattle.signature.specs.Read.{read-booking};
 ghost use Rattle.signature.specs.Value.{vcons, vnil};
-ghost use Rattle.tree.specs.Limits.{default-plan};
 ghost use Rattle.tree.specs.Run.{run as run-of};
 ghost use Rattle.tree.specs.RunCall.{run-at, run-booking, RunCall};
 ghost use Rattle.run.specs.Outcome.{outcome, ran-answer};
@@ -35,7 +34,7 @@ pub struct Ran {
 // The tree from its node on, and the booking from its current place on. A visit takes a word at least, so there are never too many.
 fn walk_tree(table: &[u16], tree: &[u16], book: &[u16]) -> Ran
     requires { ⌜ Booked (now table) (now book) ⌝ }
-    ensures { λ r. ⌜ ((k : Booked (now (table .entry)) (now (book .entry))) → outcome r ≡ run-at (run-of default-plan (length (now (tree .entry))) (k .known .sig) (now (tree .entry)) 0 (vcons (k .value) vnil) 0 [])) ⌝ }
+    ensures { λ r. ⌜ ((k : Booked (now (table .entry)) (now (book .entry))) → outcome r ≡ run-at (run-of (length (now (tree .entry))) (k .known .sig) (now (tree .entry)) 0 (vcons (k .value) vnil) 0 [])) ⌝ }
 {
     let mut visits = [0u16; BOOKING_LIMIT];
     let mut n = 0;
@@ -49,8 +48,8 @@ fn walk_tree(table: &[u16], tree: &[u16], book: &[u16]) -> Ran
             Step::Broken => {
                 return leaf::refused(TREE_BROKEN);
             }
-            Step::Default => {
-                return leaf::no_rule();
+            Step::Default { plan: p } => {
+                return leaf::no_rule(p);
             }
             Step::Hit => {
                 return leaf::hit(t, &visits[..n]);

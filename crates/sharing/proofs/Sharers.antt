@@ -23,7 +23,7 @@ use Rattle.overlap.specs.Laws.{TwoPatterns}
 use Rattle.witness.specs.Lists.{Shown}
 use Rattle.witness.proofs.Laws.{laws}
 use Rattle.table.specs.Calls.{Entered, Shows}
-use Rattle.table.specs.Limits.{limits, table-length}
+use Rattle.table.specs.Limits.{limits, table-length, rules-at}
 use Rattle.table.specs.Rule.{Rule, Rises, rises-cons}
 use Rattle.table.proofs.Reckoning.{in-above}
 use Rattle.table.proofs.SoundFacts.{sound-table}
@@ -78,7 +78,7 @@ module _ {t table rows : List ℕ} {at n : ℕ} (g : GivenSharer t table rows at
     pub code-is : drop j rows ≡ lists-for (g .force .known .sig) (patterns after) ++ g .force .ready .rest
     pub none : (s : Rule) → In s before → SharesBooking (g .force .known .sig) (g .ws) (s .pattern) → ⊥
 
-  pub start : Mid 1 0 0
+  pub start : Mid rules-at 0 0
   start = record { before = []; after = g .force .rs; walked = walk-start (g .force .rs); code-is = g .force .ready .code-is; none = λ s i. no-in i }
 
   module _ {place j i : ℕ} (l : Mid place j i) where

@@ -1,23 +1,21 @@
 -- A table emptied, a rule put in and taken out, as equations of lists.
 use mathlib.Core.Path.{_≡_, refl, ap, ap₂, sym, _∙_, subst}
 use mathlib.Core.List.{List, [], _∷_, _++_, append-assoc, append-nil}
-use mathlib.Core.Bool.{true, false}
-use Prim.Native.Nat.{ℕ, zero, suc, _+_, _-_, _*_, _≤_, _<_}
+use Prim.Native.Nat.{ℕ, zero, suc, _+_, _-_, _≤_, _<_}
 use native.Mathlib.Omega.{arith}
 use lib.Dec.{eqb, ltb}
 use lib.ListN.{length, getD, take, drop, set, replicate, length-append, length-replicate, replicate-append-replicate}
 use lib.Seq.{take-at, drop-at, drop-drop, drop-length, length-take-le}
 use Rattle.signature.specs.Lists.{All, none-left, also}
 use Rattle.signature.proofs.Tests.{eqb-self, eqb-no, ltb-yes, ltb-no}
-use Rattle.pattern.specs.Limits.{pattern-limit}
 use Rattle.shift.proofs.Laws.{Right, inserted}
-use Rattle.table.specs.Limits.{limits, table-length, rule-length}
-use Rattle.table.specs.Rule.{Rule, rule-words, rules-words, stored, add-rule, take-out}
+use Rattle.table.specs.Limits.{limits, table-length, default-at, emptied-default}
+use Rattle.table.specs.Rule.{Rule, rule-words, rules-words, rules-end, default-of, stored, add-rule, take-out}
 use Rattle.table.proofs.TableFacts.{words-few}
 use Rattle.store.specs.Laid.{Holds}
 use Rattle.store.specs.Place.{FreeAt, HeldAt, RuleAt}
 use Rattle.store.specs.Change.{GivenPut, GivenTake}
-use Rattle.store.proofs.LaidFacts.{zeros-left, behind, room, is-stored}
+use Rattle.store.proofs.LaidFacts.{zeros-left, behind, room}
 use Rattle.store.proofs.Walk.{words-append, words-length, parted, rule-at}
 
 -- rules
@@ -35,8 +33,8 @@ take-there : (n : ℕ) (r : Rule) {before after : List Rule} → r .number ≡ n
 take-there n r e none-left a = rw (e, eqb-self n) (kept-above n a)
 take-there n r e (also s l h) a = rw (eqb-no n (s .number) (λ q. omega arith), take-there n r e h a)
 
-stored-is : (rs : List Rule) (lent : List ℕ) → stored limits rs lent ≡ length rs ∷ (rules-words rs ++ behind lent rs)
-stored-is rs lent = ap (λ (x : List ℕ). length rs ∷ x) (append-assoc (rules-words rs) (replicate (zeros-left rs) 0) (drop (table-length limits) lent))
+stored-is : (dft : ℕ) (rs : List Rule) (lent : List ℕ) → stored limits dft rs lent ≡ length rs ∷ (dft ∷ (rules-words rs ++ behind lent rs))
+stored-is dft rs lent = ap (λ (x : List ℕ). length rs ∷ (dft ∷ x)) (append-assoc (rules-words rs) (replicate (zeros-left rs) 0) (drop (table-length limits) lent))
 
 -- words
 
@@ -84,8 +82,8 @@ counted S Y n m e = ap (λ (x : List ℕ). set x 0 m) e
 
 -- the empty table
 
-pub emptied : (t ys : List ℕ) → table-length limits ≤ length t → ys ≡ replicate (length (take (table-length limits) t)) 0 → ys ++ drop (table-length limits) t ≡ stored limits [] t
-emptied t ys l e = ap (λ (x : List ℕ). x ++ drop (table-length limits) t) (e ∙ ap (λ (n : ℕ). replicate n 0) (length-take-le (table-length limits) t l))
+pub emptied : (t ys : List ℕ) → table-length limits ≤ length t → ys ≡ replicate (length (take (table-length limits) t)) 0 → set (ys ++ drop (table-length limits) t) default-at emptied-default ≡ stored limits emptied-default [] t
+emptied t ys l e = ap (λ (x : List ℕ). set (x ++ drop (table-length limits) t) default-at emptied-default) (e ∙ ap (λ (n : ℕ). replicate n 0) (length-take-le (table-length limits) t l))
 
 -- a rule's words
 
@@ -104,15 +102,15 @@ module _ {table : List ℕ} {at number : ℕ} {pattern : List ℕ} (g : GivenPut
   abbrev rule : Rule
   rule = record { number = number; plan = plan; pattern = pattern }
 
-  pub put-room : suc (length (rules-words (g .rs))) + (3 + length pattern) ≤ (table-length limits)
+  pub put-room : rules-end (g .rs) + (3 + length pattern) ≤ (table-length limits)
   put-room = omega (arith, words-few (g .short), g .few, g .short-new)
 
-  pub put-there : at ≤ suc (length (rules-words (g .rs)))
+  pub put-there : at ≤ rules-end (g .rs)
   put-there =
       let f = g .free in
       omega (arith, f .at-is, ap (λ (x : List Rule). length (rules-words x)) (f .are), words-length (f .before) (f .after))
 
-  module _ (T ys : List ℕ) (e d : ℕ) (is-end : e ≡ suc (length (rules-words (g .rs)))) (is-width : d ≡ 3 + length pattern) (moved : T ≡ Right table at e d) (wrote : ys ≡ rule-words rule) where
+  module _ (T ys : List ℕ) (e d : ℕ) (is-end : e ≡ rules-end (g .rs)) (is-width : d ≡ 3 + length pattern) (moved : T ≡ Right table at e d) (wrote : ys ≡ rule-words rule) where
     -- the table before its count rises
     abbrev S : List ℕ
     S = take at T ++ (ys ++ drop (at + d - at) (drop at T))
@@ -123,19 +121,19 @@ module _ {table : List ℕ} {at number : ℕ} {pattern : List ℕ} (g : GivenPut
     abbrev f : FreeAt number (g .rs) at
     f = g .free
 
-    opened : S ≡ (length (f .before ++ f .after) ∷ rules-words (f .before)) ++ (rule-words rule ++ (rules-words (f .after) ++ (replicate (zeros-left (f .before ++ f .after) - length (rule-words rule)) 0 ++ drop (table-length limits) table)))
+    opened : S ≡ (length (f .before ++ f .after) ∷ (default-of table ∷ rules-words (f .before))) ++ (rule-words rule ++ (rules-words (f .after) ++ (replicate (zeros-left (f .before ++ f .after) - length (rule-words rule)) 0 ++ drop (table-length limits) table)))
     opened =
         let h : Holds limits table (f .before ++ f .after) = subst (Holds limits table) (f .are) (g .holds) in
         let w : length (rules-words (g .rs)) ≡ length (rules-words (f .before)) + length (rules-words (f .after)) = ap (λ (x : List Rule). length (rules-words x)) (f .are) ∙ words-length (f .before) (f .after) in
         let v = words-length (f .before) (f .after) in
         let r = put-room in
         let p = f .at-is in
-        S-is ∙ words-in table (length (f .before ++ f .after) ∷ rules-words (f .before)) (rules-words (f .after)) (drop (table-length limits) table) (rule-words rule) (zeros-left (f .before ++ f .after)) at e (length (rule-words rule)) (parted (f .before) (f .after) h) (sym p) (omega arith) (omega arith)
+        S-is ∙ words-in table (length (f .before ++ f .after) ∷ (default-of table ∷ rules-words (f .before))) (rules-words (f .after)) (drop (table-length limits) table) (rule-words rule) (zeros-left (f .before ++ f .after)) at e (length (rule-words rule)) (parted (f .before) (f .after) h) (omega arith) (omega arith) (omega arith)
 
     pub put-count : getD S 0 0 ≡ length (g .rs)
     put-count = first-word S (length (f .before ++ f .after)) _ opened ∙ ap length (sym (f .are))
 
-    pub put-is : set S 0 (getD S 0 0 + 1) ≡ stored limits (add-rule rule (g .rs)) table
+    pub put-is : set S 0 (getD S 0 0 + 1) ≡ stored limits (default-of table) (add-rule rule (g .rs)) table
     put-is =
         let B = f .before in
         let A = f .after in
@@ -148,9 +146,9 @@ module _ {table : List ℕ} {at number : ℕ} {pattern : List ℕ} (g : GivenPut
         let R = replicate (zeros-left (B ++ A) - length (rule-words rule)) 0 ++ drop (table-length limits) table in
         let body : rules-words B ++ (rule-words rule ++ (rules-words A ++ R)) ≡ rules-words (B ++ (rule ∷ A)) ++ behind table (B ++ (rule ∷ A)) = sym (ap₂ (λ (x : List ℕ) (m : ℕ). x ++ (replicate m 0 ++ drop (table-length limits) table)) ws (sym z) ∙ (simp append-assoc)) in
         counted S _ (length (B ++ A)) (getD S 0 0 + 1) opened
-        ∙ ap₂ (λ (m : ℕ) (x : List ℕ). m ∷ x) n body
-        ∙ sym (stored-is (B ++ (rule ∷ A)) table)
-        ∙ ap (λ (x : List Rule). stored limits x table) (sym (ap (add-rule rule) (f .are) ∙ add-there rule (f .below) (f .above)))
+        ∙ ap₂ (λ (m : ℕ) (x : List ℕ). m ∷ (default-of table ∷ x)) n body
+        ∙ sym (stored-is (default-of table) (B ++ (rule ∷ A)) table)
+        ∙ ap (λ (x : List Rule). stored limits (default-of table) x table) (sym (ap (add-rule rule) (f .are) ∙ add-there rule (f .below) (f .above)))
 
 -- a rule taken out
 
@@ -164,24 +162,24 @@ module _ {table : List ℕ} {at : ℕ} (g : GivenTake table at) where
   pub take-reads : RuleAt table at (h .rule)
   take-reads = subst (λ (n : ℕ). RuleAt table n (h .rule)) (sym (h .at-is)) (rule-at (h .before) (h .rule) (h .after) there)
 
-  take-end : suc (length (rules-words (g .rs))) ≡ at + length (rule-words (h .rule)) + length (rules-words (h .after))
+  take-end : rules-end (g .rs) ≡ at + length (rule-words (h .rule)) + length (rules-words (h .after))
   take-end = omega (arith, h .at-is, ap (λ (x : List Rule). length (rules-words x)) (h .are), words-length (h .before) (h .rule ∷ h .after), length-append (rule-words (h .rule)) (rules-words (h .after)))
 
-  pub take-fits : (at + (3 + getD table (at + 2) 0) ≤ suc (length (rules-words (g .rs)))) × (suc (length (rules-words (g .rs))) ≤ (table-length limits))
+  pub take-fits : (at + (3 + getD table (at + 2) 0) ≤ rules-end (g .rs)) × (rules-end (g .rs) ≤ (table-length limits))
   take-fits = (omega (arith, take-reads .length-is, take-end), room (g .holds))
 
-  module _ (S : List ℕ) (e d : ℕ) (is-end : e ≡ suc (length (rules-words (g .rs)))) (is-width : d ≡ 3 + getD table (at + 2) 0) (S-is : S ≡ take at table ++ (take (e - (at + d)) (drop (at + d) table) ++ (replicate d 0 ++ drop e table))) where
-    closed : S ≡ (length (h .before ++ (h .rule ∷ h .after)) ∷ rules-words (h .before)) ++ (rules-words (h .after) ++ (replicate (d + zeros-left (h .before ++ (h .rule ∷ h .after))) 0 ++ drop (table-length limits) table))
+  module _ (S : List ℕ) (e d : ℕ) (is-end : e ≡ rules-end (g .rs)) (is-width : d ≡ 3 + getD table (at + 2) 0) (S-is : S ≡ take at table ++ (take (e - (at + d)) (drop (at + d) table) ++ (replicate d 0 ++ drop e table))) where
+    closed : S ≡ (length (h .before ++ (h .rule ∷ h .after)) ∷ (default-of table ∷ rules-words (h .before))) ++ (rules-words (h .after) ++ (replicate (d + zeros-left (h .before ++ (h .rule ∷ h .after))) 0 ++ drop (table-length limits) table))
     closed =
         let q = take-end in
         let i : length (rule-words (h .rule)) ≡ d = omega (arith, take-reads .length-is) in
-        let p : table ≡ (length (h .before ++ (h .rule ∷ h .after)) ∷ rules-words (h .before)) ++ (rule-words (h .rule) ++ (rules-words (h .after) ++ behind table (h .before ++ (h .rule ∷ h .after)))) = parted (h .before) (h .rule ∷ h .after) there ∙ ap (λ (x : List ℕ). (length (h .before ++ (h .rule ∷ h .after)) ∷ rules-words (h .before)) ++ x) (append-assoc (rule-words (h .rule)) (rules-words (h .after)) _) in
-        S-is ∙ words-out table (length (h .before ++ (h .rule ∷ h .after)) ∷ rules-words (h .before)) (rule-words (h .rule)) (rules-words (h .after)) (drop (table-length limits) table) (zeros-left (h .before ++ (h .rule ∷ h .after))) at e d p (sym (h .at-is)) i (omega arith)
+        let p : table ≡ (length (h .before ++ (h .rule ∷ h .after)) ∷ (default-of table ∷ rules-words (h .before))) ++ (rule-words (h .rule) ++ (rules-words (h .after) ++ behind table (h .before ++ (h .rule ∷ h .after)))) = parted (h .before) (h .rule ∷ h .after) there ∙ ap (λ (x : List ℕ). (length (h .before ++ (h .rule ∷ h .after)) ∷ (default-of table ∷ rules-words (h .before))) ++ x) (append-assoc (rule-words (h .rule)) (rules-words (h .after)) _) in
+        S-is ∙ words-out table (length (h .before ++ (h .rule ∷ h .after)) ∷ (default-of table ∷ rules-words (h .before))) (rule-words (h .rule)) (rules-words (h .after)) (drop (table-length limits) table) (zeros-left (h .before ++ (h .rule ∷ h .after))) at e d p (omega (arith, h .at-is)) i (omega arith)
 
     pub take-count : getD S 0 0 ≡ suc (length (h .before ++ h .after))
     take-count = omega (arith, first-word S (length (h .before ++ (h .rule ∷ h .after))) _ closed, length-append (h .before) (h .rule ∷ h .after), length-append (h .before) (h .after))
 
-    pub take-is : set S 0 (getD S 0 0 - 1) ≡ stored limits (take-out (g .number) (g .rs)) table
+    pub take-is : set S 0 (getD S 0 0 - 1) ≡ stored limits (default-of table) (take-out (g .number) (g .rs)) table
     take-is =
         let B = h .before in
         let A = h .after in
@@ -195,6 +193,6 @@ module _ {table : List ℕ} {at : ℕ} (g : GivenTake table at) where
         let n : getD S 0 0 - 1 ≡ length (B ++ A) = omega (arith, take-count) in
         let body : rules-words B ++ (rules-words A ++ (replicate (d + zeros-left (B ++ (r ∷ A))) 0 ++ drop (table-length limits) table)) ≡ rules-words (B ++ A) ++ behind table (B ++ A) = sym (ap₂ (λ (x : List ℕ) (m : ℕ). x ++ (replicate m 0 ++ drop (table-length limits) table)) (words-append B A) (sym z) ∙ append-assoc (rules-words B) (rules-words A) _) in
         counted S _ (length (B ++ (r ∷ A))) (getD S 0 0 - 1) closed
-        ∙ ap₂ (λ (m : ℕ) (x : List ℕ). m ∷ x) n body
-        ∙ sym (stored-is (B ++ A) table)
-        ∙ ap (λ (x : List Rule). stored limits x table) (sym (ap (take-out (g .number)) (h .are) ∙ take-there (g .number) r (h .number-is) (h .below) (h .above)))
+        ∙ ap₂ (λ (m : ℕ) (x : List ℕ). m ∷ (default-of table ∷ x)) n body
+        ∙ sym (stored-is (default-of table) (B ++ A) table)
+        ∙ ap (λ (x : List Rule). stored limits (default-of table) x table) (sym (ap (take-out (g .number)) (h .are) ∙ take-there (g .number) r (h .number-is) (h .below) (h .above)))

@@ -2,15 +2,15 @@
 use mathlib.Core.Path.{_≡_, refl, ap, sym, _∙_, subst}
 use mathlib.Core.List.{List, [], _∷_, _++_, append-nil}
 use mathlib.Core.Bool.{true, false}
-use Prim.Native.Nat.{ℕ, suc, _+_, _≤_, _<_}
+use Prim.Native.Nat.{ℕ, _+_, _≤_, _<_}
 use native.Mathlib.Omega.{arith}
 use lib.ListN.{length, getD}
 use Rattle.signature.specs.Lists.{All, none-left, also, In, in-here, in-there}
 use Rattle.signature.proofs.ListFacts.{all-append, all-imp, in-any}
 use Rattle.signature.proofs.Tests.{eqb-self, eqb-no}
 use lib.Dec.{eqb}
-use Rattle.table.specs.Limits.{limits, table-length}
-use Rattle.table.specs.Rule.{Rule, Rises, rises-nil, rises-cons, rules-words, held}
+use Rattle.table.specs.Limits.{limits, table-length, rules-at}
+use Rattle.table.specs.Rule.{Rule, Rises, rises-nil, rises-cons, rules-end, held}
 use Rattle.store.specs.Laid.{Holds}
 use Rattle.store.specs.Place.{Walked, NextRule, HeldAt, FreeAt}
 use Rattle.store.proofs.LaidFacts.{is-stored}
@@ -48,7 +48,7 @@ held-nowhere n b a = none-held n (all-append (all-imp (λ r (l : r .number < n) 
 abbrev pub Now : List Rule → ℕ → ℕ → Type 0
 Now rs i at = (before : List Rule) × (after : List Rule) × Walked rs before after i at
 
-pub begin : (rs : List Rule) → Now rs 0 1
+pub begin : (rs : List Rule) → Now rs 0 rules-at
 begin rs = ([], rs, walk-start rs)
 
 module _ {table : List ℕ} {rs : List Rule} (h : Holds limits table rs) (i at : ℕ) where
@@ -57,17 +57,17 @@ module _ {table : List ℕ} {rs : List Rule} (h : Holds limits table rs) (i at :
       let s : NextRule table rs before after i at = walk-step rs before after i at h w (omega (arith, count-is h)) in
       (omega (arith, s .reads .within, s .reads .length-is), (before ++ (s .rule ∷ []), s .later, s .next))
 
-  pub now-end : Now rs i at → getD table 0 0 ≤ i → at ≡ suc (length (rules-words rs))
+  pub now-end : Now rs i at → getD table 0 0 ≤ i → at ≡ rules-end rs
   now-end (before, after, w) l =
       let (e, q) = walk-end w (omega (arith, count-is h)) in
-      w .at-is ∙ ap (λ (x : List Rule). suc (length (rules-words x))) (sym q)
+      w .at-is ∙ ap rules-end (sym q)
 
 -- the walk past the rules below n
 
 abbrev pub Seek : ℕ → List Rule → ℕ → ℕ → Type 0
 Seek n rs i at = (before : List Rule) × (after : List Rule) × Walked rs before after i at × All (λ r. r .number < n) before
 
-pub seek-begin : (n : ℕ) (rs : List Rule) → Seek n rs 0 1
+pub seek-begin : (n : ℕ) (rs : List Rule) → Seek n rs 0 rules-at
 seek-begin n rs = ([], rs, walk-start rs, none-left)
 
 module _ {table : List ℕ} {rs : List Rule} (h : Holds limits table rs) (n i at : ℕ) where

@@ -1,5 +1,5 @@
 -- The layout of a table, read rule by rule.
-use mathlib.Core.Path.{_≡_, refl, ap, ap₂, sym, _∙_}
+use mathlib.Core.Path.{_≡_, refl, ap, ap₂, _∙_}
 use mathlib.Core.List.{List, [], _∷_}
 use mathlib.Core.Option.{Option, none, some}
 use mathlib.Core.Bool.{Bool, true, false, _&&_}
@@ -13,7 +13,7 @@ use Rattle.signature.proofs.ListFacts.{split-none, split-some}
 use Rattle.signature.proofs.Booleans.{and-false}
 use Rattle.signature.proofs.Tests.{eqb-no, ltb-yes, ltb-no, leb-yes, leb-no}
 use Rattle.tree.specs.Limits.{last-number}
-use Rattle.table.specs.Limits.{limits, table-length, rules-length}
+use Rattle.table.specs.Limits.{limits, table-length, rules-length, rules-at}
 use Rattle.table.specs.Rule.{Rule}
 use Rattle.table.specs.Sound.{read-rules}
 use Rattle.store.specs.Head.{from}
@@ -105,11 +105,13 @@ module _ (t : List ℕ) (long : table-length limits ≤ length t) where
 
 pub laid-over : (t : List ℕ) → limits .rules < getD t 0 0 → is-some (laid limits t) ≡ false
 laid-over [] h = refl
-laid-over (n ∷ ws) h = rw (leb-no n (limits .rules) h, and-false (leb (rules-length limits) (length ws)))
+laid-over (n ∷ []) h = refl
+laid-over (n ∷ (d ∷ ws)) h = rw (leb-no n (limits .rules) h, and-false (leb (rules-length limits) (length ws)))
 
-pub laid-start : (t : List ℕ) → table-length limits ≤ length t → getD t 0 0 ≤ limits .rules → is-some (laid limits t) ≡ is-some (read-rules (getD t 0 0 - 0) 0 (from t 1))
+pub laid-start : (t : List ℕ) → table-length limits ≤ length t → getD t 0 0 ≤ limits .rules → is-some (laid limits t) ≡ is-some (read-rules (getD t 0 0 - 0) 0 (from t rules-at))
 laid-start [] l h = absurd (omega arith)
-laid-start (n ∷ ws) l h =
+laid-start (n ∷ []) l h = absurd (omega arith)
+laid-start (n ∷ (d ∷ ws)) l h =
     let z : n - 0 ≡ n = omega arith in
     rw (leb-yes (rules-length limits) (length ws) (omega arith), leb-yes n (limits .rules) h, z)
 

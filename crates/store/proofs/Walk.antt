@@ -1,12 +1,12 @@
 -- A walk over the rules of a table.
-use mathlib.Core.Path.{_≡_, refl, ap, ap₂, sym, _∙_, subst}
+use mathlib.Core.Path.{_≡_, refl, ap, sym, _∙_, subst}
 use mathlib.Core.List.{List, [], _∷_, _++_, append-assoc, append-nil}
 use Prim.Native.Nat.{ℕ, zero, suc, _+_, _-_, _≤_, _<_}
 use native.Mathlib.Omega.{arith}
-use lib.ListN.{length, getD, take, drop, replicate, length-append, length-drop}
+use lib.ListN.{length, getD, take, drop, length-append}
 use lib.Seq.{take-at, drop-at, drop-drop, getD-drop}
-use Rattle.table.specs.Limits.{limits, table-length, rule-head}
-use Rattle.table.specs.Rule.{Rule, rule-words, rules-words}
+use Rattle.table.specs.Limits.{limits, rule-head, rules-at}
+use Rattle.table.specs.Rule.{Rule, rule-words, rules-words, rules-end, default-of}
 use Rattle.store.specs.Laid.{Holds}
 use Rattle.store.specs.Place.{RuleAt, Walked, NextRule}
 use Rattle.store.proofs.LaidFacts.{behind, room, is-stored}
@@ -19,24 +19,24 @@ pub words-length : (before after : List Rule) → length (rules-words (before ++
 words-length before after = ap length (words-append before after) ∙ length-append (rules-words before) (rules-words after)
 
 module _ {table : List ℕ} (before after : List Rule) (h : Holds limits table (before ++ after)) where
-  -- the table as the count, the words of some rules, and what stands behind them
-  pub parted : table ≡ (length (before ++ after) ∷ rules-words before) ++ (rules-words after ++ behind table (before ++ after))
-  parted = is-stored h ∙ ap (λ (x : List ℕ). length (before ++ after) ∷ x) (ap (λ (x : List ℕ). x ++ behind table (before ++ after)) (words-append before after) ∙ append-assoc (rules-words before) (rules-words after) (behind table (before ++ after)))
+  -- the table as the count, the default, the words of some rules, and what stands behind them
+  pub parted : table ≡ (length (before ++ after) ∷ (default-of table ∷ rules-words before)) ++ (rules-words after ++ behind table (before ++ after))
+  parted = is-stored h ∙ ap (λ (x : List ℕ). length (before ++ after) ∷ (default-of table ∷ x)) (ap (λ (x : List ℕ). x ++ behind table (before ++ after)) (words-append before after) ∙ append-assoc (rules-words before) (rules-words after) (behind table (before ++ after)))
 
-  pub from-there : drop (suc (length (rules-words before))) table ≡ rules-words after ++ behind table (before ++ after)
-  from-there = ap (drop (suc (length (rules-words before)))) parted ∙ drop-at (length (before ++ after) ∷ rules-words before) (rules-words after ++ behind table (before ++ after)) (suc (length (rules-words before))) refl
+  pub from-there : drop (rules-end before) table ≡ rules-words after ++ behind table (before ++ after)
+  from-there = ap (drop (rules-end before)) parted ∙ drop-at (length (before ++ after) ∷ (default-of table ∷ rules-words before)) (rules-words after ++ behind table (before ++ after)) (rules-end before) (omega arith)
 
 -- what stands at an index and behind it
 read-from : (table : List ℕ) (at k : ℕ) (ws : List ℕ) → drop at table ≡ ws → getD table (at + k) 0 ≡ getD ws k 0
 read-from table at k ws e = sym (getD-drop at table k 0) ∙ ap (λ (x : List ℕ). getD x k 0) e
 
 module _ {table : List ℕ} (before : List Rule) (r : Rule) (after : List Rule) (h : Holds limits table (before ++ (r ∷ after))) where
-  pub words-at : drop (suc (length (rules-words before))) table ≡ rule-words r ++ (rules-words after ++ behind table (before ++ (r ∷ after)))
+  pub words-at : drop (rules-end before) table ≡ rule-words r ++ (rules-words after ++ behind table (before ++ (r ∷ after)))
   words-at = from-there before (r ∷ after) h ∙ append-assoc (rule-words r) (rules-words after) (behind table (before ++ (r ∷ after)))
 
-  pub rule-at : RuleAt table (suc (length (rules-words before))) r
+  pub rule-at : RuleAt table (rules-end before) r
   rule-at =
-      let at = suc (length (rules-words before)) in
+      let at = rules-end before in
       let rest = rules-words after ++ behind table (before ++ (r ∷ after)) in
       let e : drop at table ≡ rule-words r ++ rest = words-at in
       let zero-more : at + 0 ≡ at = omega arith in
@@ -57,7 +57,7 @@ pattern-part table at r q =
     let n : at + 3 + getD table (at + 2) 0 - (at + 3) ≡ length (r .pattern) = omega (arith, q .length-is) in
     ap (λ (m : ℕ). take m (drop (at + 3) table)) n ∙ q .pattern-is
 
-pub walk-start : (rs : List Rule) → Walked rs [] rs 0 1
+pub walk-start : (rs : List Rule) → Walked rs [] rs 0 rules-at
 walk-start rs = record { are = refl; passed = refl; at-is = refl }
 
 -- a walk ends behind the last rule

@@ -6,7 +6,7 @@ use Prim.Native.Nat.{ℕ, _+_, _<_, _≤_}
 use lib.ListN.{length, getD, take, drop}
 use Rattle.signature.specs.Lists.{All}
 use Rattle.table.specs.Limits.{limits, table-length, rule-head}
-use Rattle.table.specs.Rule.{Rule, packed, held}
+use Rattle.table.specs.Rule.{Rule, rules-end, held}
 use Rattle.store.specs.declared.find.Found.{Found}
 use Rattle.store.specs.declared.find.Found.the-variants.{Held, Free}
 
@@ -22,7 +22,7 @@ pub record RuleAt (table : List ℕ) (at : ℕ) (r : Rule) : Type 0 where
 pub record Walked (rs before after : List Rule) (i at : ℕ) : Type 0 where
   pub are : rs ≡ before ++ after
   pub passed : length before ≡ i
-  pub at-is : at ≡ length (packed before)
+  pub at-is : at ≡ rules-end before
 
 -- the next rule of a walk, and the walk behind it
 pub record NextRule (table : List ℕ) (rs before after : List Rule) (i at : ℕ) : Type 0 where
@@ -41,7 +41,7 @@ pub record HeldAt (n : ℕ) (rs : List Rule) (at : ℕ) : Type 0 where
   pub number-is : rule .number ≡ n
   pub below : All (λ r. r .number < n) before
   pub above : All (λ r. n < r .number) after
-  pub at-is : at ≡ length (packed before)
+  pub at-is : at ≡ rules-end before
   pub is-held : held n rs ≡ true
 
 -- no rule n is held; it would go in there
@@ -51,7 +51,7 @@ pub record FreeAt (n : ℕ) (rs : List Rule) (at : ℕ) : Type 0 where
   pub are : rs ≡ before ++ after
   pub below : All (λ r. r .number < n) before
   pub above : All (λ r. n < r .number) after
-  pub at-is : at ≡ length (packed before)
+  pub at-is : at ≡ rules-end before
   pub not-held : held n rs ≡ false
 
 abbrev pub FoundAt : ℕ → List Rule → Found → Type 0

@@ -1,5 +1,7 @@
 // A table emptied; a rule put in, and taken out.
 use crate::find::end;
+use crate::layout::DEFAULT_AT;
+use crate::layout::EMPTIED_DEFAULT;
 use crate::layout::LENGTH;
 use crate::layout::PLAN;
 use crate::layout::RULE_HEAD;
@@ -13,16 +15,17 @@ ghost use mathlib.Core.List.{[]};
 ghost use Prim.Native.Nat.{_+_, _≤_};
 ghost use lib.ListN.{length};
 ghost use Rattle.pattern.specs.Limits.{pattern-limit};
-ghost use Rattle.table.specs.Limits.{limits, table-length, rule-head};
-ghost use Rattle.table.specs.Rule.{rule-words, stored, add-rule, take-out};
+ghost use Rattle.table.specs.Limits.{limits, table-length, rule-head, emptied-default};
+ghost use Rattle.table.specs.Rule.{rule-words, default-of, stored, add-rule, take-out};
 ghost use Rattle.store.specs.Change.{GivenPut, GivenTake};
 
 // The empty table.
 pub fn clear(table: &mut [u16])
     requires { ⌜ table-length limits ≤ length (now table) ⌝ }
-    ensures { λ _. ⌜ now (table .exit) ≡ stored limits [] (now (table .entry)) ⌝ }
+    ensures { λ _. ⌜ now (table .exit) ≡ stored limits emptied-default [] (now (table .entry)) ⌝ }
 {
     zero(&mut table[0..TABLE]);
+    table[DEFAULT_AT] = EMPTIED_DEFAULT;
 }
 
 // The words of a rule.
@@ -36,10 +39,10 @@ fn write(words: &mut [u16], number: u16, plan: u16, pattern: &[u16])
     copy(&mut words[RULE_HEAD..], pattern);
 }
 
-// The rule goes in at an index that `find` gave; what follows moves on.
+// The rule goes in at an index that `find` gave; what follows moves on, and the default stays.
 pub fn put(table: &mut [u16], at: usize, number: u16, plan: u16, pattern: &[u16])
     requires { ⌜ GivenPut (now table) at number (now pattern) ⌝ }
-    ensures { λ _. ⌜ ((g : GivenPut (now (table .entry)) at number (now (pattern .entry))) → now (table .exit) ≡ stored limits (add-rule (record { number = number; plan = plan; pattern = now (pattern .entry) }) (g .rs)) (now (table .entry))) ⌝ }
+    ensures { λ _. ⌜ ((g : GivenPut (now (table .entry)) at number (now (pattern .entry))) → now (table .exit) ≡ stored limits (default-of (now (table .entry))) (add-rule (record { number = number; plan = plan; pattern = now (pattern .entry) }) (g .rs)) (now (table .entry))) ⌝ }
 {
     let behind = end(table);
     let d = RULE_HEAD + pattern.len();
@@ -51,7 +54,7 @@ pub fn put(table: &mut [u16], at: usize, number: u16, plan: u16, pattern: &[u16]
 // The rule at an index that `find` gave goes; what follows moves back, and zeros follow it.
 pub fn take_out(table: &mut [u16], at: usize)
     requires { ⌜ GivenTake (now table) at ⌝ }
-    ensures { λ _. ⌜ ((g : GivenTake (now (table .entry)) at) → now (table .exit) ≡ stored limits (take-out (g .number) (g .rs)) (now (table .entry))) ⌝ }
+    ensures { λ _. ⌜ ((g : GivenTake (now (table .entry)) at) → now (table .exit) ≡ stored limits (default-of (now (table .entry))) (take-out (g .number) (g .rs)) (now (table .entry))) ⌝ }
 {
     let behind = end(table);
     let d = RULE_HEAD + table[at + LENGTH] as usize;

@@ -4,9 +4,8 @@ use crate::layout::RULE_HEAD;
 use crate::layout::RULES_AT;
 ghost use mathlib.Core.Path.{_≡_};
 ghost use mathlib.Core.List.{List};
-ghost use lib.ListN.{length};
 ghost use Rattle.table.specs.Limits.{limits};
-ghost use Rattle.table.specs.Rule.{Rule, packed};
+ghost use Rattle.table.specs.Rule.{Rule, rules-end};
 ghost use Rattle.store.specs.Laid.{Holds};
 ghost use Rattle.store.specs.Place.{FoundAt};
 
@@ -19,7 +18,7 @@ pub enum Found {
 // The index behind the last rule.
 pub(crate) fn end(table: &[u16]) -> usize
     requires { ⌜ ((rs : List Rule) × Holds limits (now table) rs) ⌝ }
-    ensures { λ r. ⌜ ((rs : List Rule) → Holds limits (now (table .entry)) rs → r ≡ length (packed rs)) ⌝ }
+    ensures { λ r. ⌜ ((rs : List Rule) → Holds limits (now (table .entry)) rs → r ≡ rules-end rs) ⌝ }
 {
     let n = table[0];
     let mut at = RULES_AT;

@@ -10,16 +10,21 @@ ghost use Rattle.table.specs.Limits.{limits, table-length};
 ghost use Rattle.store.specs.Head.{HeadAt, from};
 ghost use Rattle.store.specs.Laid.{laid};
 
-// The rules that a table may hold, the index of the first, and the words before a rule's pattern: number, plan, pattern length.
+// The rules that a table may hold; where its default plan and its first rule stand; the words before a rule's pattern: number, plan, pattern length.
 pub const RULES: u16 = 64;
 
-pub const RULES_AT: usize = 1;
+pub const DEFAULT_AT: usize = 1;
+
+pub const RULES_AT: usize = 2;
 
 pub const RULE_HEAD: usize = 3;
 
 pub const PLAN: usize = 1;
 
 pub const LENGTH: usize = 2;
+
+// The default plan of an emptied table.
+pub const EMPTIED_DEFAULT: u16 = 1;
 
 // The words of a table.
 pub const TABLE: usize = RULES_AT + RULES as usize * (RULE_HEAD + PATTERN_WORDS);

@@ -26,11 +26,11 @@ use Rattle.tree.specs.Cases.{tree-T}
 use Rattle.tree.specs.Limits.{last-number}
 use Rattle.table.specs.Calls.{Entered, Empty, Enter, Compile, CompileFrom, TreeIn, Shows, long-witness, too-large}
 use Rattle.table.specs.CaseT.{CaseT, IntoEmpty}
-use Rattle.table.specs.Cases.{rules-T, ors-8-8, ors-5-13}
-use Rattle.table.specs.Limits.{limits, witness-length}
+use Rattle.table.specs.Cases.{rules-T, table-T, ors-8-8, ors-5-13}
+use Rattle.table.specs.Limits.{limits, witness-length, emptied-default}
 use Rattle.table.specs.ListsOfCalls.{enter, reckon-number, reckon-rules, changed}
 use Rattle.table.specs.Refusals.{entry-refusal}
-use Rattle.table.specs.Rule.{held, stored, table-words}
+use Rattle.table.specs.Rule.{held, stored}
 use Rattle.table.proofs.Cases.{cases}
 use Rattle.table.proofs.Reckoning.{step-enter, entry-start, valid-nil, emptied-is}
 use Rattle.table.proofs.SoundFacts.{sound-valid, sound-start}
@@ -72,48 +72,48 @@ shows-T witness witness′ e h = on-1 (in-cases (h .held))
     on-1 (inr i) = absurd (on-2 (in-cases i))
 
 valid-T : Valid T rules-T
-valid-T = sound-valid T (words-T, refl) (table-words limits rules-T) rules-T refl .0
+valid-T = sound-valid T (words-T, refl) table-T rules-T refl .0
 
-entry-T : (n plan : ℕ) (lent witness after witness′ : List ℕ) (e : Entered) → 1 ≤ n → n ≤ last-number → held n rules-T ≡ false → witness-length ≤ length witness → Enter limits words-T n plan entered (stored limits rules-T lent) witness e after witness′ → (e .number ≡ 12) × (e .sharer ≡ 7) × (e .shown ≡ 3) × (after ≡ stored limits rules-T lent) × (witness′ ≡ 0 ∷ 1 ∷ 4 ∷ drop 3 witness)
-entry-T n plan lent witness after witness′ e low high free l h =
+entry-T : (n plan dft : ℕ) (lent witness after witness′ : List ℕ) (e : Entered) → 1 ≤ n → n ≤ last-number → held n rules-T ≡ false → witness-length ≤ length witness → Enter limits words-T n plan entered (stored limits dft rules-T lent) witness e after witness′ → (e .number ≡ 12) × (e .sharer ≡ 7) × (e .shown ≡ 3) × (after ≡ stored limits dft rules-T lent) × (witness′ ≡ 0 ∷ 1 ∷ 4 ∷ drop 3 witness)
+entry-T n plan dft lent witness after witness′ e low high free l h =
     let long : long-witness witness ≡ true = leb-yes witness-length (length witness) l in
-    let (a, b) = step-enter words-T T refl rules-T lent valid-T h in
+    let (a, b) = step-enter words-T T refl dft rules-T lent valid-T h in
     let m : reckon-number limits T (enter n plan entered witness) rules-T ≡ 12 = rw (long, leb-yes 1 n low, leb-yes n last-number high, free) in
     let rs : reckon-rules limits T (enter n plan entered witness) rules-T ≡ rules-T = ap (λ x. cond (eqb x 0) (changed (enter n plan entered witness) rules-T) rules-T) m in
-    let (x, y, z) = shows-T witness witness′ e (h .on-12 T rules-T (entry-start words-T T refl rules-T lent witness true valid-T long) (a ∙ m)) in
-    (a ∙ m, x, y, b ∙ ap (λ q. stored limits q lent) rs, z)
+    let (x, y, z) = shows-T witness witness′ e (h .on-12 T rules-T (entry-start words-T T refl dft rules-T lent witness true valid-T long) (a ∙ m)) in
+    (a ∙ m, x, y, b ∙ ap (λ q. stored limits dft q lent) rs, z)
 
 never : (bs : List ℕ) (σ : Binds) → Takes T (260 ∷ 261 ∷ []) bs σ → ⊥
 never bs σ (p, v, e, b, f) = exclusive (neg (var 0)) (fits-of (260 ∷ 261 ∷ []) bs (neg (var 0)) v refl b (p, v, e, b, f)) (fails-not fits-var)
 
 -- a sound table with T's rules compiles into TreeIn of T's tree
-tree-of : (lent space space′ : List ℕ) (number len : ℕ) → Compile limits words-T (stored limits rules-T lent) space number len space′ → TreeIn tree-T space number len space′
-tree-of lent space space′ number len k = subst (λ t. TreeIn t space number len space′) (cases .tree) (subst (λ s. CompileFrom s space number len space′) (sound-start words-T T refl (stored limits rules-T lent) rules-T (sound-stored T rules-T lent valid-T)) (k .result-is))
+tree-of : (lent space space′ : List ℕ) (number len : ℕ) → Compile limits words-T (stored limits emptied-default rules-T lent) space number len space′ → TreeIn tree-T space number len space′
+tree-of lent space space′ number len k = subst (λ t. TreeIn t space number len space′) (cases .tree) (subst (λ s. CompileFrom emptied-default s space number len space′) (sound-start words-T T refl (stored limits emptied-default rules-T lent) rules-T (sound-stored T emptied-default rules-T lent valid-T)) (k .result-is))
 
-in-37 : (lent space space′ : List ℕ) (number len : ℕ) → length space ≡ 37 → Compile limits words-T (stored limits rules-T lent) space number len space′ → (number ≡ 0) × (len ≡ 37) × (space′ ≡ tree-T)
-in-37 lent space space′ number len l k =
+in-39 : (lent space space′ : List ℕ) (number len : ℕ) → length space ≡ 39 → Compile limits words-T (stored limits emptied-default rules-T lent) space number len space′ → (number ≡ 0) × (len ≡ 39) × (space′ ≡ tree-T)
+in-39 lent space space′ number len l k =
     let r = tree-of lent space space′ number len k in
-    let fits : too-large tree-T space ≡ false = ap (λ n. ltb n 37 || false) l in
-    (r .number-is ∙ ap (λ b. cond b 14 0) fits, r .length-is ∙ ap (λ b. cond b 0 37) fits, r .space-is ∙ ap (λ b. cond b space (tree-T ++ drop 37 space)) fits ∙ ap (λ z. tree-T ++ z) (drop-of-length-le space {i = 37} (omega (arith, l))))
+    let fits : too-large tree-T space ≡ false = ap (λ n. ltb n 39 || false) l in
+    (r .number-is ∙ ap (λ b. cond b 14 0) fits, r .length-is ∙ ap (λ b. cond b 0 39) fits, r .space-is ∙ ap (λ b. cond b space (tree-T ++ drop 39 space)) fits ∙ ap (λ z. tree-T ++ z) (drop-of-length-le space {i = 39} (omega (arith, l))))
 
-in-36 : (lent space space′ : List ℕ) (number len : ℕ) → length space ≡ 36 → Compile limits words-T (stored limits rules-T lent) space number len space′ → (number ≡ 14) × (len ≡ 0) × (space′ ≡ space)
-in-36 lent space space′ number len l k =
+in-38 : (lent space space′ : List ℕ) (number len : ℕ) → length space ≡ 38 → Compile limits words-T (stored limits emptied-default rules-T lent) space number len space′ → (number ≡ 14) × (len ≡ 0) × (space′ ≡ space)
+in-38 lent space space′ number len l k =
     let r = tree-of lent space space′ number len k in
-    let large : too-large tree-T space ≡ true = ap (λ n. ltb n 37 || false) l in
-    (r .number-is ∙ ap (λ b. cond b 14 0) large, r .length-is ∙ ap (λ b. cond b 0 37) large, r .space-is ∙ ap (λ b. cond b space (tree-T ++ drop 37 space)) large)
+    let large : too-large tree-T space ≡ true = ap (λ n. ltb n 39 || false) l in
+    (r .number-is ∙ ap (λ b. cond b 14 0) large, r .length-is ∙ ap (λ b. cond b 0 39) large, r .space-is ∙ ap (λ b. cond b space (tree-T ++ drop 39 space)) large)
 
 -- the number does not matter where it is lawful
 into-empty : (ws : List ℕ) (k : ℕ) → entry-refusal limits T 1 ws [] ≡ k → IntoEmpty ws k
 into-empty ws k c n plan lent emptied witness after witness′ e low high l h x =
-    let q = step-enter words-T T refl [] lent (valid-nil T) (subst (λ z. Enter limits words-T n plan ws z witness e after witness′) (emptied-is lent emptied h) x) .0 in
+    let q = step-enter words-T T refl emptied-default [] lent (valid-nil T) (subst (λ z. Enter limits words-T n plan ws z witness e after witness′) (emptied-is lent emptied h) x) .0 in
     let m : reckon-number limits T (enter n plan ws witness) [] ≡ entry-refusal limits T 1 ws [] = rw (leb-yes witness-length (length witness) l, leb-yes 1 n low, leb-yes n last-number high) in
     q ∙ m ∙ c
 
 pub case-t : CaseT
 case-t = record {
   computed = cases;
-  tree-in-37 = in-37;
-  tree-in-36 = in-36;
+  tree-in-39 = in-39;
+  tree-in-38 = in-38;
   entry = entry-T;
   not-not = into-empty (260 ∷ 260 ∷ 261 ∷ []) 0 (cases .not-not-admitted);
   takes-all = λ bs v b. (neg (neg (var 0)), v, refl, b, fits-not (fails-not fits-var));

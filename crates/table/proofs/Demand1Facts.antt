@@ -4,7 +4,7 @@ use mathlib.Core.Logic.{_⊎_, inl, inr}
 use mathlib.Core.List.{List, [], _∷_}
 use mathlib.Core.Option.{Option, none, some}
 use mathlib.Core.Bool.{Bool, true, false, cond, not, _&&_, _||_}
-use Prim.Native.Nat.{ℕ, suc, _+_, _≤_, _<_}
+use Prim.Native.Nat.{ℕ, suc, _+_}
 use native.Mathlib.Omega.{arith}
 use lib.Dec.{leb, eqb, ltb}
 use lib.ListN.{length}
@@ -33,15 +33,15 @@ use Rattle.row.specs.Overlap.{ambiguous-plus, shares}
 use Rattle.row.proofs.Exists.{ambiguous-exists, ambiguous-decided, shares-exists, exists-shares}
 use Rattle.signature.proofs.LawfulFacts.{sig-facts, small-0}
 use Rattle.tree.specs.Answer.{Answer}
-use Rattle.tree.specs.Limits.{last-number, tree-limit, default-plan}
+use Rattle.tree.specs.Limits.{last-number, tree-limit}
 use Rattle.tree.specs.Run.{run, run-words}
 use Rattle.tree.specs.RunCall.{RunCall, run-signature, run-booking, run-at}
-use Rattle.table.specs.Calls.{Start, refused, begin, start, on-signature, on-sound, long-table, long-witness, enter-start, enter-number, enter-table, withdraw-number, withdraw-table, too-large, CompileFrom, decide-from, decide-booking, Entered, Empty, Enter, Withdraw, Compile, DecideCall}
-use Rattle.table.specs.Demand1.{FirstOf, Unlawful, Under, ShortTable, ShortWitness, Unsound, OfRulesInForce, NumberOutside, Held, NotHeld, Malformed, WronglyRanged, NotLinear, HeavyWords, AmbiguousWords, Full, UnlawfulBooking, TooLarge, Broken, zeros, part-refusals, empty-refusals, enter-refusals, withdraw-refusals, compile-refusals, decide-refusals, run-refusals, Demand1}
-use Rattle.table.specs.Limits.{limits, table-length, witness-length}
+use Rattle.table.specs.Calls.{Start, refused, begin, start, on-signature, long-table, long-witness, enter-start, enter-number, enter-table, withdraw-number, withdraw-table, set-number, set-table, too-large, CompileFrom, decide-from, decide-booking, Entered, Empty, Enter, Withdraw, SetDefault, Compile, DecideCall}
+use Rattle.table.specs.Demand1.{FirstOf, Unlawful, Under, ShortTable, ShortWitness, Unsound, OfRulesInForce, NumberOutside, Held, NotHeld, Malformed, WronglyRanged, NotLinear, HeavyWords, AmbiguousWords, Full, UnlawfulBooking, TooLarge, Broken, zeros, part-refusals, empty-refusals, enter-refusals, withdraw-refusals, set-refusals, compile-refusals, decide-refusals, run-refusals, Demand1}
+use Rattle.table.specs.Limits.{limits, table-length, witness-length, emptied-default}
 use Rattle.table.specs.Matrix.{tree-words}
 use Rattle.table.specs.Refusals.{entry-refusal, withdrawal-refusal, SharesHeld}
-use Rattle.table.specs.Rule.{Rule, held, total-weight, stored, add-rule, take-out}
+use Rattle.table.specs.Rule.{Rule, default-of, held, total-weight, stored, add-rule, take-out}
 use Rattle.table.specs.Sound.{sound}
 use Rattle.table.proofs.SoundFacts.{sound-table, table-sound}
 
@@ -221,7 +221,7 @@ empty-first before number after h = go (long-table limits before) refl
   where
     go : (b : Bool) → long-table limits before ≡ b → FirstOf (empty-refusals before) number × ((number ≡ 0 → ⊥) → after ≡ before)
     go true q = let e : number ≡ 0 = h .number-is ∙ ap (λ b. cond b 0 2) q in (inr (long-not before q, e), λ f. absurd (f e))
-    go false q = (inl (short-table before q, h .number-is ∙ ap (λ b. cond b 0 2) q), λ f. h .table-is ∙ ap (λ b. cond b (stored limits [] before) before) q)
+    go false q = (inl (short-table before q, h .number-is ∙ ap (λ b. cond b 0 2) q), λ f. h .table-is ∙ ap (λ b. cond b (stored limits emptied-default [] before) before) q)
 
 enter-first : (ss : List ℕ) (n plan : ℕ) (ws before witness : List ℕ) (e : Entered) (after witness′ : List ℕ) → Enter limits ss n plan ws before witness e after witness′ → FirstOf (enter-refusals ss n ws before witness) (e .number) × ((e .number ≡ 0 → ⊥) → after ≡ before) × ((e .number ≡ 12 → ⊥) → (e .sharer ≡ 0) × (e .shown ≡ 0) × (witness′ ≡ witness))
 enter-first ss n plan ws before witness e after witness′ h =
@@ -241,7 +241,7 @@ enter-first ss n plan ws before witness e after witness′ h =
       where
         go : (c : Bool) → eqb (entry-refusal limits sig n ws rs) 0 ≡ c → after ≡ before
         go true q = absurd (f (a ∙ eqb-eq (entry-refusal limits sig n ws rs) 0 q))
-        go false q = b ∙ ap (λ c. cond c (stored limits (add-rule (record { number = n; plan = plan; pattern = ws }) rs) before) before) q
+        go false q = b ∙ ap (λ c. cond c (stored limits (default-of before) (add-rule (record { number = n; plan = plan; pattern = ws }) rs) before) before) q
 
 withdraw-first : (ss : List ℕ) (n : ℕ) (before : List ℕ) (number : ℕ) (after : List ℕ) → Withdraw limits ss n before number after → FirstOf (withdraw-refusals ss n before) number × ((number ≡ 0 → ⊥) → after ≡ before)
 withdraw-first ss n before number after h =
@@ -258,7 +258,15 @@ withdraw-first ss n before number after h =
       where
         go : (c : Bool) → eqb (withdrawal-refusal n rs) 0 ≡ c → after ≡ before
         go true q = absurd (f (a ∙ eqb-eq (withdrawal-refusal n rs) 0 q))
-        go false q = b ∙ ap (λ c. cond c (stored limits (take-out n rs) before) before) q
+        go false q = b ∙ ap (λ c. cond c (stored limits (default-of before) (take-out n rs) before) before) q
+
+set-first : (ss : List ℕ) (plan : ℕ) (before : List ℕ) (number : ℕ) (after : List ℕ) → SetDefault limits ss plan before number after → FirstOf (set-refusals ss before) number × ((number ≡ 0 → ⊥) → after ≡ before)
+set-first ss plan before number after h =
+    (opened ss (long-table limits before) before (short-table before) (long-not before) number set-number (λ m. refl) (h .number-is) (λ sig rs lawful holds e. e), kept (start limits ss (long-table limits before) before) (h .number-is) (h .table-is))
+  where
+    kept : (s : Start) → number ≡ set-number s → after ≡ set-table s plan before → (number ≡ 0 → ⊥) → after ≡ before
+    kept (refused m) a b f = b
+    kept (begin sig rs) a b f = absurd (f a)
 
 compile-first : (ss table space : List ℕ) (number len : ℕ) (space′ : List ℕ) → Compile limits ss table space number len space′ → FirstOf (compile-refusals ss table space) number × ((number ≡ 0 → ⊥) → (len ≡ 0) × (space′ ≡ space))
 compile-first ss table space number len space′ h =
@@ -266,63 +274,63 @@ compile-first ss table space number len space′ h =
   where
     f : Start → ℕ
     f (refused m) = m
-    f (begin sig rs) = cond (too-large (tree-words default-plan sig rs) space) 14 0
+    f (begin sig rs) = cond (too-large (tree-words (default-of table) sig rs) space) 14 0
 
-    number-is : (s : Start) → CompileFrom s space number len space′ → number ≡ f s
+    number-is : (s : Start) → CompileFrom (default-of table) s space number len space′ → number ≡ f s
     number-is (refused m) (a, b, c) = a
     number-is (begin sig rs) r = r .number-is
 
-    large : (sig : Signature) (rs : List Rule) → too-large (tree-words default-plan sig rs) space ≡ true → TooLarge sig rs space
-    large sig rs e = go (ltb (length space) (length (tree-words default-plan sig rs))) refl
+    large : (sig : Signature) (rs : List Rule) → too-large (tree-words (default-of table) sig rs) space ≡ true → TooLarge (default-of table) sig rs space
+    large sig rs e = go (ltb (length space) (length (tree-words (default-of table) sig rs))) refl
       where
-        go : (b : Bool) → ltb (length space) (length (tree-words default-plan sig rs)) ≡ b → TooLarge sig rs space
-        go true q = inl (le-of (suc (length space)) (length (tree-words default-plan sig rs)) q)
-        go false q = inr (le-of (suc tree-limit) (length (tree-words default-plan sig rs)) (rw q at e))
+        go : (b : Bool) → ltb (length space) (length (tree-words (default-of table) sig rs)) ≡ b → TooLarge (default-of table) sig rs space
+        go true q = inl (le-of (suc (length space)) (length (tree-words (default-of table) sig rs)) q)
+        go false q = inr (le-of (suc tree-limit) (length (tree-words (default-of table) sig rs)) (rw q at e))
 
-    not-large : (sig : Signature) (rs : List Rule) → too-large (tree-words default-plan sig rs) space ≡ false → TooLarge sig rs space → ⊥
-    not-large sig rs e (inl l) = true≢false (sym (ltb-yes (length space) (length (tree-words default-plan sig rs)) l) ∙ or-left (ltb (length space) (length (tree-words default-plan sig rs))) (ltb tree-limit (length (tree-words default-plan sig rs))) e)
-    not-large sig rs e (inr l) = true≢false (sym (ltb-yes tree-limit (length (tree-words default-plan sig rs)) l) ∙ or-right (ltb (length space) (length (tree-words default-plan sig rs))) (ltb tree-limit (length (tree-words default-plan sig rs))) e)
+    not-large : (sig : Signature) (rs : List Rule) → too-large (tree-words (default-of table) sig rs) space ≡ false → TooLarge (default-of table) sig rs space → ⊥
+    not-large sig rs e (inl l) = true≢false (sym (ltb-yes (length space) (length (tree-words (default-of table) sig rs)) l) ∙ or-left (ltb (length space) (length (tree-words (default-of table) sig rs))) (ltb tree-limit (length (tree-words (default-of table) sig rs))) e)
+    not-large sig rs e (inr l) = true≢false (sym (ltb-yes tree-limit (length (tree-words (default-of table) sig rs)) l) ∙ or-right (ltb (length space) (length (tree-words (default-of table) sig rs))) (ltb tree-limit (length (tree-words (default-of table) sig rs))) e)
 
-    later : (sig : Signature) (rs : List Rule) → read-signature ss ≡ some sig → sound limits sig table ≡ some rs → number ≡ f (begin sig rs) → FirstOf ((14, OfRulesInForce ss table (λ s r. TooLarge s r space)) ∷ []) number
-    later sig rs lawful holds n-is = test (too-large (tree-words default-plan sig rs) space) (λ q. in-force ss sig lawful table rs holds (λ s r. TooLarge s r space) (large sig rs q)) (λ q. in-force-not ss sig lawful table rs holds (λ s r. TooLarge s r space) (not-large sig rs q)) n-is (λ q e. e)
+    later : (sig : Signature) (rs : List Rule) → read-signature ss ≡ some sig → sound limits sig table ≡ some rs → number ≡ f (begin sig rs) → FirstOf ((14, OfRulesInForce ss table (λ s r. TooLarge (default-of table) s r space)) ∷ []) number
+    later sig rs lawful holds n-is = test (too-large (tree-words (default-of table) sig rs) space) (λ q. in-force ss sig lawful table rs holds (λ s r. TooLarge (default-of table) s r space) (large sig rs q)) (λ q. in-force-not ss sig lawful table rs holds (λ s r. TooLarge (default-of table) s r space) (not-large sig rs q)) n-is (λ q e. e)
 
-    kept : (s : Start) → CompileFrom s space number len space′ → (number ≡ 0 → ⊥) → (len ≡ 0) × (space′ ≡ space)
+    kept : (s : Start) → CompileFrom (default-of table) s space number len space′ → (number ≡ 0 → ⊥) → (len ≡ 0) × (space′ ≡ space)
     kept (refused m) (a, b, c) g = (b, c)
-    kept (begin sig rs) r g = go (too-large (tree-words default-plan sig rs) space) refl
+    kept (begin sig rs) r g = go (too-large (tree-words (default-of table) sig rs) space) refl
       where
-        go : (b : Bool) → too-large (tree-words default-plan sig rs) space ≡ b → (len ≡ 0) × (space′ ≡ space)
+        go : (b : Bool) → too-large (tree-words (default-of table) sig rs) space ≡ b → (len ≡ 0) × (space′ ≡ space)
         go true q = (r .length-is ∙ rw q, r .space-is ∙ rw q)
         go false q = absurd (g (r .number-is ∙ ap (λ b. cond b 14 0) q))
 
 decide-first : (ss table bs : List ℕ) (number : ℕ) (a : Answer) → DecideCall limits ss table bs number a → FirstOf (decide-refusals ss table bs) number × ((number ≡ 0 → ⊥) → a ≡ zeros)
 decide-first ss table bs number a h =
-    (opened ss (long-table limits table) table (short-table table) (long-not table) number (λ s. decide-from s bs .0) (λ m. refl) (ap (λ z. z .0) (h .result-is)) later, kept (start limits ss (long-table limits table) table) (h .result-is))
+    (opened ss (long-table limits table) table (short-table table) (long-not table) number (λ s. decide-from (default-of table) s bs .0) (λ m. refl) (ap (λ z. z .0) (h .result-is)) later, kept (start limits ss (long-table limits table) table) (h .result-is))
   where
-    later : (sig : Signature) (rs : List Rule) → read-signature ss ≡ some sig → sound limits sig table ≡ some rs → number ≡ decide-from (begin sig rs) bs .0 → FirstOf ((13, Under ss (λ s. UnlawfulBooking s bs)) ∷ []) number
+    later : (sig : Signature) (rs : List Rule) → read-signature ss ≡ some sig → sound limits sig table ≡ some rs → number ≡ decide-from (default-of table) (begin sig rs) bs .0 → FirstOf ((13, Under ss (λ s. UnlawfulBooking s bs)) ∷ []) number
     later sig rs lawful holds n-is = go (read-booking sig bs) refl
       where
         go : (o : Option Value) → read-booking sig bs ≡ o → FirstOf ((13, Under ss (λ s. UnlawfulBooking s bs)) ∷ []) number
-        go none q = inl (under ss sig lawful (λ s. UnlawfulBooking s bs) (booking-unlawful ss sig lawful bs q), n-is ∙ ap (λ o. decide-booking sig rs o .0) q)
-        go (some v) q = inr (under-not ss sig lawful (λ s. UnlawfulBooking s bs) (booking-not ss sig lawful bs v q), n-is ∙ ap (λ o. decide-booking sig rs o .0) q)
+        go none q = inl (under ss sig lawful (λ s. UnlawfulBooking s bs) (booking-unlawful ss sig lawful bs q), n-is ∙ ap (λ o. decide-booking (default-of table) sig rs o .0) q)
+        go (some v) q = inr (under-not ss sig lawful (λ s. UnlawfulBooking s bs) (booking-not ss sig lawful bs v q), n-is ∙ ap (λ o. decide-booking (default-of table) sig rs o .0) q)
 
-    kept : (s : Start) → (number, a) ≡ decide-from s bs → (number ≡ 0 → ⊥) → a ≡ zeros
+    kept : (s : Start) → (number, a) ≡ decide-from (default-of table) s bs → (number ≡ 0 → ⊥) → a ≡ zeros
     kept (refused m) e f = ap (λ z. z .1) e
     kept (begin sig rs) e f = go (read-booking sig bs) refl
       where
         go : (o : Option Value) → read-booking sig bs ≡ o → a ≡ zeros
-        go none q = ap (λ z. z .1) (e ∙ ap (decide-booking sig rs) q)
-        go (some v) q = absurd (f (ap (λ z. z .0) (e ∙ ap (decide-booking sig rs) q)))
+        go none q = ap (λ z. z .1) (e ∙ ap (decide-booking (default-of table) sig rs) q)
+        go (some v) q = absurd (f (ap (λ z. z .0) (e ∙ ap (decide-booking (default-of table) sig rs) q)))
 
 run-first : (ss tree bs : List ℕ) (number : ℕ) (a : Answer) → RunCall ss tree bs number a → FirstOf (run-refusals ss tree bs) number × ((number ≡ 0 → ⊥) → a ≡ zeros)
 run-first ss tree bs number a h = go (read-signature ss) refl
   where
-    on-15 : (sig : Signature) → read-signature ss ≡ some sig → (v : Value) → read-booking sig bs ≡ some v → (r : Option Answer) → run default-plan (length tree) sig tree 0 (vcons v vnil) 0 [] ≡ r → FirstOf (run-refusals ss tree bs) number × ((number ≡ 0 → ⊥) → a ≡ zeros)
+    on-15 : (sig : Signature) → read-signature ss ≡ some sig → (v : Value) → read-booking sig bs ≡ some v → (r : Option Answer) → run (length tree) sig tree 0 (vcons v vnil) 0 [] ≡ r → FirstOf (run-refusals ss tree bs) number × ((number ≡ 0 → ⊥) → a ≡ zeros)
     on-15 sig e v q r w = last r w (h .result-is ∙ ap (λ o. run-signature o tree bs) e ∙ ap (run-booking sig tree) q ∙ ap run-at w)
       where
-        broken : (o : Option Answer) → run default-plan (length tree) sig tree 0 (vcons v vnil) 0 [] ≡ o → run-words default-plan sig tree bs ≡ o
+        broken : (o : Option Answer) → run (length tree) sig tree 0 (vcons v vnil) 0 [] ≡ o → run-words sig tree bs ≡ o
         broken o z = rw q z
 
-        last : (r : Option Answer) → run default-plan (length tree) sig tree 0 (vcons v vnil) 0 [] ≡ r → (number, a) ≡ run-at r → FirstOf (run-refusals ss tree bs) number × ((number ≡ 0 → ⊥) → a ≡ zeros)
+        last : (r : Option Answer) → run (length tree) sig tree 0 (vcons v vnil) 0 [] ≡ r → (number, a) ≡ run-at r → FirstOf (run-refusals ss tree bs) number × ((number ≡ 0 → ⊥) → a ≡ zeros)
         last none w x = (inr (is-lawful ss sig e, inr (under-not ss sig e (λ s. UnlawfulBooking s bs) (booking-not ss sig e bs v q), inl (under ss sig e (λ s. Broken s tree bs) (broken none w), ap (λ z. z .0) x))), λ f. ap (λ z. z .1) x)
         last (some b) w x = (inr (is-lawful ss sig e, inr (under-not ss sig e (λ s. UnlawfulBooking s bs) (booking-not ss sig e bs v q), inr (under-not ss sig e (λ s. Broken s tree bs) (λ z. none≢some (sym z ∙ broken (some b) w)), ap (λ z. z .0) x))), λ f. absurd (f (ap (λ z. z .0) x)))
 
@@ -330,7 +338,7 @@ run-first ss tree bs number a h = go (read-signature ss) refl
     on-13 sig e none q =
         let x = h .result-is ∙ ap (λ o. run-signature o tree bs) e ∙ ap (run-booking sig tree) q in
         (inr (is-lawful ss sig e, inl (under ss sig e (λ s. UnlawfulBooking s bs) (booking-unlawful ss sig e bs q), ap (λ z. z .0) x)), λ f. ap (λ z. z .1) x)
-    on-13 sig e (some v) q = on-15 sig e v q (run default-plan (length tree) sig tree 0 (vcons v vnil) 0 []) refl
+    on-13 sig e (some v) q = on-15 sig e v q (run (length tree) sig tree 0 (vcons v vnil) 0 []) refl
 
     go : (o : Option Signature) → read-signature ss ≡ o → FirstOf (run-refusals ss tree bs) number × ((number ≡ 0 → ⊥) → a ≡ zeros)
     go none e =
@@ -339,4 +347,4 @@ run-first ss tree bs number a h = go (read-signature ss) refl
     go (some sig) e = on-13 sig e (read-booking sig bs) refl
 
 pub demand-1 : Demand1
-demand-1 = record { part = part-first; empty = empty-first; enter = enter-first; withdraw = withdraw-first; compile = compile-first; decide = decide-first; run = run-first }
+demand-1 = record { part = part-first; empty = empty-first; enter = enter-first; withdraw = withdraw-first; set-default = set-first; compile = compile-first; decide = decide-first; run = run-first }

@@ -1,32 +1,22 @@
 -- The laws of tables and of the tree of their rules hold, and so does demand 2.
-use mathlib.Core.Logic.{_↔_}
-use mathlib.Core.Path.{_≡_, refl, ap, sym, _∙_}
 use mathlib.Core.List.{List}
-use mathlib.Core.Option.{some}
-use mathlib.Core.Bool.{Bool, true, false, cond}
 use Prim.Native.Nat.{ℕ}
 use lib.ListN.{length}
-use Rattle.signature.specs.Read.{read-signature, Signed}
+use Rattle.signature.specs.Read.{Signed}
 use Rattle.signature.specs.Signature.{Signature}
 use Rattle.signature.proofs.LawfulFacts.{sig-facts}
-use Rattle.signature.proofs.Tests.{leb-yes}
 use Rattle.row.proofs.PassedFacts.{of-passed}
-use Rattle.tree.specs.Limits.{default-plan}
 use Rattle.tree.proofs.CompiledFacts.{compiled-only}
-use Rattle.table.specs.Calls.{refused, begin, Entered, Enter, enter-number, enter-start, long-witness}
 use Rattle.table.specs.Demand2.{Demand2}
 use Rattle.table.specs.Laws.{Laws}
-use Rattle.table.specs.Limits.{limits, table-length}
-use Rattle.table.specs.ListsOfCalls.{enter, reckon-number}
-use Rattle.table.specs.Refusals.{entry-refusal}
-use Rattle.table.specs.Rule.{Rule}
+use Rattle.table.specs.Limits.{limits}
+use Rattle.table.specs.ListsOfCalls.{enter}
+use Rattle.table.specs.Rule.{Rule, default-of}
 use Rattle.table.specs.Sound.{SoundTable}
 use Rattle.table.proofs.ByRelation.{by-relation}
 use Rattle.table.proofs.Demand2Facts.{one-rule, answered, answered-only}
 use Rattle.table.proofs.Outcomes.{first-sharer}
-use Rattle.table.proofs.Reckoning.{twelve-of, of-twelve}
 use Rattle.table.proofs.RunDirect.{run-direct}
-use Rattle.table.proofs.SameTrees.{sound-same-tree}
 use Rattle.table.proofs.SoundFacts.{sound-valid, sound-table, table-sound, sound-decides, sound-runs}
 use Rattle.table.proofs.TableFacts.{Valid, sound-stored}
 use Rattle.table.proofs.TreeCompiled.{tree-compiled}
@@ -38,7 +28,7 @@ valid sig signed table rs h = sound-valid sig signed table rs (table-sound sig s
 pub laws : Laws
 laws = record {
   sound-table = λ sig signed table rs. (sound-table sig signed table rs, table-sound sig signed table rs);
-  stored-read = λ sig signed table lent rs h. sound-stored sig rs lent (valid sig signed table rs h);
+  stored-read = λ sig signed table lent rs h dft. sound-stored sig dft rs lent (valid sig signed table rs h);
   lowest = λ sig signed table rs h ws e.
       let f = first-sharer sig ws (h .rises) e in
       (f .rule, f .held, f .named, f .shares-it, f .lowest);
@@ -53,10 +43,10 @@ pub demand-2 : Demand2
 demand-2 = record {
   decides = λ ss sig lawful table rs h bs v b number a k.
       let (x, y, z) = sound-decides ss sig lawful table rs (table-sound sig (ss, lawful) table rs h) bs number v a b k in
-      (x, by-relation default-plan sig (ss, lawful) table rs h bs v b a z);
+      (x, by-relation (default-of table) sig (ss, lawful) table rs h bs v b a z);
   runs = λ ss sig lawful table rs h space space′ behind len c bs v b number a k.
       let (x, y, z) = sound-runs ss sig lawful table rs (table-sound sig (ss, lawful) table rs h) space space′ behind bs len number v a c b k in
-      (x, by-relation default-plan sig (ss, lawful) table rs h bs v b a z);
+      (x, by-relation (default-of table) sig (ss, lawful) table rs h bs v b a z);
   one-rule = λ dft sig signed r bs v p b. one-rule dft sig r bs v (of-passed sig signed (r .pattern) p) b;
   answered = λ dft sig signed table rs h bs v b. answered dft sig signed rs bs v (valid sig signed table rs h) b;
   one-answer = answered-only;

@@ -14,8 +14,8 @@ use Rattle.signature.proofs.Tests.{true≢false, eqb-eq, eqb-ne}
 use Rattle.row.specs.Overlap.{shares}
 use Rattle.row.proofs.Exists.{shares-exists, exists-shares}
 use Rattle.table.specs.Limits.{limits}
-use Rattle.table.specs.Calls.{Start, refused, begin, start, on-sound, on-signature, Entered, Enter, enter-start, long-table, long-witness, enter-number, enter-table, Shows, withdraw-table, withdraw-number}
-use Rattle.table.specs.ListsOfCalls.{ListCall, Calls, no-call, enter, then-enter, withdraw, then-withdraw}
+use Rattle.table.specs.Calls.{Start, refused, begin, start, on-sound, on-signature, Entered, Enter, enter-start, long-table, long-witness, enter-number, enter-table, Shows, withdraw-table, withdraw-number, set-table, set-number}
+use Rattle.table.specs.ListsOfCalls.{ListCall, Calls, no-call, enter, then-enter, withdraw, then-withdraw, set-default, then-set}
 use Rattle.table.specs.Refusals.{sharer, entry-refusal}
 use Rattle.table.specs.Rule.{Rule, Rises, rises-nil, rises-cons}
 use Rattle.table.specs.Sound.{sound}
@@ -114,6 +114,10 @@ calls-outcome ss (withdraw n ∷ cs) table =
     let st = start limits ss (long-table limits table) table in
     let (ns, last, c) = calls-outcome ss cs (withdraw-table limits st n table) in
     (withdraw-number st n ∷ ns, last, then-withdraw (record { number-is = refl; table-is = refl }) c)
+calls-outcome ss (set-default plan ∷ cs) table =
+    let st = start limits ss (long-table limits table) table in
+    let (ns, last, c) = calls-outcome ss cs (set-table st plan table) in
+    (set-number st ∷ ns, last, then-set (record { number-is = refl; table-is = refl }) c)
 
 -- under an unlawful signature every call gives 1 and writes nothing
 module _ (ss : List ℕ) (unlawful : read-signature ss ≡ none) where
@@ -128,3 +132,6 @@ module _ (ss : List ℕ) (unlawful : read-signature ss ≡ none) where
   unlawful-calls (then-withdraw {n = n} {number = number} {before = before} h c) =
       let (a, b) = unlawful-calls c in
       (also number (h .number-is ∙ ap (λ s. withdraw-number s n) (start-1 (long-table limits before) before)) a, b ∙ h .table-is ∙ ap (λ s. withdraw-table limits s n before) (start-1 (long-table limits before) before))
+  unlawful-calls (then-set {plan = plan} {number = number} {before = before} h c) =
+      let (a, b) = unlawful-calls c in
+      (also number (h .number-is ∙ ap set-number (start-1 (long-table limits before) before)) a, b ∙ h .table-is ∙ ap (λ s. set-table s plan before) (start-1 (long-table limits before) before))

@@ -24,11 +24,11 @@ use Rattle.row.specs.Overlap.{ambiguous-plus, shares}
 use Rattle.row.proofs.Exists.{shares-exists, exists-shares}
 use Rattle.row.proofs.Symmetric.{shares-sym}
 use Rattle.tree.specs.Limits.{last-number}
-use Rattle.table.specs.Calls.{Empty, long-witness, long-table, start, begin, enter-start, refused, Entered, Enter, enter-number, enter-table, Withdraw, withdraw-number, withdraw-table}
+use Rattle.table.specs.Calls.{Empty, long-witness, long-table, start, begin, enter-start, refused, Entered, Enter, enter-number, enter-table, Withdraw, withdraw-number, withdraw-table, SetDefault, set-number, set-table}
 use Rattle.row.proofs.PassedFacts.{passed-of, of-passed}
 use Rattle.table.specs.Demand3.{Earlier}
-use Rattle.table.specs.Limits.{limits, table-length, rule-length, witness-length}
-use Rattle.table.specs.ListsOfCalls.{ListCall, reckon-number, enter, withdraw, numbers-reckoned, reckon-rules, rules-left, Calls, no-call, then-enter, then-withdraw}
+use Rattle.table.specs.Limits.{limits, table-length, rule-length, witness-length, emptied-default}
+use Rattle.table.specs.ListsOfCalls.{ListCall, reckon-number, enter, withdraw, set-default, numbers-reckoned, reckon-rules, reckon-default, rules-left, default-left, Calls, no-call, then-enter, then-withdraw, then-set}
 use Rattle.table.specs.Refusals.{entry-refusal, withdrawal-refusal, SharesHeld}
 use Rattle.table.specs.Rule.{Rule, held, total-weight, rises-nil, table-words, rules-words, stored, Rises, rises-cons, add-rule, take-out}
 use Rattle.table.proofs.TableFacts.{Valid, valid-entry, admitted, valid-withdrawal, words-few, sound-stored, stored-again}
@@ -57,6 +57,7 @@ module _ (sig : Signature) where
 
   pub reckon-not-3 : (c : ListCall) (rs : List Rule) → reckon-number limits sig c rs ≡ 3 → ⊥
   reckon-not-3 (enter n plan ws witness) rs e = none-of (long-witness witness) (entry-refusal limits sig n ws rs) 2 3 (entry-not-3 n ws rs) (λ z. omega arith) e
+  reckon-not-3 (set-default plan) rs e = omega (arith, e)
   reckon-not-3 (withdraw n) rs e = none-of (not (leb 1 n && leb n last-number)) 4 _ 3 (λ z. omega arith) (λ e₁. none-of (not (held n rs)) 6 0 3 (λ z. omega arith) (λ z. omega arith) e₁) e
 
   pub numbers-not-3 : (cs : List ListCall) (rs : List Rule) → All (λ n. n ≡ 3 → ⊥) (numbers-reckoned limits sig cs rs)
@@ -77,6 +78,7 @@ module _ (sig : Signature) where
       go : (b : Bool) → eqb (reckon-number limits sig (enter n plan ws witness) rs) 0 ≡ b → Valid sig (reckon-rules limits sig (enter n plan ws witness) rs)
       go true q = rw q (valid-entry sig (shares-sym sig) n plan ws rs (admitted sig (shares-sym sig) n ws rs (entered (long-witness witness) refl (eqb-eq (reckon-number limits sig (enter n plan ws witness) rs) 0 q))) v)
       go false q = rw q v
+  valid-reckoned (set-default plan) rs v = v
   valid-reckoned (withdraw n) rs v = go (eqb (withdrawal-refusal n rs) 0) refl
     where
       go : (b : Bool) → eqb (withdrawal-refusal n rs) 0 ≡ b → Valid sig (reckon-rules limits sig (withdraw n) rs)
@@ -88,21 +90,21 @@ module _ (sig : Signature) where
   valid-left (c ∷ cs) rs v = valid-left cs (reckon-rules limits sig c rs) (valid-reckoned c rs v)
 
   -- the table's words
-  pub length-table : (rs : List Rule) → Valid sig rs → length (table-words limits rs) ≡ (table-length limits)
-  length-table rs v =
+  pub length-table : (dft : ℕ) (rs : List Rule) → Valid sig rs → length (table-words limits dft rs) ≡ (table-length limits)
+  length-table dft rs v =
       let fits : length (rules-words rs) ≤ rule-length * length rs = words-few (v .short) in
       let few : length rs ≤ limits .rules = v .few in
       simp (length-append, length-replicate) (omega arith)
 
-  pub long-stored : (rs : List Rule) (t : List ℕ) → Valid sig rs → long-table limits (stored limits rs t) ≡ true
-  long-stored rs t v = leb-yes (table-length limits) (length (stored limits rs t)) (omega (arith, length-append (table-words limits rs) (drop (table-length limits) t), length-table rs v))
+  pub long-stored : (dft : ℕ) (rs : List Rule) (t : List ℕ) → Valid sig rs → long-table limits (stored limits dft rs t) ≡ true
+  long-stored dft rs t v = leb-yes (table-length limits) (length (stored limits dft rs t)) (omega (arith, length-append (table-words limits dft rs) (drop (table-length limits) t), length-table dft rs v))
 
 -- a table just emptied
-pub emptied-is : (lent emptied : List ℕ) → Empty limits lent 0 emptied → emptied ≡ stored limits [] lent
+pub emptied-is : (lent emptied : List ℕ) → Empty limits lent 0 emptied → emptied ≡ stored limits emptied-default [] lent
 emptied-is lent emptied h = go (long-table limits lent) refl
   where
-    go : (b : Bool) → long-table limits lent ≡ b → emptied ≡ stored limits [] lent
-    go true q = h .table-is ∙ ap (λ b. cond b (stored limits [] lent) lent) q
+    go : (b : Bool) → long-table limits lent ≡ b → emptied ≡ stored limits emptied-default [] lent
+    go true q = h .table-is ∙ ap (λ b. cond b (stored limits emptied-default [] lent) lent) q
     go false q = absurd (let z : _≡_ {A = ℕ} 0 2 = h .number-is ∙ ap (λ b. cond b 0 2) q in omega arith)
 
 -- rising rules with the same members are the same list
@@ -138,48 +140,61 @@ rises-same (rises-cons {r = r} {rs = rs} a b h) (rises-cons {r = q} {rs = qs} c 
     go (inr i) (inl e) k = same (sym e) k
     go (inr i) (inr j) k = absurd (omega (arith, in-above r l i, in-above q h j))
 
+-- an entry or a withdrawal keeps the default, refused or not
+pub same-kept : (b : Bool) (dft : ℕ) → cond b dft dft ≡ dft
+same-kept true dft = refl
+same-kept false dft = refl
+
 module _ (ss : List ℕ) (sig : Signature) (lawful : read-signature ss ≡ some sig) where
-  pub start-stored : (rs : List Rule) (t : List ℕ) → Valid sig rs → start limits ss true (stored limits rs t) ≡ begin sig rs
-  start-stored rs t v = rw (lawful, sound-stored sig rs t v)
+  pub start-stored : (dft : ℕ) (rs : List Rule) (t : List ℕ) → Valid sig rs → start limits ss true (stored limits dft rs t) ≡ begin sig rs
+  start-stored dft rs t v = rw (lawful, sound-stored sig dft rs t v)
 
-  pub table-start : (rs : List Rule) (t : List ℕ) → Valid sig rs → start limits ss (long-table limits (stored limits rs t)) (stored limits rs t) ≡ begin sig rs
-  table-start rs t v = ap (λ b. start limits ss b (stored limits rs t)) (long-stored sig rs t v) ∙ start-stored rs t v
+  pub table-start : (dft : ℕ) (rs : List Rule) (t : List ℕ) → Valid sig rs → start limits ss (long-table limits (stored limits dft rs t)) (stored limits dft rs t) ≡ begin sig rs
+  table-start dft rs t v = ap (λ b. start limits ss b (stored limits dft rs t)) (long-stored sig dft rs t v) ∙ start-stored dft rs t v
 
-  pub entry-start : (rs : List Rule) (t witness : List ℕ) (b : Bool) → Valid sig rs → long-witness witness ≡ b → enter-start limits ss (stored limits rs t) witness ≡ cond b (begin sig rs) (refused 2)
-  entry-start rs t witness true v q = ap₂ (λ x y. start limits ss (x && y) (stored limits rs t)) (long-stored sig rs t v) q ∙ start-stored rs t v
-  entry-start rs t witness false v q = ap₂ (λ x y. start limits ss (x && y) (stored limits rs t)) (long-stored sig rs t v) q ∙ rw lawful
+  pub entry-start : (dft : ℕ) (rs : List Rule) (t witness : List ℕ) (b : Bool) → Valid sig rs → long-witness witness ≡ b → enter-start limits ss (stored limits dft rs t) witness ≡ cond b (begin sig rs) (refused 2)
+  entry-start dft rs t witness true v q = ap₂ (λ x y. start limits ss (x && y) (stored limits dft rs t)) (long-stored sig dft rs t v) q ∙ start-stored dft rs t v
+  entry-start dft rs t witness false v q = ap₂ (λ x y. start limits ss (x && y) (stored limits dft rs t)) (long-stored sig dft rs t v) q ∙ rw lawful
 
-  pub step-enter : (rs : List Rule) (t : List ℕ) {n plan : ℕ} {ws witness after witness′ : List ℕ} {e : Entered} → Valid sig rs → Enter limits ss n plan ws (stored limits rs t) witness e after witness′ → (e .number ≡ reckon-number limits sig (enter n plan ws witness) rs) × (after ≡ stored limits (reckon-rules limits sig (enter n plan ws witness) rs) t)
-  step-enter rs t {n} {plan} {ws} {witness} {after} {witness′} {e} v h = go (long-witness witness) refl
+  pub step-enter : (dft : ℕ) (rs : List Rule) (t : List ℕ) {n plan : ℕ} {ws witness after witness′ : List ℕ} {e : Entered} → Valid sig rs → Enter limits ss n plan ws (stored limits dft rs t) witness e after witness′ → (e .number ≡ reckon-number limits sig (enter n plan ws witness) rs) × (after ≡ stored limits dft (reckon-rules limits sig (enter n plan ws witness) rs) t)
+  step-enter dft rs t {n} {plan} {ws} {witness} {after} {witness′} {e} v h = go (long-witness witness) refl
     where
-      r : Rule
-      r = record { number = n; plan = plan; pattern = ws }
-
-      told : (b : Bool) → eqb (entry-refusal limits sig n ws rs) 0 ≡ b → cond b (stored limits (add-rule (record { number = n; plan = plan; pattern = ws }) rs) (stored limits rs t)) (stored limits rs t) ≡ stored limits (cond b (add-rule (record { number = n; plan = plan; pattern = ws }) rs) rs) t
-      told true q = stored-again sig (shares-sym sig) rs (add-rule (record { number = n; plan = plan; pattern = ws }) rs) t v
-      told false q = refl
-
-      go : (b : Bool) → long-witness witness ≡ b → (e .number ≡ reckon-number limits sig (enter n plan ws witness) rs) × (after ≡ stored limits (reckon-rules limits sig (enter n plan ws witness) rs) t)
-      go true q = (rw q (h .number-is ∙ ap (λ s. enter-number limits s n ws) (entry-start rs t witness true v q)), rw q (h .table-is ∙ ap (λ s. enter-table limits s n plan ws (stored limits rs t)) (entry-start rs t witness true v q) ∙ told (eqb (entry-refusal limits sig n ws rs) 0) refl))
-      go false q = (rw q (h .number-is ∙ ap (λ s. enter-number limits s n ws) (entry-start rs t witness false v q)), rw q (h .table-is ∙ ap (λ s. enter-table limits s n plan ws (stored limits rs t)) (entry-start rs t witness false v q)))
-
-  pub step-withdraw : (rs : List Rule) (t : List ℕ) {n number : ℕ} {after : List ℕ} → Valid sig rs → Withdraw limits ss n (stored limits rs t) number after → (number ≡ reckon-number limits sig (withdraw n) rs) × (after ≡ stored limits (reckon-rules limits sig (withdraw n) rs) t)
-  step-withdraw rs t {n} v h =
-      (h .number-is ∙ ap (λ s. withdraw-number s n) (table-start rs t v), h .table-is ∙ ap (λ s. withdraw-table limits s n (stored limits rs t)) (table-start rs t v) ∙ told (eqb (withdrawal-refusal n rs) 0))
-    where
-      told : (b : Bool) → cond b (stored limits (take-out n rs) (stored limits rs t)) (stored limits rs t) ≡ stored limits (cond b (take-out n rs) rs) t
-      told true = stored-again sig (shares-sym sig) rs (take-out n rs) t v
+      told : (b : Bool) → cond b (stored limits dft (add-rule (record { number = n; plan = plan; pattern = ws }) rs) (stored limits dft rs t)) (stored limits dft rs t) ≡ stored limits dft (cond b (add-rule (record { number = n; plan = plan; pattern = ws }) rs) rs) t
+      told true = stored-again sig (shares-sym sig) dft dft rs (add-rule (record { number = n; plan = plan; pattern = ws }) rs) t v
       told false = refl
 
-  pub chain : {b last : List ℕ} {cs : List ListCall} {ns : List ℕ} → Calls limits ss b cs ns last → (t : List ℕ) (rs : List Rule) → Valid sig rs → b ≡ stored limits rs t → (ns ≡ numbers-reckoned limits sig cs rs) × (last ≡ stored limits (rules-left limits sig cs rs) t)
-  chain no-call t rs v e = (refl, e)
-  chain (then-enter {n = n} {plan = plan} {ws = ws} {witness = witness} {after = after} {witness′ = witness′} {e = x} h c) t rs v e =
-      let (a, b) = step-enter rs t v (subst (λ z. Enter limits ss n plan ws z witness x after witness′) e h) in
-      let (a′, b′) = chain c t (reckon-rules limits sig (enter n plan ws witness) rs) (valid-reckoned sig (enter n plan ws witness) rs v) b in
+      go : (b : Bool) → long-witness witness ≡ b → (e .number ≡ reckon-number limits sig (enter n plan ws witness) rs) × (after ≡ stored limits dft (reckon-rules limits sig (enter n plan ws witness) rs) t)
+      go true q = (rw q (h .number-is ∙ ap (λ s. enter-number limits s n ws) (entry-start dft rs t witness true v q)), rw q (h .table-is ∙ ap (λ s. enter-table limits s n plan ws (stored limits dft rs t)) (entry-start dft rs t witness true v q) ∙ told (eqb (entry-refusal limits sig n ws rs) 0)))
+      go false q = (rw q (h .number-is ∙ ap (λ s. enter-number limits s n ws) (entry-start dft rs t witness false v q)), rw q (h .table-is ∙ ap (λ s. enter-table limits s n plan ws (stored limits dft rs t)) (entry-start dft rs t witness false v q)))
+
+  pub step-withdraw : (dft : ℕ) (rs : List Rule) (t : List ℕ) {n number : ℕ} {after : List ℕ} → Valid sig rs → Withdraw limits ss n (stored limits dft rs t) number after → (number ≡ reckon-number limits sig (withdraw n) rs) × (after ≡ stored limits dft (reckon-rules limits sig (withdraw n) rs) t)
+  step-withdraw dft rs t {n} v h =
+      (h .number-is ∙ ap (λ s. withdraw-number s n) (table-start dft rs t v), h .table-is ∙ ap (λ s. withdraw-table limits s n (stored limits dft rs t)) (table-start dft rs t v) ∙ told (eqb (withdrawal-refusal n rs) 0))
+    where
+      told : (b : Bool) → cond b (stored limits dft (take-out n rs) (stored limits dft rs t)) (stored limits dft rs t) ≡ stored limits dft (cond b (take-out n rs) rs) t
+      told true = stored-again sig (shares-sym sig) dft dft rs (take-out n rs) t v
+      told false = refl
+
+  step-set : (dft : ℕ) (rs : List Rule) (t : List ℕ) {plan number : ℕ} {after : List ℕ} → Valid sig rs → SetDefault limits ss plan (stored limits dft rs t) number after → (number ≡ 0) × (after ≡ stored limits plan rs t)
+  step-set dft rs t {plan} v h = (h .number-is ∙ ap set-number (table-start dft rs t v), h .table-is ∙ ap (λ s. set-table s plan (stored limits dft rs t)) (table-start dft rs t v))
+
+  pub chain : {b last : List ℕ} {cs : List ListCall} {ns : List ℕ} → Calls limits ss b cs ns last → (t : List ℕ) (dft : ℕ) (rs : List Rule) → Valid sig rs → b ≡ stored limits dft rs t → (ns ≡ numbers-reckoned limits sig cs rs) × (last ≡ stored limits (default-left limits sig cs rs dft) (rules-left limits sig cs rs) t)
+  chain no-call t dft rs v e = (refl, e)
+  chain (then-enter {n = n} {plan = plan} {ws = ws} {witness = witness} {after = after} {witness′ = witness′} {e = x} h c) t dft rs v e =
+      let (a, b) = step-enter dft rs t v (subst (λ z. Enter limits ss n plan ws z witness x after witness′) e h) in
+      let call = enter n plan ws witness in
+      let k = same-kept (eqb (reckon-number limits sig call rs) 0) dft in
+      let (a′, b′) = chain c t (reckon-default limits sig call rs dft) (reckon-rules limits sig call rs) (valid-reckoned sig call rs v) (b ∙ ap (λ d. stored limits d (reckon-rules limits sig call rs) t) (sym k)) in
       (ap₂ (λ m ms. m ∷ ms) a a′, b′)
-  chain (then-withdraw {n = n} {number = number} {after = after} h c) t rs v e =
-      let (a, b) = step-withdraw rs t v (subst (λ z. Withdraw limits ss n z number after) e h) in
-      let (a′, b′) = chain c t (reckon-rules limits sig (withdraw n) rs) (valid-reckoned sig (withdraw n) rs v) b in
+  chain (then-withdraw {n = n} {number = number} {after = after} h c) t dft rs v e =
+      let (a, b) = step-withdraw dft rs t v (subst (λ z. Withdraw limits ss n z number after) e h) in
+      let call = withdraw n in
+      let k = same-kept (eqb (reckon-number limits sig call rs) 0) dft in
+      let (a′, b′) = chain c t (reckon-default limits sig call rs dft) (reckon-rules limits sig call rs) (valid-reckoned sig call rs v) (b ∙ ap (λ d. stored limits d (reckon-rules limits sig call rs) t) (sym k)) in
+      (ap₂ (λ m ms. m ∷ ms) a a′, b′)
+  chain (then-set {plan = plan} {number = number} {after = after} h c) t dft rs v e =
+      let (a, b) = step-set dft rs t v (subst (λ z. SetDefault limits ss plan z number after) e h) in
+      let (a′, b′) = chain c t plan rs v b in
       (ap₂ (λ m ms. m ∷ ms) a a′, b′)
 
   -- refusal 12

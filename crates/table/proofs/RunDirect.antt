@@ -90,7 +90,7 @@ module _ (dft : ℕ) (sig : Signature) where
 
 module _ (dft : ℕ) where
   -- 01: a run of a lawful booking over the tree gives 0 (the tree is not broken) and answers by the rules
-  pub run-direct : (sig : Signature) → Signed sig → (rs : List Rule) → Valid sig rs → (behind bs : List ℕ) (v : Value) → read-booking sig bs ≡ some v → run-words dft sig (tree-words dft sig rs ++ behind) bs ≡ some (direct dft sig rs v)
+  pub run-direct : (sig : Signature) → Signed sig → (rs : List Rule) → Valid sig rs → (behind bs : List ℕ) (v : Value) → read-booking sig bs ≡ some v → run-words sig (tree-words dft sig rs ++ behind) bs ≡ some (direct dft sig rs v)
   unfolding tree-words tree
   run-direct sig signed rs ok behind bs v b =
       let facts = sig-facts sig signed in
@@ -102,5 +102,5 @@ module _ (dft : ℕ) where
       rw b (run-walks dft sig ws facts (length ws) (tree dft sig rs) (0 ∷ []) 0 0 (vcons v vnil) [] (tree-treed dft sig facts rs ok) ks enough (behind, refl) ∙ ap some (ap (to-answer dft) (compile-walks dft sig facts visit-bound (0 ∷ []) (lines sig rs) (vcons v vnil) 0 [] ks (omega arith) (neat-shaped sig facts (neat-rules sig facts rs (ok .rises) (ok .passed)))) ∙ lines-direct dft sig rs bs v (ok .passed) b))
 
   -- and so by the one rule in force that takes it, or the default
-  pub run-answers : (sig : Signature) → Signed sig → (rs : List Rule) → Valid sig rs → (behind bs : List ℕ) (v : Value) → read-booking sig bs ≡ some v → (a : Answer) × (run-words dft sig (tree-words dft sig rs ++ behind) bs ≡ some a) × Answered dft sig rs bs a
+  pub run-answers : (sig : Signature) → Signed sig → (rs : List Rule) → Valid sig rs → (behind bs : List ℕ) (v : Value) → read-booking sig bs ≡ some v → (a : Answer) × (run-words sig (tree-words dft sig rs ++ behind) bs ≡ some a) × Answered dft sig rs bs a
   run-answers sig signed rs ok behind bs v b = (direct dft sig rs v, run-direct sig signed rs ok behind bs v b, answered dft sig signed rs bs v ok b)

@@ -21,7 +21,7 @@ use Rattle.row.proofs.PassedFacts.{short-of}
 use Rattle.tree.specs.Limits.{last-number}
 use Rattle.table.specs.Limits.{limits, table-length, rules-length, rule-length}
 use Rattle.table.specs.Refusals.{entry-refusal}
-use Rattle.table.specs.Rule.{Rule, Rises, rules-words, rises-nil, rises-cons, total-weight, stored, add-rule, held, take-out, table-words}
+use Rattle.table.specs.Rule.{Rule, Rises, rules-words, rises-nil, rises-cons, total-weight, stored, add-rule, held, take-out, rules-end, table-words}
 use Rattle.table.specs.Sound.{read-rules, no-shared, sound}
 
 pub read-back : {m : ℕ} {rs : List Rule} (z : ℕ) → Rises m rs → read-rules (length rs) m (rules-words rs ++ replicate z 0) ≡ some rs
@@ -44,16 +44,16 @@ words-few none-left = omega arith
 words-few (also r {xs = rs} a h) = simp length-append (omega (arith, words-few h))
 
 module _ (sig : Signature) where
-  sound-of : (rs : List Rule) (body tail : List ℕ) → length body ≡ (rules-length limits) → read-rules (length rs) 0 body ≡ some rs → Valid sig rs → sound limits sig (length rs ∷ (body ++ tail)) ≡ some rs
-  sound-of rs body tail n e v =
+  sound-of : (dft : ℕ) (rs : List Rule) (body tail : List ℕ) → length body ≡ (rules-length limits) → read-rules (length rs) 0 body ≡ some rs → Valid sig rs → sound limits sig (length rs ∷ (dft ∷ (body ++ tail))) ≡ some rs
+  sound-of dft rs body tail n e v =
       let long : rules-length limits ≤ length (body ++ tail) = simp length-append (omega arith) in
       rw (leb-yes (rules-length limits) (length (body ++ tail)) long, leb-yes (length rs) (limits .rules) (v .few), take-exact (rules-length limits) body tail n, e, v .passed, leb-yes (total-weight sig rs) (limits .weight) (v .light), v .apart)
 
-  pub sound-stored : (rs : List Rule) (ws : List ℕ) → Valid sig rs → sound limits sig (stored limits rs ws) ≡ some rs
-  sound-stored rs ws v =
+  pub sound-stored : (dft : ℕ) (rs : List Rule) (ws : List ℕ) → Valid sig rs → sound limits sig (stored limits dft rs ws) ≡ some rs
+  sound-stored dft rs ws v =
       let fits : length (rules-words rs) ≤ rule-length * length rs = words-few (v .short) in
       let few : length rs ≤ limits .rules = v .few in
-      sound-of rs (rules-words rs ++ replicate (table-length limits - suc (length (rules-words rs))) 0) (drop (table-length limits) ws) (simp (length-append, length-replicate) (omega arith)) (read-back (table-length limits - suc (length (rules-words rs))) (v .rises)) v
+      sound-of dft rs (rules-words rs ++ replicate (table-length limits - rules-end rs) 0) (drop (table-length limits) ws) (simp (length-append, length-replicate) (omega arith)) (read-back (table-length limits - rules-end rs) (v .rises)) v
 
 -- what holds for all rules, with one more or with some taken out
 module _ (f : Rule → Bool) where
@@ -214,8 +214,8 @@ module _ (sig : Signature) where
         record { rises = rises-keep g (v .rises); passed = all-keep _ g rs (v .passed); short = All-keep g (v .short); few = omega (arith, length-keep g rs, v .few); light = omega (arith, weight-keep sig g rs, v .light); apart = apart-keep sig g rs (v .apart) }
 
     -- one call on a table that holds rs
-    pub stored-again : (rs qs : List Rule) (ws : List ℕ) → Valid sig rs → stored limits qs (stored limits rs ws) ≡ stored limits qs ws
-    stored-again rs qs ws v =
+    pub stored-again : (d e : ℕ) (rs qs : List Rule) (ws : List ℕ) → Valid sig rs → stored limits e qs (stored limits d rs ws) ≡ stored limits e qs ws
+    stored-again d e rs qs ws v =
         let fits : length (rules-words rs) ≤ rule-length * length rs = words-few (v .short) in
         let few : length rs ≤ limits .rules = v .few in
-        ap (λ z. table-words limits qs ++ z) (drop-exact (table-length limits) (table-words limits rs) (drop (table-length limits) ws) (simp (length-append, length-replicate) (omega arith)))
+        ap (λ z. table-words limits e qs ++ z) (drop-exact (table-length limits) (table-words limits d rs) (drop (table-length limits) ws) (simp (length-append, length-replicate) (omega arith)))

@@ -76,6 +76,6 @@ module _ (sig : Signature) where
 module _ (dft : ℕ) (sig : Signature) where
   module _ (facts : SigFacts sig) where
     -- 01, Tree: variables rise and are at most 15, visits are made, rules are 1 to 999
-    pub tree-treed : (rs : List Rule) → Valid sig rs → Treed sig (0 ∷ []) 0 (tree dft sig rs)
+    pub tree-treed : (rs : List Rule) → Valid sig rs → Treed dft sig (0 ∷ []) 0 (tree dft sig rs)
     unfolding tree
     tree-treed rs ok = compile-treed dft sig facts visit-bound (0 ∷ []) (lines sig rs) 0 (neat-rules sig facts rs (ok .rises) (ok .passed))

@@ -20,14 +20,14 @@ use Rattle.pattern.specs.Side.{TooHeavy, WrongRange}
 use Rattle.pattern.specs.Weight.{weight}
 use Rattle.pattern.specs.WellFormed.{PatternWords}
 use Rattle.tree.specs.Answer.{Answer}
-use Rattle.tree.specs.Limits.{last-number, tree-limit, default-plan}
+use Rattle.tree.specs.Limits.{last-number, tree-limit}
 use Rattle.tree.specs.Run.{run-words}
 use Rattle.tree.specs.RunCall.{RunCall}
-use Rattle.table.specs.Calls.{Entered, Empty, Enter, Withdraw, Compile, DecideCall}
+use Rattle.table.specs.Calls.{Entered, Empty, Enter, Withdraw, SetDefault, Compile, DecideCall}
 use Rattle.table.specs.Limits.{limits, table-length, witness-length}
 use Rattle.table.specs.Matrix.{tree-words}
 use Rattle.table.specs.Refusals.{SharesHeld}
-use Rattle.table.specs.Rule.{Rule, total-weight}
+use Rattle.table.specs.Rule.{Rule, total-weight, default-of}
 use Rattle.table.specs.Sound.{SoundTable}
 
 -- n is the number of the first that applies: one applies and n is its number, or it does not and n is the first of the later ones; 0 where none applies
@@ -43,7 +43,7 @@ Unlawful ss = (sig : Signature) → SignatureWords ss sig → ⊥
 abbrev pub Under : List ℕ → (Signature → Type 0) → Type 0
 Under ss P = (sig : Signature) × SignatureWords ss sig × P sig
 
--- "2. A lent table is under 4,289 words or a witness buffer under 4,096."
+-- "2. A lent table is under" 4,290 words "or a witness buffer under 4,096."; 02, job 3
 abbrev pub ShortTable : List ℕ → Type 0
 ShortTable table = length table < table-length limits
 
@@ -99,12 +99,12 @@ abbrev pub UnlawfulBooking : Signature → List ℕ → Type 0
 UnlawfulBooking sig bs = (v : Value) → LawfulBooking sig bs v → ⊥
 
 -- "14. The tree exceeds the lent slice or 32,768 words."
-abbrev pub TooLarge : Signature → List Rule → List ℕ → Type 0
-TooLarge sig rs space = (length space < length (tree-words default-plan sig rs)) ⊎ (tree-limit < length (tree-words default-plan sig rs))
+abbrev pub TooLarge : ℕ → Signature → List Rule → List ℕ → Type 0
+TooLarge dft sig rs space = (length space < length (tree-words dft sig rs)) ⊎ (tree-limit < length (tree-words dft sig rs))
 
 -- "15. The tree is broken."
 abbrev pub Broken : Signature → List ℕ → List ℕ → Type 0
-Broken sig tree bs = run-words default-plan sig tree bs ≡ none
+Broken sig tree bs = run-words sig tree bs ≡ none
 
 -- "Each call knows only these"
 abbrev pub part-refusals : List ℕ → List ℕ → ℕ → List (ℕ × Type 0)
@@ -132,8 +132,12 @@ enter-refusals ss n ws table witness =
 abbrev pub withdraw-refusals : List ℕ → ℕ → List ℕ → List (ℕ × Type 0)
 withdraw-refusals ss n table = (1, Unlawful ss) ∷ (2, ShortTable table) ∷ (3, Unsound ss table) ∷ (4, NumberOutside n) ∷ (6, OfRulesInForce ss table (λ sig rs. NotHeld n rs)) ∷ []
 
+-- 02, job 3: "with refusals 1 to 3"
+abbrev pub set-refusals : List ℕ → List ℕ → List (ℕ × Type 0)
+set-refusals ss table = (1, Unlawful ss) ∷ (2, ShortTable table) ∷ (3, Unsound ss table) ∷ []
+
 abbrev pub compile-refusals : List ℕ → List ℕ → List ℕ → List (ℕ × Type 0)
-compile-refusals ss table space = (1, Unlawful ss) ∷ (2, ShortTable table) ∷ (3, Unsound ss table) ∷ (14, OfRulesInForce ss table (λ sig rs. TooLarge sig rs space)) ∷ []
+compile-refusals ss table space = (1, Unlawful ss) ∷ (2, ShortTable table) ∷ (3, Unsound ss table) ∷ (14, OfRulesInForce ss table (λ sig rs. TooLarge (default-of table) sig rs space)) ∷ []
 
 abbrev pub decide-refusals : List ℕ → List ℕ → List ℕ → List (ℕ × Type 0)
 decide-refusals ss table bs = (1, Unlawful ss) ∷ (2, ShortTable table) ∷ (3, Unsound ss table) ∷ (13, Under ss (λ sig. UnlawfulBooking sig bs)) ∷ []
@@ -151,6 +155,7 @@ pub record Demand1 : Type 0 where
   -- the witness buffer is written on 12 alone
   pub enter : (ss : List ℕ) (n plan : ℕ) (ws before witness : List ℕ) (e : Entered) (after witness′ : List ℕ) → Enter limits ss n plan ws before witness e after witness′ → FirstOf (enter-refusals ss n ws before witness) (e .number) × ((e .number ≡ 0 → ⊥) → after ≡ before) × ((e .number ≡ 12 → ⊥) → (e .sharer ≡ 0) × (e .shown ≡ 0) × (witness′ ≡ witness))
   pub withdraw : (ss : List ℕ) (n : ℕ) (before : List ℕ) (number : ℕ) (after : List ℕ) → Withdraw limits ss n before number after → FirstOf (withdraw-refusals ss n before) number × ((number ≡ 0 → ⊥) → after ≡ before)
+  pub set-default : (ss : List ℕ) (plan : ℕ) (before : List ℕ) (number : ℕ) (after : List ℕ) → SetDefault limits ss plan before number after → FirstOf (set-refusals ss before) number × ((number ≡ 0 → ⊥) → after ≡ before)
   pub compile : (ss table space : List ℕ) (number len : ℕ) (space′ : List ℕ) → Compile limits ss table space number len space′ → FirstOf (compile-refusals ss table space) number × ((number ≡ 0 → ⊥) → (len ≡ 0) × (space′ ≡ space))
   -- decide and run write nothing that is lent
   pub decide : (ss table bs : List ℕ) (number : ℕ) (a : Answer) → DecideCall limits ss table bs number a → FirstOf (decide-refusals ss table bs) number × ((number ≡ 0 → ⊥) → a ≡ zeros)

@@ -13,9 +13,17 @@ pub record Limits : Type 0 where
 abbrev pub limits : Limits
 limits = record { rules = 64; weight = row-limit }
 
--- "the rule count, then per rule ..": the first rule stands at this index
+-- 02, job 3: "The table gets the default plan as its second word"
+abbrev pub default-at : ℕ
+default-at = 1
+
+-- the rule count, the default plan, then the rules: the first one stands at this index
 abbrev pub rules-at : ℕ
-rules-at = 1
+rules-at = 2
+
+-- 02, job 3: "Emptying sets it to 1"
+abbrev pub emptied-default : ℕ
+emptied-default = 1
 
 -- "number, plan, pattern length": the words of a rule before its pattern
 abbrev pub rule-head : ℕ
@@ -30,7 +38,7 @@ module _ (l : Limits) where
   abbrev pub rules-length : ℕ
   rules-length = l .rules * rule-length
 
-  -- "At least 4,289 words"
+  -- 02, job 3: "so 4,290 words"
   abbrev pub table-length : ℕ
   table-length = rules-length + rules-at
 

@@ -3,12 +3,12 @@ use mathlib.Core.List.{List, _∷_, [], _++_}
 use mathlib.Core.Bool.{Bool, cond, not}
 use Prim.Native.Nat.{ℕ, _-_, _+_, _<_, _≤_}
 use lib.Dec.{eqb, ltb}
-use lib.ListN.{length, replicate, drop}
+use lib.ListN.{length, replicate, drop, getD}
 use Rattle.signature.specs.Lists.{any, keep, In}
 use Rattle.signature.specs.Signature.{Signature}
 use Rattle.pattern.specs.Weight.{weight}
 use Rattle.tree.specs.Limits.{last-number}
-use Rattle.table.specs.Limits.{Limits, table-length}
+use Rattle.table.specs.Limits.{Limits, table-length, default-at, rules-at}
 
 -- number, plan and pattern words
 pub record Rule : Type 0 where
@@ -43,18 +43,26 @@ add-rule r (s ∷ rs) = cond (ltb (r .number) (s .number)) (r ∷ (s ∷ rs)) (s
 abbrev pub take-out : ℕ → List Rule → List Rule
 take-out n rs = keep (λ r. not (eqb n (r .number))) rs
 
--- "the rule count, then per rule ..": the words up to the end of the last rule, behind which a further one stands
-abbrev pub packed : List Rule → List ℕ
-packed rs = length rs ∷ rules-words rs
+-- the default plan of a table
+abbrev pub default-of : List ℕ → ℕ
+default-of table = getD table default-at 0
+
+-- "the rule count", the default plan, "then per rule ..": the words up to the end of the last rule
+abbrev pub packed : ℕ → List Rule → List ℕ
+packed dft rs = length rs ∷ (dft ∷ rules-words rs)
+
+-- the index behind the last rule, where a further one stands
+abbrev pub rules-end : List Rule → ℕ
+rules-end rs = rules-at + length (rules-words rs)
 
 module _ (l : Limits) where
-  -- "zeros up to 4,289"
-  abbrev pub table-words : List Rule → List ℕ
-  table-words rs = packed rs ++ replicate (table-length l - length (packed rs)) 0
+  -- zeros up to 4,290
+  abbrev pub table-words : ℕ → List Rule → List ℕ
+  table-words dft rs = packed dft rs ++ replicate (table-length l - rules-end rs) 0
 
   -- "the rest untouched"
-  abbrev pub stored : List Rule → List ℕ → List ℕ
-  stored rs ws = table-words rs ++ drop (table-length l) ws
+  abbrev pub stored : ℕ → List Rule → List ℕ → List ℕ
+  stored dft rs ws = table-words dft rs ++ drop (table-length l) ws
 
 -- "rising by number", "every rule numbered 1 to 999": above m
 pub data Rises : ℕ → List Rule → Type 0 where

@@ -20,10 +20,10 @@ pub record Cases : Type 0 where
       ≡ bytes "rule=9\nplan=41\nbind=\n"
   -- the default
   pub default : printed (bytes "sig=6 0 2 1 2 1 0 1 0 1 0 2 0 2 0\nrule=7\nplan=40\npat=0 1 261\nrule=9\nplan=41\npat=0 260 1 5\nbook=0 3 4\n")
-      ≡ bytes "rule=0\nplan=0\nbind=\n"
+      ≡ bytes "rule=0\nplan=1\nbind=\n"
   -- no rules
   pub no-rules : printed (bytes "sig=6 0 2 1 2 1 0 1 0 1 0 2 0 2 0\nbook=0 1 5\n")
-      ≡ bytes "rule=0\nplan=0\nbind=\n"
+      ≡ bytes "rule=0\nplan=1\nbind=\n"
   -- a third rule that shares a booking with rule 7
   pub shared : printed (bytes "sig=6 0 2 1 2 1 0 1 0 1 0 2 0 2 0\nrule=7\nplan=40\npat=0 1 261\nrule=9\nplan=41\npat=0 260 1 5\nrule=8\nplan=1\npat=0 258 4\nbook=0 1 5\n")
       ≡ bytes "refused=12\n"

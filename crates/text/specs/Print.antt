@@ -9,8 +9,7 @@ use Rattle.signature.specs.Signature.{Signature}
 use Rattle.signature.specs.Value.{Value}
 use Rattle.tree.specs.Answer.{Answer}
 use Rattle.pattern.specs.Limits.{unbound-place}
-use Rattle.tree.specs.Limits.{default-plan}
-use Rattle.table.specs.Limits.{limits}
+use Rattle.table.specs.Limits.{limits, emptied-default}
 use Rattle.table.specs.Decide.{direct}
 use Rattle.table.specs.ListsOfCalls.{ListCall, enter}
 use Rattle.table.specs.Refusals.{entry-refusal}
@@ -73,10 +72,10 @@ enter-all sig (q ∷ qs) rs =
     let n = entry-refusal limits sig (q .number) (q .pattern) rs in
     cond (eqb n 0) next (stopped n)
 
--- 13, or the answer: "The booking is decided directly from the table."
+-- 13, or the answer: "The booking is decided directly from the table."; 02, job 3: "the text program prints the new plan", which is that of an emptied table
 abbrev pub print-decided : Signature → List Rule → Option Value → List ℕ
 print-decided sig rs none = print-refused 13
-print-decided sig rs (some v) = print-answer (direct default-plan sig rs v)
+print-decided sig rs (some v) = print-answer (direct emptied-default sig rs v)
 
 -- what is printed when the rules are in, or one was refused
 abbrev pub print-entered : Signature → List ℕ → EnteredAll → List ℕ

@@ -24,7 +24,7 @@ use Rattle.tree.proofs.RunFacts.{length-layout, run-walks, to-answer}
 use Rattle.tree.proofs.RunFuel.{run-enough}
 use Rattle.tree.proofs.TreeFacts.{walk}
 
-never-broken : (dft : ℕ) (sig : Signature) → Signed sig → (t : Tree) → Treed sig (0 ∷ []) 0 t → (behind bs : List ℕ) (v : Value) → read-booking sig bs ≡ some v → (a : Answer) × (run-words dft sig (layout t 0 ++ behind) bs ≡ some a)
+never-broken : (dft : ℕ) (sig : Signature) → Signed sig → (t : Tree) → Treed dft sig (0 ∷ []) 0 t → (behind bs : List ℕ) (v : Value) → read-booking sig bs ≡ some v → (a : Answer) × (run-words sig (layout t 0 ++ behind) bs ≡ some a)
 never-broken dft sig signed t h behind bs v b =
     let long : words t ≤ length (layout t 0 ++ behind) = simp length-append (omega (arith, length-layout t 0)) in
     (to-answer dft (walk t (vcons v vnil) 0 []), rw b (run-walks dft sig (layout t 0 ++ behind) (sig-facts sig signed) (length (layout t 0 ++ behind)) t (0 ∷ []) 0 0 (vcons v vnil) [] h (of-kinds-cons (booking-lawful sig bs v b .kind-0) of-kinds-nil) long (behind, refl)))
@@ -36,7 +36,7 @@ laws = record {
   never-broken = never-broken;
   one-interval = one-interval;
   run-bound = run-enough;
-  nodes-there = λ dft sig ws bs. nodes-there sig ws dft bs;
+  nodes-there = nodes-there;
   nodes-linked = nodes-linked;
   nodes-rise = nodes-rise;
 }

@@ -1,9 +1,9 @@
 -- The nodes of a walk: where they are there, and that each leads to the next.
-use mathlib.Core.Path.{_≡_, refl, sym, ap, subst, _∙_}
+use mathlib.Core.Path.{_≡_, refl, ap, subst, _∙_}
 use mathlib.Core.List.{List, [], _∷_, _++_}
 use mathlib.Core.Option.{Option, some, none}
 use mathlib.Core.Bool.{Bool, true, false, _&&_, cond}
-use Prim.Native.Nat.{ℕ, zero, suc, _+_, _-_, _≤_, _<_}
+use Prim.Native.Nat.{ℕ, zero, suc, _+_, _-_, _<_}
 use native.Mathlib.Omega.{arith}
 use lib.Dec.{eqb, ltb}
 use lib.ListN.{length, drop, getElem?}
@@ -14,8 +14,8 @@ use Rattle.signature.specs.Signature.{Signature, heads, is-level, level-of}
 use Rattle.signature.specs.Value.{Values, vnil, vcons, con, size}
 use Rattle.signature.proofs.KnownFacts.{at-below}
 use Rattle.signature.proofs.Tests.{bind-some, require-some, some-inj, none≢some, eqb-eq, le-of}
-use Rattle.tree.specs.Answer.{Answer, no-rule}
-use Rattle.tree.specs.Run.{Walk, at-hit, at-test, at-split, at-skip, rise-to, place-of, vjoin, run, run-words, nodes, nodes-words, Linked, linked-leaf, linked-skip, linked-test, linked-split, RisingTo, rising-last, rising-on}
+use Rattle.tree.specs.Answer.{Answer}
+use Rattle.tree.specs.Run.{Walk, at-default, at-hit, at-test, at-split, at-skip, rise-to, place-of, vjoin, run, run-words, nodes, nodes-words, Linked, linked-leaf, linked-skip, linked-test, linked-split, RisingTo, rising-last, rising-on}
 
 -- what is read behind a test or a word is there on both sides
 both : {A B C : Type 0} (o : Option A) (f : A → Option B) (g : A → Option C) → ((a : A) → is-some (f a) ≡ is-some (g a)) → is-some (o >>= f) ≡ is-some (o >>= g)
@@ -27,15 +27,16 @@ more none f = refl
 more (some a) f = refl
 
 -- by the tests of a node's first word
-node-there : (b0 b1 b2 b3 b4 : Bool) (i : ℕ) (a : Answer) (h : Option Answer) (t s p : Option (List ℕ)) (t′ s′ p′ : Option Answer) → is-some t ≡ is-some t′ → is-some s ≡ is-some s′ → is-some p ≡ is-some p′
-    → is-some (cond b0 (some []) (cond b1 (h >>= λ x. some []) (cond b2 t (cond b3 s (cond b4 p none)))) >>= λ is. some (i ∷ is)) ≡ is-some (cond b0 (some a) (cond b1 h (cond b2 t′ (cond b3 s′ (cond b4 p′ none)))))
-node-there true b1 b2 b3 b4 i a h t s p t′ s′ p′ x y z = refl
-node-there false true b2 b3 b4 i a none t s p t′ s′ p′ x y z = refl
-node-there false true b2 b3 b4 i a (some u) t s p t′ s′ p′ x y z = refl
-node-there false false true b3 b4 i a h t s p t′ s′ p′ x y z = more t (λ (is : List ℕ). i ∷ is) ∙ x
-node-there false false false true b4 i a h t s p t′ s′ p′ x y z = more s (λ (is : List ℕ). i ∷ is) ∙ y
-node-there false false false false true i a h t s p t′ s′ p′ x y z = more p (λ (is : List ℕ). i ∷ is) ∙ z
-node-there false false false false false i a h t s p t′ s′ p′ x y z = refl
+node-there : (b0 b1 b2 b3 b4 : Bool) (i : ℕ) (d h : Option Answer) (t s p : Option (List ℕ)) (t′ s′ p′ : Option Answer) → is-some t ≡ is-some t′ → is-some s ≡ is-some s′ → is-some p ≡ is-some p′
+    → is-some (cond b0 (d >>= λ x. some []) (cond b1 (h >>= λ x. some []) (cond b2 t (cond b3 s (cond b4 p none)))) >>= λ is. some (i ∷ is)) ≡ is-some (cond b0 d (cond b1 h (cond b2 t′ (cond b3 s′ (cond b4 p′ none)))))
+node-there true b1 b2 b3 b4 i none h t s p t′ s′ p′ x y z = refl
+node-there true b1 b2 b3 b4 i (some u) h t s p t′ s′ p′ x y z = refl
+node-there false true b2 b3 b4 i d none t s p t′ s′ p′ x y z = refl
+node-there false true b2 b3 b4 i d (some u) t s p t′ s′ p′ x y z = refl
+node-there false false true b3 b4 i d h t s p t′ s′ p′ x y z = more t (λ (is : List ℕ). i ∷ is) ∙ x
+node-there false false false true b4 i d h t s p t′ s′ p′ x y z = more s (λ (is : List ℕ). i ∷ is) ∙ y
+node-there false false false false true i d h t s p t′ s′ p′ x y z = more p (λ (is : List ℕ). i ∷ is) ∙ z
+node-there false false false false false i d h t s p t′ s′ p′ x y z = refl
 
 module _ {A B : Type 0} (f : Walk A) (g : Walk B) (same : (i : ℕ) (vs : Values) (j : ℕ) (visits : List ℕ) → is-some (f i vs j visits) ≡ is-some (g i vs j visits)) where
   test-there : (sig : Signature) (tree : List ℕ) (i : ℕ) (vs : Values) (j : ℕ) (visits : List ℕ) → is-some (at-test sig tree f i vs j visits) ≡ is-some (at-test sig tree g i vs j visits)
@@ -53,15 +54,15 @@ module _ {A B : Type 0} (f : Walk A) (g : Walk B) (same : (i : ℕ) (vs : Values
   skip-there i (vcons v rest) j visits = same (suc i) rest (j + size v) (visits ++ (j ∷ []))
 
 module _ (sig : Signature) (tree : List ℕ) where
-  walk-there : (dft n i : ℕ) (vs : Values) (j : ℕ) (visits : List ℕ) → is-some (nodes n sig tree i vs j visits) ≡ is-some (run dft n sig tree i vs j visits)
-  walk-there dft zero i vs j visits = refl
-  walk-there dft (suc n) i vs j visits =
+  walk-there : (n i : ℕ) (vs : Values) (j : ℕ) (visits : List ℕ) → is-some (nodes n sig tree i vs j visits) ≡ is-some (run n sig tree i vs j visits)
+  walk-there zero i vs j visits = refl
+  walk-there (suc n) i vs j visits =
       let f : Walk (List ℕ) = λ i′ vs′ j′ visits′. nodes n sig tree i′ vs′ j′ visits′ in
-      let g : Walk Answer = λ i′ vs′ j′ visits′. run dft n sig tree i′ vs′ j′ visits′ in
-      both (getElem? tree i) _ _ (λ w. node-there (eqb w 0) (eqb w 1) (eqb w 2) (eqb w 3) (eqb w 4) i (no-rule dft) (at-hit tree i vs j visits) (at-test sig tree f i vs j visits) (at-skip f i vs j visits) (at-split tree f i vs j visits) (at-test sig tree g i vs j visits) (at-skip g i vs j visits) (at-split tree g i vs j visits) (test-there f g (walk-there dft n) sig tree i vs j visits) (skip-there f g (walk-there dft n) i vs j visits) (split-there f g (walk-there dft n) tree i vs j visits))
+      let g : Walk Answer = λ i′ vs′ j′ visits′. run n sig tree i′ vs′ j′ visits′ in
+      both (getElem? tree i) _ _ (λ w. node-there (eqb w 0) (eqb w 1) (eqb w 2) (eqb w 3) (eqb w 4) i (at-default tree i vs j visits) (at-hit tree i vs j visits) (at-test sig tree f i vs j visits) (at-skip f i vs j visits) (at-split tree f i vs j visits) (at-test sig tree g i vs j visits) (at-skip g i vs j visits) (at-split tree g i vs j visits) (test-there f g (walk-there n) sig tree i vs j visits) (skip-there f g (walk-there n) i vs j visits) (split-there f g (walk-there n) tree i vs j visits))
 
-  pub nodes-there : (dft : ℕ) (bs : List ℕ) → is-some (nodes-words sig tree bs) ≡ is-some (run-words dft sig tree bs)
-  nodes-there dft bs = both (read-booking sig bs) _ _ (λ v. walk-there dft (length tree) 0 (vcons v vnil) 0 [])
+  pub nodes-there : (bs : List ℕ) → is-some (nodes-words sig tree bs) ≡ is-some (run-words sig tree bs)
+  nodes-there bs = both (read-booking sig bs) _ _ (λ v. walk-there (length tree) 0 (vcons v vnil) 0 [])
 
   -- what a node leads to
   module _ (next : Walk (List ℕ)) (i : ℕ) (on : (i′ : ℕ) (vs : Values) (j : ℕ) (visits is : List ℕ) → next i′ vs j visits ≡ some is → Linked tree i′ is) where
@@ -93,12 +94,14 @@ module _ (sig : Signature) (tree : List ℕ) where
 
     -- by the node's first word
     node-linked : (w : ℕ) (vs : Values) (j : ℕ) (visits is : List ℕ) → getElem? tree i ≡ some w
-        → cond (eqb w 0) (some []) (cond (eqb w 1) (at-hit tree i vs j visits >>= λ a. some []) (cond (eqb w 2) (at-test sig tree next i vs j visits) (cond (eqb w 3) (at-skip next i vs j visits) (cond (eqb w 4) (at-split tree next i vs j visits) none)))) ≡ some is → Linked tree i (i ∷ is)
+        → cond (eqb w 0) (at-default tree i vs j visits >>= λ a. some []) (cond (eqb w 1) (at-hit tree i vs j visits >>= λ a. some []) (cond (eqb w 2) (at-test sig tree next i vs j visits) (cond (eqb w 3) (at-skip next i vs j visits) (cond (eqb w 4) (at-split tree next i vs j visits) none)))) ≡ some is → Linked tree i (i ∷ is)
     node-linked w vs j visits is e h = go (eqb w 0) (eqb w 1) (eqb w 2) (eqb w 3) (eqb w 4) refl refl refl refl refl h
       where
         go : (b0 b1 b2 b3 b4 : Bool) → eqb w 0 ≡ b0 → eqb w 1 ≡ b1 → eqb w 2 ≡ b2 → eqb w 3 ≡ b3 → eqb w 4 ≡ b4
-            → cond b0 (some []) (cond b1 (at-hit tree i vs j visits >>= λ a. some []) (cond b2 (at-test sig tree next i vs j visits) (cond b3 (at-skip next i vs j visits) (cond b4 (at-split tree next i vs j visits) none)))) ≡ some is → Linked tree i (i ∷ is)
-        go true b1 b2 b3 b4 p0 p1 p2 p3 p4 q = subst (λ (xs : List ℕ). Linked tree i (i ∷ xs)) (some-inj [] is q) (linked-leaf e (omega (arith, eqb-eq w 0 p0)))
+            → cond b0 (at-default tree i vs j visits >>= λ a. some []) (cond b1 (at-hit tree i vs j visits >>= λ a. some []) (cond b2 (at-test sig tree next i vs j visits) (cond b3 (at-skip next i vs j visits) (cond b4 (at-split tree next i vs j visits) none)))) ≡ some is → Linked tree i (i ∷ is)
+        go true b1 b2 b3 b4 p0 p1 p2 p3 p4 q =
+            let (a, r, s) = bind-some (at-default tree i vs j visits) _ is q in
+            subst (λ (xs : List ℕ). Linked tree i (i ∷ xs)) (some-inj [] is s) (linked-leaf e (omega (arith, eqb-eq w 0 p0)))
         go false true b2 b3 b4 p0 p1 p2 p3 p4 q =
             let (a, r, s) = bind-some (at-hit tree i vs j visits) _ is q in
             subst (λ (xs : List ℕ). Linked tree i (i ∷ xs)) (some-inj [] is s) (linked-leaf e (omega (arith, eqb-eq w 1 p1)))

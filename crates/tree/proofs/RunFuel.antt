@@ -1,7 +1,7 @@
 -- A run does not depend on the bound in its definition.
 use mathlib.Core.Path.{_≡_, refl, ap, ap₂, _∙_}
 use mathlib.Core.List.{List, _++_, _∷_, []}
-use mathlib.Core.Option.{some, none}
+use mathlib.Core.Option.{none}
 use mathlib.Core.Bool.{_&&_, cond}
 use Prim.Native.Nat.{ℕ, _<_, _+_, _-_, suc, _≤_, zero}
 use native.Mathlib.Omega.{arith}
@@ -13,8 +13,7 @@ use Rattle.signature.specs.Signature.{Signature, heads, is-level, level-of}
 use Rattle.signature.specs.Value.{Values, vnil, vcons, con, size}
 use Rattle.signature.proofs.ListFacts.{at-out}
 use Rattle.signature.proofs.Tests.{bind-same, when-same, le-of}
-use Rattle.tree.specs.Answer.{no-rule}
-use Rattle.tree.specs.Run.{Run, at-test, at-split, rise-to, place-of, vjoin, at-skip, at-hit, run}
+use Rattle.tree.specs.Run.{Run, at-test, at-split, rise-to, place-of, vjoin, at-skip, at-default, at-hit, run}
 
 -- two ways to go on that agree above a node
 abbrev Above : ℕ → Run → Run → Type 0
@@ -35,13 +34,13 @@ skip-same : (f g : Run) (i : ℕ) (vs : Values) (j : ℕ) (visits : List ℕ) �
 skip-same f g i vnil j visits h = refl
 skip-same f g i (vcons v rest) j visits h = h (suc i) rest (j + size v) (visits ++ (j ∷ [])) (omega arith)
 
-module _ (dft : ℕ) (sig : Signature) (tree : List ℕ) where
-  node-same : (f g : Run) (i w : ℕ) (vs : Values) (j : ℕ) (visits : List ℕ) → Above i f g → cond (eqb w 0) (some (no-rule dft)) (cond (eqb w 1) (at-hit tree i vs j visits) (cond (eqb w 2) (at-test sig tree f i vs j visits) (cond (eqb w 3) (at-skip f i vs j visits) (cond (eqb w 4) (at-split tree f i vs j visits) none)))) ≡ cond (eqb w 0) (some (no-rule dft)) (cond (eqb w 1) (at-hit tree i vs j visits) (cond (eqb w 2) (at-test sig tree g i vs j visits) (cond (eqb w 3) (at-skip g i vs j visits) (cond (eqb w 4) (at-split tree g i vs j visits) none))))
-  node-same f g i w vs j visits h = ap₂ (λ x y. cond (eqb w 0) (some (no-rule dft)) (cond (eqb w 1) (at-hit tree i vs j visits) (cond (eqb w 2) x (cond (eqb w 3) y (cond (eqb w 4) (at-split tree f i vs j visits) none))))) (test-same sig tree f g i vs j visits h) (skip-same f g i vs j visits h)
-      ∙ ap (λ z. cond (eqb w 0) (some (no-rule dft)) (cond (eqb w 1) (at-hit tree i vs j visits) (cond (eqb w 2) (at-test sig tree g i vs j visits) (cond (eqb w 3) (at-skip g i vs j visits) (cond (eqb w 4) z none))))) (split-same tree f g i vs j visits h)
+module _ (sig : Signature) (tree : List ℕ) where
+  node-same : (f g : Run) (i w : ℕ) (vs : Values) (j : ℕ) (visits : List ℕ) → Above i f g → cond (eqb w 0) (at-default tree i vs j visits) (cond (eqb w 1) (at-hit tree i vs j visits) (cond (eqb w 2) (at-test sig tree f i vs j visits) (cond (eqb w 3) (at-skip f i vs j visits) (cond (eqb w 4) (at-split tree f i vs j visits) none)))) ≡ cond (eqb w 0) (at-default tree i vs j visits) (cond (eqb w 1) (at-hit tree i vs j visits) (cond (eqb w 2) (at-test sig tree g i vs j visits) (cond (eqb w 3) (at-skip g i vs j visits) (cond (eqb w 4) (at-split tree g i vs j visits) none))))
+  node-same f g i w vs j visits h = ap₂ (λ x y. cond (eqb w 0) (at-default tree i vs j visits) (cond (eqb w 1) (at-hit tree i vs j visits) (cond (eqb w 2) x (cond (eqb w 3) y (cond (eqb w 4) (at-split tree f i vs j visits) none))))) (test-same sig tree f g i vs j visits h) (skip-same f g i vs j visits h)
+      ∙ ap (λ z. cond (eqb w 0) (at-default tree i vs j visits) (cond (eqb w 1) (at-hit tree i vs j visits) (cond (eqb w 2) (at-test sig tree g i vs j visits) (cond (eqb w 3) (at-skip g i vs j visits) (cond (eqb w 4) z none))))) (split-same tree f g i vs j visits h)
 
-  pub run-enough : (n m i : ℕ) (vs : Values) (j : ℕ) (visits : List ℕ) → length tree ≤ n + i → length tree ≤ m + i → run dft n sig tree i vs j visits ≡ run dft m sig tree i vs j visits
+  pub run-enough : (n m i : ℕ) (vs : Values) (j : ℕ) (visits : List ℕ) → length tree ≤ n + i → length tree ≤ m + i → run n sig tree i vs j visits ≡ run m sig tree i vs j visits
   run-enough zero zero i vs j visits a b = refl
   run-enough zero (suc m) i vs j visits a b = rw (at-out tree i (omega arith))
   run-enough (suc n) zero i vs j visits a b = rw (at-out tree i (omega arith))
-  run-enough (suc n) (suc m) i vs j visits a b = bind-same (getElem? tree i) _ _ (λ w. node-same (λ i′ vs′ j′ visits′. run dft n sig tree i′ vs′ j′ visits′) (λ i′ vs′ j′ visits′. run dft m sig tree i′ vs′ j′ visits′) i w vs j visits (λ i′ vs′ j′ visits′ l. run-enough n m i′ vs′ j′ visits′ (omega arith) (omega arith)))
+  run-enough (suc n) (suc m) i vs j visits a b = bind-same (getElem? tree i) _ _ (λ w. node-same (λ i′ vs′ j′ visits′. run n sig tree i′ vs′ j′ visits′) (λ i′ vs′ j′ visits′. run m sig tree i′ vs′ j′ visits′) i w vs j visits (λ i′ vs′ j′ visits′ l. run-enough n m i′ vs′ j′ visits′ (omega arith) (omega arith)))

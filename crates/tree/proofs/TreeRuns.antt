@@ -26,7 +26,7 @@ use Rattle.tree.specs.Leaf.{Treed, Treeds, treeds-nil, treeds-cons, tree
 use Rattle.tree.specs.Limits.{last-number}
 use Rattle.tree.specs.Tree.{insert, inserts, rappend, taken, passed, Line, after, Tree, children, compile, refined, is-end, branches, branch}
 use Rattle.tree.proofs.CompiledFacts.{refs-lines}
-use Rattle.tree.proofs.EndFacts.{heads-rise, heads-back, branch-head, number-heads, split-branches, test-branches, split-branch, test-branch}
+use Rattle.tree.proofs.EndFacts.{heads-rise, heads-back, number-heads, split-branches, test-branches, split-branch, test-branch}
 use Rattle.tree.proofs.TreeFacts.{Roweds, taken-rowed, passed-rowed, Rowed, rowed-named, rowed-free, roweds-nil, roweds-cons, Shaped}
 
 -- bindings put in order
@@ -106,44 +106,44 @@ module _ (sig : Signature) where
   after-neat t step l h p = kept-bind _ (λ r (q : Roweds sig _ (r .1) × Drops (l .cells) r). kept (record { rule = l .rule; plan = l .plan; binds = inserts t (r .0) (l .binds); cells = r .1 }) (record { cells = q .0; low = h .low; high = h .high; rising = rising-inserts t (r .0) (rising-more (h .rising)) (λ x. omega (arith, h .once x, q .1 x)) (λ x m. omega (arith, h .vars x m, q .1 x)) (omega arith); once = λ x. omega (arith, h .once x, q .1 x, times-inserts x t (r .0) (l .binds)); vars = λ x m. omega (arith, h .vars x m, q .1 x) })) p
 
   -- the leaves of a compiled tree are in order
-  treeds-of : (ks : List ℕ) (t : ℕ) (f : ℕ → Tree) {cs : List ℕ} → All (λ c. Treed sig (arguments sig c ++ ks) (suc t) (f c)) cs → Treeds sig ks t cs (children f cs)
-  treeds-of ks t f none-left = treeds-nil
-  treeds-of ks t f (also c h hs) = treeds-cons h (treeds-of ks t f hs)
+  treeds-of : (dft : ℕ) (ks : List ℕ) (t : ℕ) (f : ℕ → Tree) {cs : List ℕ} → All (λ c. Treed dft sig (arguments sig c ++ ks) (suc t) (f c)) cs → Treeds dft sig ks t cs (children f cs)
+  treeds-of dft ks t f none-left = treeds-nil
+  treeds-of dft ks t f (also c h hs) = treeds-cons h (treeds-of dft ks t f hs)
 
 module _ (dft : ℕ) (sig : Signature) (facts : SigFacts sig) where
   abbrev Leaves : ℕ → Type 0
-  Leaves n = (ks : List ℕ) (ls : List Line) (t : ℕ) → All (Neat sig ks t) ls → Treed sig ks t (compile dft n sig ks ls t)
+  Leaves n = (ks : List ℕ) (ls : List Line) (t : ℕ) → All (Neat sig ks t) ls → Treed dft sig ks t (compile dft n sig ks ls t)
 
   pub compile-treed : (n : ℕ) → Leaves n
-  compile-treed zero ks ls t h = treed-default
-  compile-treed (suc n) ks [] t h = treed-default
+  compile-treed zero ks ls t h = treed-default refl
+  compile-treed (suc n) ks [] t h = treed-default refl
   compile-treed (suc n) [] (m ∷ ls) t (also x p ps) = treed-hit (p .low) (p .high) (p .rising)
   compile-treed (suc n) (k ∷ ks) (m ∷ ls) t h = go (any (λ a. refined sig k (a .cells)) (m ∷ ls)) refl (λ ks′ ls′ t′ h′. compile-treed n ks′ ls′ t′ h′)
     where
-      one : Leaves n → (c : ℕ) → (js : List ℕ) × (arguments-at sig k c ≡ some js) → Treed sig (arguments sig c ++ ks) (suc t) (compile dft n sig (arguments sig c ++ ks) (somes (map (after t (taken sig (arguments sig c) c)) (m ∷ ls))) (suc t))
+      one : Leaves n → (c : ℕ) → (js : List ℕ) × (arguments-at sig k c ≡ some js) → Treed dft sig (arguments sig c ++ ks) (suc t) (compile dft n sig (arguments sig c ++ ks) (somes (map (after t (taken sig (arguments sig c) c)) (m ∷ ls))) (suc t))
       one f c (js, e) = rw (args-same sig k c js e) (f (js ++ ks) (somes (map (after t (taken sig js c)) (m ∷ ls))) (suc t) (all-somes (all-map (after t (taken sig js c)) (λ a q. after-neat sig t (taken sig js c) a q (kept-both (taken-rowed sig k c e (q .cells)) (taken-drops sig js c (a .cells)))) h)))
 
       next : ℕ → Tree
       next c = compile dft n sig (arguments sig c ++ ks) (somes (map (after t (taken sig (arguments sig c) c)) (m ∷ ls))) (suc t)
 
-      over : Leaves n → (es : List ℕ) → ((c : ℕ) → memb c es ≡ true → memb c (heads sig k) ≡ true) → Treeds sig ks t es (children next es)
-      over f es i = treeds-of sig ks t next (all-of es (λ c e. one f c (kind-of-head sig k c (i c e))))
+      over : Leaves n → (es : List ℕ) → ((c : ℕ) → memb c es ≡ true → memb c (heads sig k) ≡ true) → Treeds dft sig ks t es (children next es)
+      over f es i = treeds-of sig dft ks t next (all-of es (λ c e. one f c (kind-of-head sig k c (i c e))))
 
-      tests : Leaves n → (b : Bool) → is-number-kind sig k ≡ b → Treed sig (k ∷ ks) t (branch sig k (branches sig k (m ∷ ls)) (children next (branches sig k (m ∷ ls))))
+      tests : Leaves n → (b : Bool) → is-number-kind sig k ≡ b → Treed dft sig (k ∷ ks) t (branch sig k (branches sig k (m ∷ ls)) (children next (branches sig k (m ∷ ls))))
       tests f false p =
           let hs = heads sig k in
-          subst (λ es. Treed sig (k ∷ ks) t (branch sig k es (children next es))) (sym (test-branches sig k (m ∷ ls) p))
-          (subst (Treed sig (k ∷ ks) t) (sym (test-branch sig k hs (children next hs) p)) (treed-test p refl (over f hs (λ c e. e))))
+          subst (λ es. Treed dft sig (k ∷ ks) t (branch sig k es (children next es))) (sym (test-branches sig k (m ∷ ls) p))
+          (subst (Treed dft sig (k ∷ ks) t) (sym (test-branch sig k hs (children next hs) p)) (treed-test p refl (over f hs (λ c e. e))))
       tests f true p =
           let end = is-end (m ∷ ls) in
           let q = number-heads sig k p in
           let es = keep end (heads sig k) in
           let ts = over f es (λ c e. and-left (memb c (heads sig k)) (end c) (sym (memb-keep end c (heads sig k)) ∙ e)) in
-          subst (λ es. Treed sig (k ∷ ks) t (branch sig k es (children next es))) (sym (split-branches sig k (m ∷ ls) p))
-          (subst (Treed sig (k ∷ ks) t) (sym (split-branch sig k es (children next es) p))
-          (treed-split p (heads-rise end level-base last-level (heads sig k) q refl) (subst (λ cs. Treeds sig ks t cs (children next es)) (sym (heads-back end level-base last-level (heads sig k) q refl)) ts)))
+          subst (λ es. Treed dft sig (k ∷ ks) t (branch sig k es (children next es))) (sym (split-branches sig k (m ∷ ls) p))
+          (subst (Treed dft sig (k ∷ ks) t) (sym (split-branch sig k es (children next es) p))
+          (treed-split p (heads-rise end level-base last-level (heads sig k) q refl) (subst (λ cs. Treeds dft sig ks t cs (children next es)) (sym (heads-back end level-base last-level (heads sig k) q refl)) ts)))
 
-      go : (b : Bool) → any (λ a. refined sig k (a .cells)) (m ∷ ls) ≡ b → Leaves n → Treed sig (k ∷ ks) t (compile dft (suc n) sig (k ∷ ks) (m ∷ ls) t)
+      go : (b : Bool) → any (λ a. refined sig k (a .cells)) (m ∷ ls) ≡ b → Leaves n → Treed dft sig (k ∷ ks) t (compile dft (suc n) sig (k ∷ ks) (m ∷ ls) t)
       go true q f = rw q (tests f (is-number-kind sig k) refl)
       go false q f = rw q (treed-skip (f ks (somes (map (after t passed) (m ∷ ls))) (suc t) (all-somes (all-map (after t passed) (λ a z. after-neat sig t passed a z (kept-both (passed-rowed sig k (z .cells)) (passed-drops (a .cells)))) h))))
 

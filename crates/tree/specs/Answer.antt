@@ -10,6 +10,6 @@ pub record Answer : Type 0 where
   pub places : List ℕ
 
 module _ (dft : ℕ) where
-  -- "the default is rule 0, plan 0 and 16 unbound places": the default's plan is a parameter
+  -- "the default is rule 0, .. and 16 unbound places", with its plan
   abbrev pub no-rule : Answer
   no-rule = record { rule = 0; plan = dft; places = unbound }

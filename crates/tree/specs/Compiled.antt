@@ -15,7 +15,7 @@ module _ (dft : ℕ) (sig : Signature) where
   -- columns of these kinds, these lines, t visits made: this tree
   mutual
     pub data Compiled : List ℕ → List Line → ℕ → Tree → Type 0 where
-      -- "No rows: 0."
+      -- "No rows: 0.", with the plan of the default
       no-rows : {ks : List ℕ} {t d : ℕ} → d ≡ dft → Compiled ks [] t (default d)
       -- "No columns: 1, rule, plan, n, then n pairs. Several rows may be left; they are one rule's and bind alike."
       no-columns : {t r p : ℕ} {bs : List (ℕ × ℕ)} {l : Line} {ls : List Line} → All (Leaf r p bs) (l ∷ ls) → Compiled [] (l ∷ ls) t (hit r p bs)

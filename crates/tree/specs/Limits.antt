@@ -12,7 +12,3 @@ tree-limit = 32768
 -- how many rows all rules have at most: as many as they weigh, and sound are "rules weighing at most 256 in all"
 abbrev pub row-limit : ℕ
 row-limit = 256
-
--- "the default is rule 0, plan 0 and 16 unbound places"
-abbrev pub default-plan : ℕ
-default-plan = 0

@@ -40,6 +40,12 @@ Walk A = ℕ → Values → ℕ → List ℕ → Option A
 abbrev pub Run : Type 0
 Run = Walk Answer
 
+-- a node 0. 02, job 3: "The default leaf becomes 0, plan"; broken: its plan "lies outside the slice". Booking left is no fault
+abbrev pub at-default : List ℕ → Run
+at-default tree i vs j visits = do
+  p ← getElem? tree (i + 1)
+  some (no-rule p)
+
 -- a node 1; broken: "a hit leaf with booking left or a rule outside 1 to 999"
 abbrev pub at-hit : List ℕ → Run
 at-hit tree i (vcons v us) j visits = none
@@ -93,20 +99,19 @@ abbrev pub at-skip : {A : Type 0} → Walk A → Walk A
 at-skip next i vnil j visits = none
 at-skip next i (vcons v rest) j visits = next (suc i) rest (j + size v) (visits ++ (j ∷ []))
 
-module _ (dft : ℕ) where
-  -- "a walked node lies outside the slice, has another first word": broken. n bounds the nodes that are walked
-  abbrev pub run : ℕ → Signature → List ℕ → Run
-  run zero sig tree i vs j visits = none
-  run (suc n) sig tree i vs j visits = do
-    w ← getElem? tree i
-    let next : Run = λ i′ vs′ j′ visits′. run n sig tree i′ vs′ j′ visits′
-    cond (eqb w 0) (some (no-rule dft)) (cond (eqb w 1) (at-hit tree i vs j visits) (cond (eqb w 2) (at-test sig tree next i vs j visits) (cond (eqb w 3) (at-skip next i vs j visits) (cond (eqb w 4) (at-split tree next i vs j visits) none))))
+-- "a walked node lies outside the slice, has another first word": broken. n bounds the nodes that are walked
+abbrev pub run : ℕ → Signature → List ℕ → Run
+run zero sig tree i vs j visits = none
+run (suc n) sig tree i vs j visits = do
+  w ← getElem? tree i
+  let next : Run = λ i′ vs′ j′ visits′. run n sig tree i′ vs′ j′ visits′
+  cond (eqb w 0) (at-default tree i vs j visits) (cond (eqb w 1) (at-hit tree i vs j visits) (cond (eqb w 2) (at-test sig tree next i vs j visits) (cond (eqb w 3) (at-skip next i vs j visits) (cond (eqb w 4) (at-split tree next i vs j visits) none))))
 
-  -- a run of a booking's words from index 0
-  abbrev pub run-words : Signature → List ℕ → List ℕ → Option Answer
-  run-words sig ws bs = do
-    v ← read-booking sig bs
-    run (length ws) sig ws 0 (vcons v vnil) 0 []
+-- a run of a booking's words from index 0
+abbrev pub run-words : Signature → List ℕ → List ℕ → Option Answer
+run-words sig ws bs = do
+  v ← read-booking sig bs
+  run (length ws) sig ws 0 (vcons v vnil) 0 []
 
 -- the same walk, and the indices of the nodes that it takes, in order, the leaf's last
 abbrev pub nodes : ℕ → Signature → List ℕ → Walk (List ℕ)
@@ -114,8 +119,8 @@ nodes zero sig tree i vs j visits = none
 nodes (suc n) sig tree i vs j visits = do
   w ← getElem? tree i
   let next : Walk (List ℕ) = λ i′ vs′ j′ visits′. nodes n sig tree i′ vs′ j′ visits′
-  let leaf : Option (List ℕ) = at-hit tree i vs j visits >>= λ a. some []
-  is ← cond (eqb w 0) (some []) (cond (eqb w 1) leaf (cond (eqb w 2) (at-test sig tree next i vs j visits) (cond (eqb w 3) (at-skip next i vs j visits) (cond (eqb w 4) (at-split tree next i vs j visits) none))))
+  let leaf : Option Answer → Option (List ℕ) = λ o. o >>= λ a. some []
+  is ← cond (eqb w 0) (leaf (at-default tree i vs j visits)) (cond (eqb w 1) (leaf (at-hit tree i vs j visits)) (cond (eqb w 2) (at-test sig tree next i vs j visits) (cond (eqb w 3) (at-skip next i vs j visits) (cond (eqb w 4) (at-split tree next i vs j visits) none))))
   some (i ∷ is)
 
 abbrev pub nodes-words : Signature → List ℕ → List ℕ → Option (List ℕ)

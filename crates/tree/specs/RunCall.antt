@@ -9,7 +9,6 @@ use Rattle.signature.specs.Signature.{Signature}
 use Rattle.signature.specs.Value.{Value, vcons, vnil}
 use Rattle.pattern.specs.Limits.{variable-count}
 use Rattle.tree.specs.Answer.{Answer}
-use Rattle.tree.specs.Limits.{default-plan}
 use Rattle.tree.specs.Run.{run}
 
 -- "A refusal gives its number, other results 0"
@@ -24,7 +23,7 @@ run-at (some a) = (0, a)
 -- 13: the booking is unlawful
 abbrev pub run-booking : Signature → List ℕ → Option Value → ℕ × Answer
 run-booking sig tree none = refusal 13
-run-booking sig tree (some v) = run-at (run default-plan (length tree) sig tree 0 (vcons v vnil) 0 [])
+run-booking sig tree (some v) = run-at (run (length tree) sig tree 0 (vcons v vnil) 0 [])
 
 -- 1: the signature is unlawful
 abbrev pub run-signature : Option Signature → List ℕ → List ℕ → ℕ × Answer

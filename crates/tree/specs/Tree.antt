@@ -9,7 +9,7 @@ use Rattle.signature.specs.Limits.{level-base, last-level}
 use Rattle.signature.specs.Signature.{Signature, heads, arguments, is-number-kind, level-of}
 use Rattle.row.specs.Row.{Rows, rnil, rcons, named, free, open-rows}
 
--- default leaf; hit leaf (rule, plan, pairs of variable and visit); test (first head, children); skip; split (upper ends of the levels, children)
+-- default leaf (plan); hit leaf (rule, plan, pairs of variable and visit); test (first head, children); skip; split (upper ends of the levels, children)
 mutual
   pub data Tree : Type 0 where
     default : ℕ → Tree

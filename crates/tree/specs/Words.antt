@@ -12,7 +12,7 @@ pairs (b ∷ bs) = b .0 ∷ (b .1 ∷ pairs bs)
 -- how many words a tree has
 abbrev mutual
   pub words : Tree → ℕ
-  words (default d) = 1
+  words (default d) = 2
   words (hit r p bs) = 4 + 2 * length bs
   words (test c ts) = 3 + (count ts + words-all ts)
   words (skip t) = suc (words t)
@@ -32,10 +32,10 @@ links tnil i = []
 links (tcons t ts) i = i ∷ links ts (i + words t)
 
 -- the words of a tree whose root stands at index i:
--- "No rows: 0. No columns: 1, rule, plan, n, then n pairs. .. 2, the kind's first constructor, their count k, k links (index of each child), then the children in constructor order. Else 3, then the child."; 02, job 1: "A tree node 4, k, k upper ends rising to 100, k links .., its children following"
+-- 02, job 3: "The default leaf becomes 0, plan"; 01: "No columns: 1, rule, plan, n, then n pairs. .. 2, the kind's first constructor, their count k, k links (index of each child), then the children in constructor order. Else 3, then the child."; 02, job 1: "A tree node 4, k, k upper ends rising to 100, k links .., its children following"
 abbrev mutual
   pub layout : Tree → ℕ → List ℕ
-  layout (default d) i = 0 ∷ []
+  layout (default d) i = 0 ∷ (d ∷ [])
   layout (hit r p bs) i = 1 ∷ (r ∷ (p ∷ (length bs ∷ pairs bs)))
   layout (test c ts) i = 2 ∷ (c ∷ (count ts ∷ (links ts (i + 3 + count ts) ++ layout-all ts (i + 3 + count ts))))
   layout (skip t) i = 3 ∷ layout t (suc i)

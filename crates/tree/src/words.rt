@@ -9,7 +9,9 @@ pub const SKIP: u16 = 3;
 
 pub const SPLIT: u16 = 4;
 
-// the words of a node 1 before its pairs, of a node 2 before its links, and of a node 4 before its ends
+// the words of a node 0; of a node 1 before its pairs, of a node 2 before its links, and of a node 4 before its ends
+pub const DEFAULT_WORDS: usize = 2;
+
 pub const HIT_WORDS: usize = 4;
 
 pub const TEST_WORDS: usize = 3;

@@ -1,17 +1,16 @@
 -- The withdrawal, refusal by refusal.
 use mathlib.Core.Path.{_≡_, refl, sym, ap, subst, _∙_}
 use mathlib.Core.List.{List}
-use mathlib.Core.Option.{some}
-use mathlib.Core.Bool.{Bool, true, false, cond, not, _&&_}
+use mathlib.Core.Bool.{false, cond, not}
 use Prim.Native.Nat.{ℕ, _<_, _≤_}
 use native.Mathlib.Omega.{arith}
 use lib.Dec.{eqb, leb}
 use Rattle.signature.proofs.Tests.{leb-yes, leb-no}
 use Rattle.tree.specs.Limits.{last-number}
 use Rattle.table.specs.Limits.{limits}
-use Rattle.table.specs.Calls.{Withdraw, start, refused, begin, long-table, withdraw-number, withdraw-table}
+use Rattle.table.specs.Calls.{Withdraw, start, refused, long-table, withdraw-number, withdraw-table}
 use Rattle.table.specs.Refusals.{withdrawal-refusal}
-use Rattle.table.specs.Rule.{Rule, held, stored, take-out}
+use Rattle.table.specs.Rule.{Rule, default-of, held, stored, take-out}
 use Rattle.store.specs.Change.{GivenTake}
 use Rattle.store.specs.Laid.{Holds}
 use Rattle.store.specs.Place.{FoundAt, HeldAt, FreeAt}
@@ -25,7 +24,7 @@ use Rattle.withdrawing.specs.Withdraw.{withdrawn}
 
 -- a refusal leaves the table
 stays : (n k : ℕ) (rs : List Rule) (table : List ℕ) → withdrawal-refusal n rs ≡ k → eqb k 0 ≡ false → (k ≡ withdrawal-refusal n rs) × (table ≡ withdrawn n rs table)
-stays n k rs table e h = (sym e, sym (ap (λ z. cond (eqb z 0) (stored limits (take-out n rs) table) table) e ∙ ap (λ b. cond b (stored limits (take-out n rs) table) table) h))
+stays n k rs table e h = (sym e, sym (ap (λ z. cond (eqb z 0) (stored limits (default-of table) (take-out n rs) table) table) e ∙ ap (λ b. cond b (stored limits (default-of table) (take-out n rs) table) table) h))
 
 module _ {table : List ℕ} (g : (rs : List Rule) × Holds limits table rs) (n : ℕ) where
   pub zero-4 : n ≡ 0 → (4 ≡ withdrawal-refusal n (g .0)) × (table ≡ withdrawn n (g .0) table)
@@ -51,11 +50,11 @@ module _ {table : List ℕ} (g : (rs : List Rule) × Holds limits table rs) (n :
         pub take-given : GivenTake table at
         take-given = record { rs = g .0; holds = g .1; number = n; held = found }
 
-        pub taken-0 : (after : List ℕ) → ((q : GivenTake table at) → after ≡ stored limits (take-out (q .number) (q .rs)) table) → (0 ≡ withdrawal-refusal n (g .0)) × (after ≡ withdrawn n (g .0) table)
+        pub taken-0 : (after : List ℕ) → ((q : GivenTake table at) → after ≡ stored limits (default-of table) (take-out (q .number) (q .rs)) table) → (0 ≡ withdrawal-refusal n (g .0)) × (after ≡ withdrawn n (g .0) table)
         unfolding take-given
         taken-0 after t =
             let z : withdrawal-refusal n (g .0) ≡ 0 = refusal-is ∙ ap (λ b. cond (not b) 6 0) (found .is-held) in
-            (sym z, t take-given ∙ sym (ap (λ k. cond (eqb k 0) (stored limits (take-out n (g .0)) table) table) z))
+            (sym z, t take-given ∙ sym (ap (λ k. cond (eqb k 0) (stored limits (default-of table) (take-out n (g .0)) table) table) z))
 
 module _ (ss table t rows : List ℕ) (n : ℕ) (o : Opened) (open-so : OpenedAs ss (long-table limits table) table o t rows) where
   pub turned-down : (k : ℕ) → o ≡ Refused k → Withdraw limits ss n table k table

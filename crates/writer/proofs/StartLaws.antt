@@ -1,26 +1,23 @@
 -- Where the writer begins: every row alive at its first cell, one column of kind 0.
-use mathlib.Core.Path.{_≡_, refl, sym, ap, ap₂, subst, _∙_}
-use mathlib.Core.List.{List, [], _∷_, _++_, map}
+use mathlib.Core.Path.{_≡_, refl, sym, ap, subst, _∙_}
+use mathlib.Core.List.{List, [], _∷_, map}
 use mathlib.Core.Option.{Option, none, some}
-use mathlib.Core.Bool.{Bool, true}
+use mathlib.Core.Bool.{true}
 use Prim.Native.Nat.{ℕ, zero, suc, _+_, _-_, _*_, _≤_, _<_}
 use native.Mathlib.Omega.{arith}
 use lib.ListN.{length, getD, drop, length-append, length-drop, getElem?}
 use Rattle.signature.specs.Decoded.{Known}
-use Rattle.signature.specs.Lists.{All, none-left, also, somes, _>>=_}
-use Rattle.signature.specs.Signature.{Signature}
+use Rattle.signature.specs.Lists.{none-left, also, somes, _>>=_}
 use Rattle.signature.proofs.LawfulFacts.{kinds-above}
 use Rattle.signature.proofs.KnownFacts.{at-some}
 use Rattle.signature.proofs.ListFacts.{all-at}
 use Rattle.pattern.specs.Limits.{pattern-limit}
-use Rattle.row.specs.Row.{rcons, rnil}
 use Rattle.cell.specs.Coded.{kinds-of, row-code}
-use Rattle.cell.specs.Cursor.{opens-of}
-use Rattle.tree.specs.Limits.{tree-limit}
+use Rattle.tree.specs.Limits.{tree-limit, row-limit}
 use Rattle.tree.specs.Tree.{Line, Tree, compile}
 use Rattle.path.specs.Alive.{member}
 use Rattle.path.specs.Standing.{At}
-use Rattle.path.specs.State.{row-stride, options, Indexed, LineAt, RowIs, State, cell-of, own-of, stop-of, start-of}
+use Rattle.path.specs.State.{row-stride, default-in, options, Indexed, LineAt, State}
 use Rattle.path.specs.Rows.{RuleRow, line-of, RowKept, Fit}
 use Rattle.writer.specs.Write.{GivenRows, tree-of-rows}
 use Rattle.path.specs.Wrote.{Wrote}
@@ -52,9 +49,10 @@ module _ {t a tab : List ℕ} {n : ℕ} (g : GivenRows t a tab n) where
   ends : (r : ℕ) (w : RowAt r) → w .place .start + length (row-code (kinds-of (g .known .sig)) (w .e .row) 0) ≤ length a
   ends r w = omega (arith, w .place .within, length-drop (w .place .start) a, ap length (w .place .code-is), length-append (row-code (kinds-of (g .known .sig)) (w .e .row) 0) (w .place .rest))
 
-  pub indexed : row-stride * n ≤ length tab → Indexed t a tab n
+  pub indexed : row-stride * row-limit < length tab → Indexed t a tab n
   indexed l = record {
-    long = l;
+    long = omega (arith, l, g .few);
+    whole = l;
     counts = λ r q h i.
         let w = row-at r h in
         let x = w .place .indexed in
@@ -82,7 +80,7 @@ module _ {t a tab : List ℕ} {n : ℕ} (g : GivenRows t a tab n) where
   start-state : (s cur vis : List ℕ) → ((r : ℕ) → r < n → member s r ≡ true) → ((r : ℕ) → r < n → getD cur r 0 ≡ 0) → State (g .known .sig) t a tab n (member s) cur vis (0 ∷ []) start-lines
   start-state s cur vis m z r l = let w = row-at r l in rw (m r l, z r l, w .there) (line-at vis r w)
 
-  module _ (s cur vis : List ℕ) (long : row-stride * n ≤ length tab) (cursors : n ≤ length cur) (visits : pattern-limit * n ≤ length vis) (m : (r : ℕ) → r < n → member s r ≡ true) (z : (r : ℕ) → r < n → getD cur r 0 ≡ 0) (len : ℕ) (small : len ≤ tree-limit) where
+  module _ (s cur vis : List ℕ) (long : row-stride * row-limit < length tab) (cursors : n ≤ length cur) (visits : pattern-limit * n ≤ length vis) (m : (r : ℕ) → r < n → member s r ≡ true) (z : (r : ℕ) → r < n → getD cur r 0 ≡ 0) (len : ℕ) (small : len ≤ tree-limit) where
     pub start-given : Given t a tab n s cur vis 1 0 0 len
     start-given = record {
       known = g .known;
@@ -101,10 +99,10 @@ module _ {t a tab : List ℕ} {n : ℕ} (g : GivenRows t a tab n) where
       links-fit = omega arith;
     }
 
-    pub start-tree : (dft fuel : ℕ) → tree-of start-given dft fuel ≡ tree-of-rows g dft fuel
+    pub start-tree : (fuel : ℕ) → tree-of start-given (default-in tab) fuel ≡ tree-of-rows g fuel
     unfolding start-given
-    start-tree dft fuel = ap (λ (ls : List Line). compile dft fuel (g .known .sig) (0 ∷ []) ls 0) (ap (λ (k : ℕ). somes (options start-lines 0 k)) (g .count) ∙ listed line-of (g .rows))
+    start-tree fuel = ap (λ (ls : List Line). compile (default-in tab) fuel (g .known .sig) (0 ∷ []) ls 0) (ap (λ (k : ℕ). somes (options start-lines 0 k)) (g .count) ∙ listed line-of (g .rows))
 
     -- what is written for the lines is written for the rows
-    pub started : (u : ℕ) (space ys : List ℕ) → len ≡ length space → ((g2 : Given t a tab n s cur vis 1 0 0 len) (d2 f2 : ℕ) → length space < f2 → Wrote (tree-of g2 d2 f2) 0 u space ys) → (dft fuel : ℕ) → tree-limit < fuel → Wrote (tree-of-rows g dft fuel) 0 u space ys
-    started u space ys e call dft fuel h = subst (λ (T : Tree). Wrote T 0 u space ys) (start-tree dft fuel) (call start-given dft fuel (omega arith))
+    pub started : (u : ℕ) (space ys : List ℕ) → len ≡ length space → ((g2 : Given t a tab n s cur vis 1 0 0 len) (f2 : ℕ) → length space < f2 → Wrote (tree-of g2 (default-in tab) f2) 0 u space ys) → (fuel : ℕ) → tree-limit < fuel → Wrote (tree-of-rows g fuel) 0 u space ys
+    started u space ys e call fuel h = subst (λ (T : Tree). Wrote T 0 u space ys) (start-tree fuel) (call start-given fuel (omega arith))

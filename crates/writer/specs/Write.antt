@@ -11,6 +11,7 @@ use Rattle.tree.specs.Limits.{row-limit, tree-limit}
 use Rattle.tree.specs.Tree.{Tree, compile}
 use Rattle.tree.specs.Words.{words, layout}
 use Rattle.path.specs.Rows.{RuleRow, line-of, Fit, RowsKept}
+use Rattle.path.specs.State.{default-in}
 use Rattle.writer.specs.declared.write.Written.{Written}
 use Rattle.writer.specs.declared.write.Written.the-variants.{Done, TooLarge}
 
@@ -23,9 +24,9 @@ pub record GivenRows (t a tab : List ℕ) (n : ℕ) : Type 0 where
   pub fit : All (Fit (known .sig) t) rows
   pub placed : RowsKept (known .sig) t a tab rows
 
--- their tree, whatever the default's plan and the bound on visits
-abbrev pub tree-of-rows : {t a tab : List ℕ} {n : ℕ} → GivenRows t a tab n → ℕ → ℕ → Tree
-tree-of-rows g dft fuel = compile dft fuel (g .known .sig) (0 ∷ []) (map line-of (g .rows)) 0
+-- their tree, with the default's plan of the table of rows, whatever the bound on visits
+abbrev pub tree-of-rows : {t a tab : List ℕ} {n : ℕ} → GivenRows t a tab n → ℕ → Tree
+tree-of-rows {tab = tab} g fuel = compile (default-in tab) fuel (g .known .sig) (0 ∷ []) (map line-of (g .rows)) 0
 
 -- 14: "The tree exceeds the lent slice or 32,768 words."
 abbrev pub fits : Tree → List ℕ → Bool
@@ -39,6 +40,6 @@ answer T space = cond (fits T space) (Done (words T)) TooLarge
 abbrev pub space-after : Tree → List ℕ → List ℕ
 space-after T space = cond (fits T space) (layout T 0 ++ drop (words T) space) space
 
--- what is answered and written, for every default's plan and every bound above the most words of a tree
+-- what is answered and written, for every bound above the most words of a tree
 abbrev pub TreeWritten : List ℕ → List ℕ → List ℕ → ℕ → List ℕ → Written → List ℕ → Type 0
-TreeWritten t a tab n space w space′ = (g : GivenRows t a tab n) (dft fuel : ℕ) → tree-limit < fuel → (w ≡ answer (tree-of-rows g dft fuel) space) × (space′ ≡ space-after (tree-of-rows g dft fuel) space)
+TreeWritten t a tab n space w space′ = (g : GivenRows t a tab n) (fuel : ℕ) → tree-limit < fuel → (w ≡ answer (tree-of-rows g fuel) space) × (space′ ≡ space-after (tree-of-rows g fuel) space)

@@ -82,7 +82,7 @@ pub fn write(
     tree: &mut [u16],
     out: &mut [u16],
 ) -> Written
-    requires { ⌜ GivenRows (now t) (now a) (now rows) n × (row-stride * n ≤ length (now rows)) × (n ≤ length (now cur)) × (pattern-limit * n ≤ length (now vis)) × (tree-limit ≤ length (now tree)) ⌝ }
+    requires { ⌜ GivenRows (now t) (now a) (now rows) n × (row-stride * row-limit < length (now rows)) × (n ≤ length (now cur)) × (pattern-limit * n ≤ length (now vis)) × (tree-limit ≤ length (now tree)) ⌝ }
     ensures { λ w. ⌜ TreeWritten (now (t .entry)) (now (a .entry)) (now (rows .entry)) n (now (out .entry)) w (now (out .exit)) ⌝ }
 {
     clear(cur, n);

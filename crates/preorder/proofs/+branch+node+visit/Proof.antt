@@ -3,14 +3,13 @@ use mathlib.Core.Path.{_≡_, refl, sym, ap, _∙_}
 use mathlib.Core.List.{[]}
 use Prim.Native.Nat.{ℕ, _+_, _-_, _*_, _≤_, _<_}
 use native.Mathlib.Omega.{arith}
-use borrow.Author.Needs.{needs}
 use borrow.Rule.Slice.PartMut.{same-len-mid}
 use lib.ListN.{length, set, take, drop, length-set, length-take, length-drop}
 use Rattle.signature.proofs.KnownFacts.{long}
 use Rattle.sets.specs.Heads.{number-of}
 use Rattle.sets.specs.Set.{bit, members}
 use Rattle.path.specs.Alive.{member}
-use Rattle.path.specs.State.{Kept}
+use Rattle.path.specs.State.{Kept, default-in}
 use Rattle.preorder.specs.Front.{front-of, heads-in}
 use Rattle.preorder.specs.Node.{Branching, child-of}
 use Rattle.preorder.proofs.BlankLaws.{blank-short, blank-given, blank-most, blank-wrote}
@@ -35,6 +34,7 @@ use Rattle.preorder.proofs.+branch+node+visit.Lts-visit as visit-lts
 use Rattle.column.proofs.column.Reads as column-reads
 use Rattle.column.proofs.heads.Reads as heads-reads
 use Rattle.column.proofs.keep.Reads as keep-reads
+use Rattle.leaf.proofs.default_leaf.Reads as default-leaf-reads
 use Rattle.leaf.proofs.leaf.Reads as leaf-reads
 use Rattle.path.proofs.alive.first_alive.Reads as first-alive-reads
 use Rattle.preorder.proofs.front.front.Reads as front-reads
@@ -82,7 +82,7 @@ visit-below t = and 7 visit-kinds.ps (falls 7 visit-kinds.ps _<_ μ-visit t) vis
 abbrev branch-Inv-loop : branch-lts.InvT-loop
 branch-Inv-loop t a rows n s re cur₀ vis₀ ncols v base out₀ k f m links at₀ hs₀ j₀ cur vis out at hs j =
     (j ≤ m) × (at ≤ length out) × (length out ≡ length out₀) × (length vis ≡ length vis₀) × (cur ≡ cur₀) × Kept n cur₀ vis₀ vis
-    × ((len : ℕ) → len ≡ length out₀ → (g : Branching t a rows n s re cur₀ vis₀ ncols v base len k) → (dft fuel : ℕ) → len ≤ fuel → Part base (front-of f (number-of hs₀)) (heads-in f (number-of hs₀)) (heads-in f (number-of hs)) (child-of g dft fuel) out₀ out at j)
+    × ((len : ℕ) → len ≡ length out₀ → (g : Branching t a rows n s re cur₀ vis₀ ncols v base len k) → (fuel : ℕ) → len ≤ fuel → Part base (front-of f (number-of hs₀)) (heads-in f (number-of hs₀)) (heads-in f (number-of hs)) (child-of g (default-in rows) fuel) out₀ out at j)
     × (links + m ≤ at) × (j + length (members (number-of hs)) ≡ m) × ((i : ℕ) → bit (number-of hs) i ≡ 1 → bit (number-of hs₀) i ≡ 1)
 
 abbrev branch-μ-loop : branch-lts.MeasureT-loop
@@ -122,9 +122,9 @@ pub +branch+node+visit-spec : {M : Type 1} → statement M
     (λ c κs. omega (arith, size-most (number-of (c .before .heads .result)), c .size .ensures .0))
     (λ c. omega (arith, size-most (number-of (c .before .before .heads .result)), c .before .size .ensures .0, c .front-words .ensures, front-bounds (c .before .before .before .before .before .before .before .first-of .result) (c .before .size .result)))
     (λ c. omega (arith, bounds (c .before .before .before .before .before .before .before .before .before .before .before .before .pre .1)))
-    (λ c. record { wrote = (λ g dft fuel h. short-result g dft fuel (c .before .before .before .before .before .before .before .before .first-of .result) (number-of (c .before .before .before .heads .result)) (c .before .before .size .result) (c .before .before .before .before .before .before .before .before .before .before .before .before .args .out .now) (c .before .before .before .before .before .before .before .before .first-of .ensures) (c .before .before .before .heads .ensures) (c .before .before .size .ensures .0) (omega (arith, c .if1 .taken, c .before .front-words .ensures))); kept = record { cursors = refl; visits = (λ r q h l. refl); long = refl } })
+    (λ c. record { wrote = (λ g fuel h. short-result g fuel (c .before .before .before .before .before .before .before .before .first-of .result) (number-of (c .before .before .before .heads .result)) (c .before .before .size .result) (c .before .before .before .before .before .before .before .before .before .before .before .before .args .out .now) (c .before .before .before .before .before .before .before .before .first-of .ensures) (c .before .before .before .heads .ensures) (c .before .before .size .ensures .0) (omega (arith, c .if1 .taken, c .before .front-words .ensures))); kept = record { cursors = refl; visits = (λ r q h l. refl); long = refl } })
     (λ c κs. (c .before .before .before .size .ensures .0, omega (arith, size-most (number-of (c .before .before .before .before .heads .result)), c .before .before .before .size .ensures .0), omega (arith, c .before .if1 .left, c .before .before .front-words .ensures)))
-    (λ c. (omega arith, omega (arith, c .before .before .before .before .if1 .left, c .before .before .front .kept .0), refl, refl, refl, (λ r q h l. refl), (λ len e g dft fuel h. node-start g dft fuel (c .before .before .before .before .before .before .before .before .before .before .before .before .first-of .result) (number-of (c .before .before .before .before .before .before .before .heads .result)) (c .before .before .before .before .before .before .size .result) (c .before .before .before .before .before .front-words .result) (c .before .before .before .before .before .before .before .before .before .before .before .before .before .before .before .before .args .out .now) (c .before .before .front .last .0) (c .before .before .before .before .before .before .size .ensures .0) (c .before .before .before .before .before .front-words .ensures) (omega (arith, c .before .before .before .before .if1 .left, c .before .before .before .before .before .front-words .ensures)) (c .before .before .front .ensures)), omega arith, omega (arith, c .before .before .before .before .before .before .size .ensures .0), (λ i z. z)))
+    (λ c. (omega arith, omega (arith, c .before .before .before .before .if1 .left, c .before .before .front .kept .0), refl, refl, refl, (λ r q h l. refl), (λ len e g fuel h. node-start g fuel (c .before .before .before .before .before .before .before .before .before .before .before .before .first-of .result) (number-of (c .before .before .before .before .before .before .before .heads .result)) (c .before .before .before .before .before .before .size .result) (c .before .before .before .before .before .front-words .result) (c .before .before .before .before .before .before .before .before .before .before .before .before .before .before .before .before .args .out .now) (c .before .before .front .last .0) (c .before .before .before .before .before .before .size .ensures .0) (c .before .before .before .before .before .front-words .ensures) (omega (arith, c .before .before .before .before .if1 .left, c .before .before .before .before .before .front-words .ensures)) (c .before .before .front .ensures)), omega arith, omega (arith, c .before .before .before .before .before .before .size .ensures .0), (λ i z. z)))
     (λ c κs. some-members (number-of (c .before .loop .hs)) (omega (arith, c .before .loop .inv .8, c .loop-test .taken)))
     (λ c. omega (arith, c .before .before .before .lowest .ensures .small))
     (λ c. refl)
@@ -146,7 +146,7 @@ pub +branch+node+visit-spec : {M : Type 1} → statement M
     (λ c. omega (arith, same-len-mid (c .before .before .before .before .before .before .before .before .before .before .before .before .before .before .before .before .before .before .loop .at) (length (c .before .before .before .before .before .before .before .before .before .before .before .before .before .before .before .before .before .before .loop .out) - c .before .before .before .before .before .before .before .before .before .before .before .before .before .before .before .before .before .before .loop .at) (c .before .before .before .before .before .before .before .before .before .before .before .before .before .before .before .before .before .before .loop .out) (c .before .before .before .node .last .1 .1 .1 .1 .1 .1 .1 .1 .1 .1 .0) (c .before .before .before .node .kept .1 .1 .1 .1 .1 .1 .1 .1 .1 .1 .0), (c .before .before .before .before .before .before .before .before .before .before .before .before .before .before .before .before .before .before .loop .inv .2 ∙ c .before .before .before .before .before .before .before .before .before .before .before .before .before .before .before .before .before .before .before .before .before .front .kept .0), bounds (c .before .before .before .before .before .before .before .before .before .before .before .before .before .before .before .before .before .before .before .before .before .before .before .before .before .before .before .before .before .before .before .before .before .before .before .pre .1)))
     (λ c. same-len-mid (c .before .before .before .before .before .before .before .before .before .before .before .before .before .before .before .before .before .before .loop .at) (length (c .before .before .before .before .before .before .before .before .before .before .before .before .before .before .before .before .before .before .loop .out) - c .before .before .before .before .before .before .before .before .before .before .before .before .before .before .before .before .before .before .loop .at) (c .before .before .before .before .before .before .before .before .before .before .before .before .before .before .before .before .before .before .loop .out) (c .before .before .before .node .last .1 .1 .1 .1 .1 .1 .1 .1 .1 .1 .0) (c .before .before .before .node .kept .1 .1 .1 .1 .1 .1 .1 .1 .1 .1 .0) ∙ (c .before .before .before .before .before .before .before .before .before .before .before .before .before .before .before .before .before .before .loop .inv .2 ∙ c .before .before .before .before .before .before .before .before .before .before .before .before .before .before .before .before .before .before .before .before .before .front .kept .0))
     (λ c. record {
-      wrote = (λ g dft fuel h. long-result g (c .before .before .before .before .before .before .before .before .before .before .before .keep .last .1 .1 .1 .1 .1 .1 .1 .0) (c .before .before .before .before .before .before .before .before .before .before .before .before .before .before .before .before .before .before .loop .cur) (c .before .before .before .before .before .before .before .before .before .before .before .before .before .before .before .before .before .before .loop .vis) (c .before .before .before .before .before .before .before .before .before .before .before .before .before .before .before .before .before .before .before .before .before .front .last .0) (c .before .before .before .before .before .before .before .before .before .before .before .before .before .before .before .before .before .before .loop .out) (c .before .before .before .node .last .1 .1 .1 .1 .1 .1 .1 .1 .1 .1 .0) (c .before .before .before .before .before .before .before .before .before .before .before .before .before .before .before .before .before .before .before .before .before .before .before .before .before .before .before .before .before .before .before .first-of .result) (number-of (c .before .before .before .before .before .before .before .before .before .before .before .before .before .before .before .before .before .before .before .before .before .before .before .before .before .before .heads .result)) (number-of (c .before .before .before .before .before .before .before .before .before .before .before .before .before .before .before .before .before .before .loop .hs)) (rest-of (number-of (c .before .before .before .before .before .before .before .before .before .before .before .before .before .before .before .before .before .before .loop .hs)) (c .before .before .before .before .before .before .before .before .before .before .before .before .before .before .before .before .lowest .result)) (c .before .before .before .before .before .before .before .before .before .before .before .before .before .before .before .before .lowest .result) (c .before .before .before .before .before .before .before .before .before .before .before .before .before .before .before .before .before .before .loop .j) (c .before .before .before .before .before .before .before .before .before .before .before .before .before .before .before .before .before .before .loop .at) (c .before .before .before .node .result) _ (c .before .before .before .before .before .before .before .before .before .before .before .before .before .before .before .before .before .before .before .before .before .before .before .before .before .before .before .before .before .before .before .first-of .ensures) (width (c .before .before .before .before .before .before .before .before .before .before .before .before .before .before .before .before .before .before .before .before .before .before .before .before .before .before .before .before .before .before .before .before .before .before .before .args .t .now) (c .before .before .before .before .before .before .before .before .before .before .before .before .before .before .before .before .before .before .before .before .before .before .before .before .before .before .before .before .before .before .before .before .before .before .before .args .ncols) (c .before .before .before .before .before .before .before .before .before .before .before .before .before .before .before .before .before .before .before .before .before .before .before .before .before .before .before .before .before .before .before .before .before .before .before .args .k) (c .before .before .before .before .before .before .before .before .before .before .before .before .before .before .before .before .lowest .result) (c .before .before .before .before .before .before .before .before .before .before .before .before .before .before .before .before .before .before .before .before .before .before .before .before .before .before .before .before .before .before .before .first-of .result) (c .before .before .before .before .before .before .before .before .head-arity .result) (c .before .before .before .before .before .before .before .before .before .before .before .before .before .before .before .before .before .before .before .before .before .before .before .before .before .before .before .before .before .before .before .first-of .ensures) (c .before .before .before .before .before .before .before .before .head-arity .ensures)) (c .before .before .before .before .before .before .before .before .before .before .before .before .before .before .before .before .before .before .loop .inv .4) (member-small (c .before .before .before .before .before .before .before .before .before .before .before .before .before .before .before .before .before .before .before .before .before .before .before .before .before .before .before .before .before .before .before .before .before .before .before .pre .1) (number-of (c .before .before .before .before .before .before .before .before .before .before .before .before .before .before .before .before .before .before .before .before .before .before .before .before .before .before .heads .result)) (number-of (c .before .before .before .before .before .before .before .before .before .before .before .before .before .before .before .before .before .before .loop .hs)) (c .before .before .before .before .before .before .before .before .before .before .before .before .before .before .before .before .lowest .result) (c .before .before .before .before .before .before .before .before .before .before .before .before .before .before .before .before .before .before .before .before .before .before .before .before .before .before .heads .ensures) (c .before .before .before .before .before .before .before .before .before .before .before .before .before .before .before .before .before .before .loop .inv .9) (c .before .before .before .before .before .before .before .before .before .before .before .before .before .before .before .before .lowest .ensures .member)) (c .before .before .before .before .before .before .before .before .before .before .before .keep .ensures) (c .before .before .before .before .before .before .before .before .before .before .before .before .before .before .before .before .before .before .loop .inv .5) (c .before .before .before .before .before .before .before .before .before .before .before .before .before .before .before .before .before .before .loop .inv .3) (c .before .before .before .before .before .before .before .before .before .before .before .before .before .before .before .before .before .before .loop .inv .1) (c .before .before .before .before .before .before .before .before .before .before .before .before .before .before .before .before .before .before .loop .inv .2 ∙ c .before .before .before .before .before .before .before .before .before .before .before .before .before .before .before .before .before .before .before .before .before .front .kept .0) (members-first (number-of (c .before .before .before .before .before .before .before .before .before .before .before .before .before .before .before .before .before .before .loop .hs)) (c .before .before .before .before .before .before .before .before .before .before .before .before .before .before .before .before .lowest .result) (c .before .before .before .before .before .before .before .before .before .before .before .before .before .before .before .before .lowest .ensures)) (c .before .before .before .before .before .before .before .before .before .before .before .before .before .before .before .before .before .before .before .before .before .before .before .before .before .before .before .before .before .before .before .before .before .before .before .args .out .now) _ dft fuel (c .before .before .before .before .before .before .before .before .before .before .before .before .before .before .before .before .before .before .before .before .before .before .before .before .before .before .heads .ensures) h (omega (arith, c .before .before .before .before .before .before .before .before .before .before .before .before .before .before .before .before .before .before .loop .inv .7, c .before .before .before .before .before .before .before .before .before .before .before .before .before .before .before .before .before .before .before .before .before .before .before .before .front-words .ensures, front-bounds (c .before .before .before .before .before .before .before .before .before .before .before .before .before .before .before .before .before .before .before .before .before .before .before .before .before .before .before .before .before .before .before .first-of .result) (c .before .before .before .before .before .before .before .before .before .before .before .before .before .before .before .before .before .before .before .before .before .before .before .before .before .size .result))) refl (c .before .before .before .node .ensures .wrote) (c .before .before .before .before .before .before .before .before .before .before .before .before .before .before .before .before .before .before .loop .inv .6 _ (sym (c .before .before .before .before .before .before .before .before .before .before .before .before .before .before .before .before .before .before .before .before .before .front .kept .0)) g dft fuel h) (omega (arith, same-len-mid (c .before .before .before .before .before .before .before .before .before .before .before .before .before .before .before .before .before .before .loop .at) (length (c .before .before .before .before .before .before .before .before .before .before .before .before .before .before .before .before .before .before .loop .out) - c .before .before .before .before .before .before .before .before .before .before .before .before .before .before .before .before .before .before .loop .at) (c .before .before .before .before .before .before .before .before .before .before .before .before .before .before .before .before .before .before .loop .out) (c .before .before .before .node .last .1 .1 .1 .1 .1 .1 .1 .1 .1 .1 .0) (c .before .before .before .node .kept .1 .1 .1 .1 .1 .1 .1 .1 .1 .1 .0), c .if2 .taken)) _ (same-len-mid (c .before .before .before .before .before .before .before .before .before .before .before .before .before .before .before .before .before .before .loop .at) (length (c .before .before .before .before .before .before .before .before .before .before .before .before .before .before .before .before .before .before .loop .out) - c .before .before .before .before .before .before .before .before .before .before .before .before .before .before .before .before .before .before .loop .at) (c .before .before .before .before .before .before .before .before .before .before .before .before .before .before .before .before .before .before .loop .out) (c .before .before .before .node .last .1 .1 .1 .1 .1 .1 .1 .1 .1 .1 .0) (c .before .before .before .node .kept .1 .1 .1 .1 .1 .1 .1 .1 .1 .1 .0) ∙ (c .before .before .before .before .before .before .before .before .before .before .before .before .before .before .before .before .before .before .loop .inv .2 ∙ c .before .before .before .before .before .before .before .before .before .before .before .before .before .before .before .before .before .before .before .before .before .front .kept .0)));
+      wrote = (λ g fuel h. long-result g (c .before .before .before .before .before .before .before .before .before .before .before .keep .last .1 .1 .1 .1 .1 .1 .1 .0) (c .before .before .before .before .before .before .before .before .before .before .before .before .before .before .before .before .before .before .loop .cur) (c .before .before .before .before .before .before .before .before .before .before .before .before .before .before .before .before .before .before .loop .vis) (c .before .before .before .before .before .before .before .before .before .before .before .before .before .before .before .before .before .before .before .before .before .front .last .0) (c .before .before .before .before .before .before .before .before .before .before .before .before .before .before .before .before .before .before .loop .out) (c .before .before .before .node .last .1 .1 .1 .1 .1 .1 .1 .1 .1 .1 .0) (c .before .before .before .before .before .before .before .before .before .before .before .before .before .before .before .before .before .before .before .before .before .before .before .before .before .before .before .before .before .before .before .first-of .result) (number-of (c .before .before .before .before .before .before .before .before .before .before .before .before .before .before .before .before .before .before .before .before .before .before .before .before .before .before .heads .result)) (number-of (c .before .before .before .before .before .before .before .before .before .before .before .before .before .before .before .before .before .before .loop .hs)) (rest-of (number-of (c .before .before .before .before .before .before .before .before .before .before .before .before .before .before .before .before .before .before .loop .hs)) (c .before .before .before .before .before .before .before .before .before .before .before .before .before .before .before .before .lowest .result)) (c .before .before .before .before .before .before .before .before .before .before .before .before .before .before .before .before .lowest .result) (c .before .before .before .before .before .before .before .before .before .before .before .before .before .before .before .before .before .before .loop .j) (c .before .before .before .before .before .before .before .before .before .before .before .before .before .before .before .before .before .before .loop .at) (c .before .before .before .node .result) _ (c .before .before .before .before .before .before .before .before .before .before .before .before .before .before .before .before .before .before .before .before .before .before .before .before .before .before .before .before .before .before .before .first-of .ensures) (width (c .before .before .before .before .before .before .before .before .before .before .before .before .before .before .before .before .before .before .before .before .before .before .before .before .before .before .before .before .before .before .before .before .before .before .before .args .t .now) (c .before .before .before .before .before .before .before .before .before .before .before .before .before .before .before .before .before .before .before .before .before .before .before .before .before .before .before .before .before .before .before .before .before .before .before .args .ncols) (c .before .before .before .before .before .before .before .before .before .before .before .before .before .before .before .before .before .before .before .before .before .before .before .before .before .before .before .before .before .before .before .before .before .before .before .args .k) (c .before .before .before .before .before .before .before .before .before .before .before .before .before .before .before .before .lowest .result) (c .before .before .before .before .before .before .before .before .before .before .before .before .before .before .before .before .before .before .before .before .before .before .before .before .before .before .before .before .before .before .before .first-of .result) (c .before .before .before .before .before .before .before .before .head-arity .result) (c .before .before .before .before .before .before .before .before .before .before .before .before .before .before .before .before .before .before .before .before .before .before .before .before .before .before .before .before .before .before .before .first-of .ensures) (c .before .before .before .before .before .before .before .before .head-arity .ensures)) (c .before .before .before .before .before .before .before .before .before .before .before .before .before .before .before .before .before .before .loop .inv .4) (member-small (c .before .before .before .before .before .before .before .before .before .before .before .before .before .before .before .before .before .before .before .before .before .before .before .before .before .before .before .before .before .before .before .before .before .before .before .pre .1) (number-of (c .before .before .before .before .before .before .before .before .before .before .before .before .before .before .before .before .before .before .before .before .before .before .before .before .before .before .heads .result)) (number-of (c .before .before .before .before .before .before .before .before .before .before .before .before .before .before .before .before .before .before .loop .hs)) (c .before .before .before .before .before .before .before .before .before .before .before .before .before .before .before .before .lowest .result) (c .before .before .before .before .before .before .before .before .before .before .before .before .before .before .before .before .before .before .before .before .before .before .before .before .before .before .heads .ensures) (c .before .before .before .before .before .before .before .before .before .before .before .before .before .before .before .before .before .before .loop .inv .9) (c .before .before .before .before .before .before .before .before .before .before .before .before .before .before .before .before .lowest .ensures .member)) (c .before .before .before .before .before .before .before .before .before .before .before .keep .ensures) (c .before .before .before .before .before .before .before .before .before .before .before .before .before .before .before .before .before .before .loop .inv .5) (c .before .before .before .before .before .before .before .before .before .before .before .before .before .before .before .before .before .before .loop .inv .3) (c .before .before .before .before .before .before .before .before .before .before .before .before .before .before .before .before .before .before .loop .inv .1) (c .before .before .before .before .before .before .before .before .before .before .before .before .before .before .before .before .before .before .loop .inv .2 ∙ c .before .before .before .before .before .before .before .before .before .before .before .before .before .before .before .before .before .before .before .before .before .front .kept .0) (members-first (number-of (c .before .before .before .before .before .before .before .before .before .before .before .before .before .before .before .before .before .before .loop .hs)) (c .before .before .before .before .before .before .before .before .before .before .before .before .before .before .before .before .lowest .result) (c .before .before .before .before .before .before .before .before .before .before .before .before .before .before .before .before .lowest .ensures)) (c .before .before .before .before .before .before .before .before .before .before .before .before .before .before .before .before .before .before .before .before .before .before .before .before .before .before .before .before .before .before .before .before .before .before .before .args .out .now) _ fuel (c .before .before .before .before .before .before .before .before .before .before .before .before .before .before .before .before .before .before .before .before .before .before .before .before .before .before .heads .ensures) h (omega (arith, c .before .before .before .before .before .before .before .before .before .before .before .before .before .before .before .before .before .before .loop .inv .7, c .before .before .before .before .before .before .before .before .before .before .before .before .before .before .before .before .before .before .before .before .before .before .before .before .front-words .ensures, front-bounds (c .before .before .before .before .before .before .before .before .before .before .before .before .before .before .before .before .before .before .before .before .before .before .before .before .before .before .before .before .before .before .before .first-of .result) (c .before .before .before .before .before .before .before .before .before .before .before .before .before .before .before .before .before .before .before .before .before .before .before .before .before .size .result))) refl (c .before .before .before .node .ensures .wrote) (c .before .before .before .before .before .before .before .before .before .before .before .before .before .before .before .before .before .before .loop .inv .6 _ (sym (c .before .before .before .before .before .before .before .before .before .before .before .before .before .before .before .before .before .before .before .before .before .front .kept .0)) g fuel h) (omega (arith, same-len-mid (c .before .before .before .before .before .before .before .before .before .before .before .before .before .before .before .before .before .before .loop .at) (length (c .before .before .before .before .before .before .before .before .before .before .before .before .before .before .before .before .before .before .loop .out) - c .before .before .before .before .before .before .before .before .before .before .before .before .before .before .before .before .before .before .loop .at) (c .before .before .before .before .before .before .before .before .before .before .before .before .before .before .before .before .before .before .loop .out) (c .before .before .before .node .last .1 .1 .1 .1 .1 .1 .1 .1 .1 .1 .0) (c .before .before .before .node .kept .1 .1 .1 .1 .1 .1 .1 .1 .1 .1 .0), c .if2 .taken)) _ (same-len-mid (c .before .before .before .before .before .before .before .before .before .before .before .before .before .before .before .before .before .before .loop .at) (length (c .before .before .before .before .before .before .before .before .before .before .before .before .before .before .before .before .before .before .loop .out) - c .before .before .before .before .before .before .before .before .before .before .before .before .before .before .before .before .before .before .loop .at) (c .before .before .before .before .before .before .before .before .before .before .before .before .before .before .before .before .before .before .loop .out) (c .before .before .before .node .last .1 .1 .1 .1 .1 .1 .1 .1 .1 .1 .0) (c .before .before .before .node .kept .1 .1 .1 .1 .1 .1 .1 .1 .1 .1 .0) ∙ (c .before .before .before .before .before .before .before .before .before .before .before .before .before .before .before .before .before .before .loop .inv .2 ∙ c .before .before .before .before .before .before .before .before .before .before .before .before .before .before .before .before .before .before .before .before .before .front .kept .0)));
       kept = record { cursors = c .before .before .before .node .ensures .kept .cursors ∙ c .before .before .before .before .before .before .before .before .before .before .before .before .before .before .before .before .before .before .loop .inv .4; visits = kept-trans (c .before .before .before .before .before .before .before .before .before .before .before .before .before .before .before .before .before .before .before .before .before .before .before .before .before .before .before .before .before .before .before .before .before .before .before .args .n) (c .before .before .before .before .before .before .before .before .before .before .before .before .before .before .before .before .before .before .before .before .before .before .before .before .before .before .before .before .before .before .before .before .before .before .before .args .cur .now) (c .before .before .before .before .before .before .before .before .before .before .before .before .before .before .before .before .before .before .loop .cur) (c .before .before .before .before .before .before .before .before .before .before .before .before .before .before .before .before .before .before .before .before .before .before .before .before .before .before .before .before .before .before .before .before .before .before .before .args .vis .now) (c .before .before .before .before .before .before .before .before .before .before .before .before .before .before .before .before .before .before .loop .vis) (c .before .before .before .node .last .1 .1 .1 .1 .1 .1 .0) (c .before .before .before .before .before .before .before .before .before .before .before .before .before .before .before .before .before .before .loop .inv .4) (c .before .before .before .before .before .before .before .before .before .before .before .before .before .before .before .before .before .before .loop .inv .5) (c .before .before .before .node .ensures .kept .visits); long = c .before .before .before .node .ensures .kept .long ∙ c .before .before .before .before .before .before .before .before .before .before .before .before .before .before .before .before .before .before .loop .inv .3 };
     })
     (λ c. omega (arith, bounds (c .before .before .before .before .before .before .before .before .before .before .before .before .before .before .before .before .before .before .before .before .before .before .before .before .before .before .before .before .before .before .before .before .before .before .before .pre .1), (c .before .before .before .before .before .before .before .before .before .before .before .before .before .before .before .before .before .before .loop .inv .2 ∙ c .before .before .before .before .before .before .before .before .before .before .before .before .before .before .before .before .before .before .before .before .before .front .kept .0), c .before .before .before .before .before .before .before .before .before .before .before .before .before .before .before .before .before .before .loop .inv .1))
@@ -165,13 +165,13 @@ pub +branch+node+visit-spec : {M : Type 1} → statement M
       c .before .before .before .before .node .ensures .kept .long ∙ c .before .before .before .before .before .before .before .before .before .before .before .before .before .before .before .before .before .before .before .loop .inv .3,
       c .before .before .before .before .node .ensures .kept .cursors ∙ c .before .before .before .before .before .before .before .before .before .before .before .before .before .before .before .before .before .before .before .loop .inv .4,
       kept-trans (c .before .before .before .before .before .before .before .before .before .before .before .before .before .before .before .before .before .before .before .before .before .before .before .before .before .before .before .before .before .before .before .before .before .before .before .before .args .n) (c .before .before .before .before .before .before .before .before .before .before .before .before .before .before .before .before .before .before .before .before .before .before .before .before .before .before .before .before .before .before .before .before .before .before .before .before .args .cur .now) (c .before .before .before .before .before .before .before .before .before .before .before .before .before .before .before .before .before .before .before .loop .cur) (c .before .before .before .before .before .before .before .before .before .before .before .before .before .before .before .before .before .before .before .before .before .before .before .before .before .before .before .before .before .before .before .before .before .before .before .before .args .vis .now) (c .before .before .before .before .before .before .before .before .before .before .before .before .before .before .before .before .before .before .before .loop .vis) (c .before .before .before .before .node .last .1 .1 .1 .1 .1 .1 .0) (c .before .before .before .before .before .before .before .before .before .before .before .before .before .before .before .before .before .before .before .loop .inv .4) (c .before .before .before .before .before .before .before .before .before .before .before .before .before .before .before .before .before .before .before .loop .inv .5) (c .before .before .before .before .node .ensures .kept .visits),
-      (λ len e g dft fuel h. child-more g (c .before .before .before .before .before .before .before .before .before .before .before .before .keep .last .1 .1 .1 .1 .1 .1 .1 .0) (c .before .before .before .before .before .before .before .before .before .before .before .before .before .before .before .before .before .before .before .loop .cur) (c .before .before .before .before .before .before .before .before .before .before .before .before .before .before .before .before .before .before .before .loop .vis) (c .before .before .before .before .before .before .before .before .before .before .before .before .before .before .before .before .before .before .before .before .before .before .front .last .0) (c .before .before .before .before .before .before .before .before .before .before .before .before .before .before .before .before .before .before .before .loop .out) (c .before .before .before .before .node .last .1 .1 .1 .1 .1 .1 .1 .1 .1 .1 .0) (c .before .before .before .before .before .before .before .before .before .before .before .before .before .before .before .before .before .before .before .before .before .before .before .before .before .before .before .before .before .before .before .before .first-of .result) (number-of (c .before .before .before .before .before .before .before .before .before .before .before .before .before .before .before .before .before .before .before .before .before .before .before .before .before .before .before .heads .result)) (number-of (c .before .before .before .before .before .before .before .before .before .before .before .before .before .before .before .before .before .before .before .loop .hs)) (members (number-of (c .without .result))) (c .before .before .before .before .before .before .before .before .before .before .before .before .before .before .before .before .before .lowest .result) (c .before .before .before .before .before .before .before .before .before .before .before .before .before .before .before .before .before .before .before .loop .j) (c .before .before .before .before .before .before .before .before .before .before .before .before .before .before .before .before .before .before .before .loop .at) (c .before .before .before .before .node .result) _ (c .before .before .before .before .before .before .before .before .before .before .before .before .before .before .before .before .before .before .before .before .before .before .before .before .before .before .before .before .before .before .before .before .first-of .ensures) (width (c .before .before .before .before .before .before .before .before .before .before .before .before .before .before .before .before .before .before .before .before .before .before .before .before .before .before .before .before .before .before .before .before .before .before .before .before .args .t .now) (c .before .before .before .before .before .before .before .before .before .before .before .before .before .before .before .before .before .before .before .before .before .before .before .before .before .before .before .before .before .before .before .before .before .before .before .before .args .ncols) (c .before .before .before .before .before .before .before .before .before .before .before .before .before .before .before .before .before .before .before .before .before .before .before .before .before .before .before .before .before .before .before .before .before .before .before .before .args .k) (c .before .before .before .before .before .before .before .before .before .before .before .before .before .before .before .before .before .lowest .result) (c .before .before .before .before .before .before .before .before .before .before .before .before .before .before .before .before .before .before .before .before .before .before .before .before .before .before .before .before .before .before .before .before .first-of .result) (c .before .before .before .before .before .before .before .before .before .head-arity .result) (c .before .before .before .before .before .before .before .before .before .before .before .before .before .before .before .before .before .before .before .before .before .before .before .before .before .before .before .before .before .before .before .before .first-of .ensures) (c .before .before .before .before .before .before .before .before .before .head-arity .ensures)) (c .before .before .before .before .before .before .before .before .before .before .before .before .before .before .before .before .before .before .before .loop .inv .4) (member-small (c .before .before .before .before .before .before .before .before .before .before .before .before .before .before .before .before .before .before .before .before .before .before .before .before .before .before .before .before .before .before .before .before .before .before .before .before .pre .1) (number-of (c .before .before .before .before .before .before .before .before .before .before .before .before .before .before .before .before .before .before .before .before .before .before .before .before .before .before .before .heads .result)) (number-of (c .before .before .before .before .before .before .before .before .before .before .before .before .before .before .before .before .before .before .before .loop .hs)) (c .before .before .before .before .before .before .before .before .before .before .before .before .before .before .before .before .before .lowest .result) (c .before .before .before .before .before .before .before .before .before .before .before .before .before .before .before .before .before .before .before .before .before .before .before .before .before .before .before .heads .ensures) (c .before .before .before .before .before .before .before .before .before .before .before .before .before .before .before .before .before .before .before .loop .inv .9) (c .before .before .before .before .before .before .before .before .before .before .before .before .before .before .before .before .before .lowest .ensures .member)) (c .before .before .before .before .before .before .before .before .before .before .before .before .keep .ensures) (c .before .before .before .before .before .before .before .before .before .before .before .before .before .before .before .before .before .before .before .loop .inv .5) (c .before .before .before .before .before .before .before .before .before .before .before .before .before .before .before .before .before .before .before .loop .inv .3) (c .before .before .before .before .before .before .before .before .before .before .before .before .before .before .before .before .before .before .before .loop .inv .1) (c .before .before .before .before .before .before .before .before .before .before .before .before .before .before .before .before .before .before .before .loop .inv .2 ∙ sym e) (members-next (number-of (c .before .before .before .before .before .before .before .before .before .before .before .before .before .before .before .before .before .before .before .loop .hs)) (number-of (c .without .result)) (c .before .before .before .before .before .before .before .before .before .before .before .before .before .before .before .before .before .lowest .result) (c .before .before .before .before .before .before .before .before .before .before .before .before .before .before .before .before .before .lowest .ensures) (c .without .ensures)) dft fuel (c .before .before .before .before .before .before .before .before .before .before .before .before .before .before .before .before .before .before .before .before .before .before .before .before .before .front-words .result) (front-is g (c .before .before .before .before .before .before .before .before .before .before .before .before .before .before .before .before .before .before .before .before .before .before .before .before .before .before .before .before .before .before .before .before .first-of .result) (number-of (c .before .before .before .before .before .before .before .before .before .before .before .before .before .before .before .before .before .before .before .before .before .before .before .before .before .before .before .heads .result)) (c .before .before .before .before .before .before .before .before .before .before .before .before .before .before .before .before .before .before .before .before .before .before .before .before .before .before .size .result) (c .before .before .before .before .before .before .before .before .before .before .before .before .before .before .before .before .before .before .before .before .before .before .before .before .before .front-words .result) (c .before .before .before .before .before .before .before .before .before .before .before .before .before .before .before .before .before .before .before .before .before .before .before .before .before .before .size .ensures .0) (c .before .before .before .before .before .before .before .before .before .before .before .before .before .before .before .before .before .before .before .before .before .before .before .before .before .front-words .ensures)) h (omega (arith, c .before .before .before .before .before .before .before .before .before .before .before .before .before .before .before .before .before .before .before .loop .inv .7, c .before .before .before .before .before .before .before .before .before .before .before .before .before .before .before .before .before .before .before .before .before .before .before .before .before .front-words .ensures, front-bounds (c .before .before .before .before .before .before .before .before .before .before .before .before .before .before .before .before .before .before .before .before .before .before .before .before .before .before .before .before .before .before .before .before .first-of .result) (c .before .before .before .before .before .before .before .before .before .before .before .before .before .before .before .before .before .before .before .before .before .before .before .before .before .before .size .result))) (c .before .before .before .before .node .ensures .wrote) (c .before .before .before .before .before .before .before .before .before .before .before .before .before .before .before .before .before .before .before .loop .inv .6 _ e g dft fuel h) (c .before .before .before .before .before .before .before .before .before .before .before .before .before .before .before .before .before .before .before .loop .inv .8 ∙ c .before .before .before .before .before .before .before .before .before .before .before .before .before .before .before .before .before .before .before .before .before .before .before .before .before .before .size .ensures .0) (omega (arith, same-len-mid (c .before .before .before .before .before .before .before .before .before .before .before .before .before .before .before .before .before .before .before .loop .at) (length (c .before .before .before .before .before .before .before .before .before .before .before .before .before .before .before .before .before .before .before .loop .out) - c .before .before .before .before .before .before .before .before .before .before .before .before .before .before .before .before .before .before .before .loop .at) (c .before .before .before .before .before .before .before .before .before .before .before .before .before .before .before .before .before .before .before .loop .out) (c .before .before .before .before .node .last .1 .1 .1 .1 .1 .1 .1 .1 .1 .1 .0) (c .before .before .before .before .node .kept .1 .1 .1 .1 .1 .1 .1 .1 .1 .1 .0), c .before .if2 .left))),
+      (λ len e g fuel h. child-more g (c .before .before .before .before .before .before .before .before .before .before .before .before .keep .last .1 .1 .1 .1 .1 .1 .1 .0) (c .before .before .before .before .before .before .before .before .before .before .before .before .before .before .before .before .before .before .before .loop .cur) (c .before .before .before .before .before .before .before .before .before .before .before .before .before .before .before .before .before .before .before .loop .vis) (c .before .before .before .before .before .before .before .before .before .before .before .before .before .before .before .before .before .before .before .before .before .before .front .last .0) (c .before .before .before .before .before .before .before .before .before .before .before .before .before .before .before .before .before .before .before .loop .out) (c .before .before .before .before .node .last .1 .1 .1 .1 .1 .1 .1 .1 .1 .1 .0) (c .before .before .before .before .before .before .before .before .before .before .before .before .before .before .before .before .before .before .before .before .before .before .before .before .before .before .before .before .before .before .before .before .first-of .result) (number-of (c .before .before .before .before .before .before .before .before .before .before .before .before .before .before .before .before .before .before .before .before .before .before .before .before .before .before .before .heads .result)) (number-of (c .before .before .before .before .before .before .before .before .before .before .before .before .before .before .before .before .before .before .before .loop .hs)) (members (number-of (c .without .result))) (c .before .before .before .before .before .before .before .before .before .before .before .before .before .before .before .before .before .lowest .result) (c .before .before .before .before .before .before .before .before .before .before .before .before .before .before .before .before .before .before .before .loop .j) (c .before .before .before .before .before .before .before .before .before .before .before .before .before .before .before .before .before .before .before .loop .at) (c .before .before .before .before .node .result) _ (c .before .before .before .before .before .before .before .before .before .before .before .before .before .before .before .before .before .before .before .before .before .before .before .before .before .before .before .before .before .before .before .before .first-of .ensures) (width (c .before .before .before .before .before .before .before .before .before .before .before .before .before .before .before .before .before .before .before .before .before .before .before .before .before .before .before .before .before .before .before .before .before .before .before .before .args .t .now) (c .before .before .before .before .before .before .before .before .before .before .before .before .before .before .before .before .before .before .before .before .before .before .before .before .before .before .before .before .before .before .before .before .before .before .before .before .args .ncols) (c .before .before .before .before .before .before .before .before .before .before .before .before .before .before .before .before .before .before .before .before .before .before .before .before .before .before .before .before .before .before .before .before .before .before .before .before .args .k) (c .before .before .before .before .before .before .before .before .before .before .before .before .before .before .before .before .before .lowest .result) (c .before .before .before .before .before .before .before .before .before .before .before .before .before .before .before .before .before .before .before .before .before .before .before .before .before .before .before .before .before .before .before .before .first-of .result) (c .before .before .before .before .before .before .before .before .before .head-arity .result) (c .before .before .before .before .before .before .before .before .before .before .before .before .before .before .before .before .before .before .before .before .before .before .before .before .before .before .before .before .before .before .before .before .first-of .ensures) (c .before .before .before .before .before .before .before .before .before .head-arity .ensures)) (c .before .before .before .before .before .before .before .before .before .before .before .before .before .before .before .before .before .before .before .loop .inv .4) (member-small (c .before .before .before .before .before .before .before .before .before .before .before .before .before .before .before .before .before .before .before .before .before .before .before .before .before .before .before .before .before .before .before .before .before .before .before .before .pre .1) (number-of (c .before .before .before .before .before .before .before .before .before .before .before .before .before .before .before .before .before .before .before .before .before .before .before .before .before .before .before .heads .result)) (number-of (c .before .before .before .before .before .before .before .before .before .before .before .before .before .before .before .before .before .before .before .loop .hs)) (c .before .before .before .before .before .before .before .before .before .before .before .before .before .before .before .before .before .lowest .result) (c .before .before .before .before .before .before .before .before .before .before .before .before .before .before .before .before .before .before .before .before .before .before .before .before .before .before .before .heads .ensures) (c .before .before .before .before .before .before .before .before .before .before .before .before .before .before .before .before .before .before .before .loop .inv .9) (c .before .before .before .before .before .before .before .before .before .before .before .before .before .before .before .before .before .lowest .ensures .member)) (c .before .before .before .before .before .before .before .before .before .before .before .before .keep .ensures) (c .before .before .before .before .before .before .before .before .before .before .before .before .before .before .before .before .before .before .before .loop .inv .5) (c .before .before .before .before .before .before .before .before .before .before .before .before .before .before .before .before .before .before .before .loop .inv .3) (c .before .before .before .before .before .before .before .before .before .before .before .before .before .before .before .before .before .before .before .loop .inv .1) (c .before .before .before .before .before .before .before .before .before .before .before .before .before .before .before .before .before .before .before .loop .inv .2 ∙ sym e) (members-next (number-of (c .before .before .before .before .before .before .before .before .before .before .before .before .before .before .before .before .before .before .before .loop .hs)) (number-of (c .without .result)) (c .before .before .before .before .before .before .before .before .before .before .before .before .before .before .before .before .before .lowest .result) (c .before .before .before .before .before .before .before .before .before .before .before .before .before .before .before .before .before .lowest .ensures) (c .without .ensures)) fuel (c .before .before .before .before .before .before .before .before .before .before .before .before .before .before .before .before .before .before .before .before .before .before .before .before .before .front-words .result) (front-is g (c .before .before .before .before .before .before .before .before .before .before .before .before .before .before .before .before .before .before .before .before .before .before .before .before .before .before .before .before .before .before .before .before .first-of .result) (number-of (c .before .before .before .before .before .before .before .before .before .before .before .before .before .before .before .before .before .before .before .before .before .before .before .before .before .before .before .heads .result)) (c .before .before .before .before .before .before .before .before .before .before .before .before .before .before .before .before .before .before .before .before .before .before .before .before .before .before .size .result) (c .before .before .before .before .before .before .before .before .before .before .before .before .before .before .before .before .before .before .before .before .before .before .before .before .before .front-words .result) (c .before .before .before .before .before .before .before .before .before .before .before .before .before .before .before .before .before .before .before .before .before .before .before .before .before .before .size .ensures .0) (c .before .before .before .before .before .before .before .before .before .before .before .before .before .before .before .before .before .before .before .before .before .before .before .before .before .front-words .ensures)) h (omega (arith, c .before .before .before .before .before .before .before .before .before .before .before .before .before .before .before .before .before .before .before .loop .inv .7, c .before .before .before .before .before .before .before .before .before .before .before .before .before .before .before .before .before .before .before .before .before .before .before .before .before .front-words .ensures, front-bounds (c .before .before .before .before .before .before .before .before .before .before .before .before .before .before .before .before .before .before .before .before .before .before .before .before .before .before .before .before .before .before .before .before .first-of .result) (c .before .before .before .before .before .before .before .before .before .before .before .before .before .before .before .before .before .before .before .before .before .before .before .before .before .before .size .result))) (c .before .before .before .before .node .ensures .wrote) (c .before .before .before .before .before .before .before .before .before .before .before .before .before .before .before .before .before .before .before .loop .inv .6 _ e g fuel h) (c .before .before .before .before .before .before .before .before .before .before .before .before .before .before .before .before .before .before .before .loop .inv .8 ∙ c .before .before .before .before .before .before .before .before .before .before .before .before .before .before .before .before .before .before .before .before .before .before .before .before .before .before .size .ensures .0) (omega (arith, same-len-mid (c .before .before .before .before .before .before .before .before .before .before .before .before .before .before .before .before .before .before .before .loop .at) (length (c .before .before .before .before .before .before .before .before .before .before .before .before .before .before .before .before .before .before .before .loop .out) - c .before .before .before .before .before .before .before .before .before .before .before .before .before .before .before .before .before .before .before .loop .at) (c .before .before .before .before .before .before .before .before .before .before .before .before .before .before .before .before .before .before .before .loop .out) (c .before .before .before .before .node .last .1 .1 .1 .1 .1 .1 .1 .1 .1 .1 .0) (c .before .before .before .before .node .kept .1 .1 .1 .1 .1 .1 .1 .1 .1 .1 .0), c .before .if2 .left))),
       omega (arith, c .before .before .before .before .before .before .before .before .before .before .before .before .before .before .before .before .before .before .before .loop .inv .7),
       omega (arith, c .before .before .before .before .before .before .before .before .before .before .before .before .before .before .before .before .before .before .before .loop .inv .8, ap length (members-next (number-of (c .before .before .before .before .before .before .before .before .before .before .before .before .before .before .before .before .before .before .before .loop .hs)) (number-of (c .without .result)) (c .before .before .before .before .before .before .before .before .before .before .before .before .before .before .before .before .before .lowest .result) (c .before .before .before .before .before .before .before .before .before .before .before .before .before .before .before .before .before .lowest .ensures) (c .without .ensures))),
       left-among (number-of (c .before .before .before .before .before .before .before .before .before .before .before .before .before .before .before .before .before .before .before .loop .hs)) (number-of (c .without .result)) (number-of (c .before .before .before .before .before .before .before .before .before .before .before .before .before .before .before .before .before .before .before .before .before .before .before .before .before .before .before .heads .result)) (c .before .before .before .before .before .before .before .before .before .before .before .before .before .before .before .before .before .lowest .result) (c .before .before .before .before .before .before .before .before .before .before .before .before .before .before .before .before .before .before .before .loop .inv .9) (c .without .ensures),
     ))
     (λ c. (c .before .loop .inv .2 ∙ c .before .before .before .before .front .kept .0))
-    (λ c. record { wrote = (λ g dft fuel h. node-end g dft fuel (c .before .before .before .before .before .before .before .before .before .before .before .before .before .before .first-of .result) (number-of (c .before .before .before .before .before .before .before .before .before .heads .result)) (number-of (c .before .loop .hs)) (c .before .before .before .before .before .before .before .before .size .result) (c .before .before .before .before .before .before .before .before .before .before .before .before .before .before .before .before .before .before .args .out .now) (c .before .before .before .before .front .last .0) _ _ _ (c .before .before .before .before .before .before .before .before .before .before .before .before .before .before .first-of .ensures) (c .before .before .before .before .before .before .before .before .before .heads .ensures) (c .before .before .before .before .before .before .before .before .size .ensures .0) (c .before .before .before .before .front .ensures) (omega (arith, c .before .loop .inv .8, c .loop-test .left)) (omega (arith, c .before .loop .inv .1, (c .before .loop .inv .2 ∙ c .before .before .before .before .front .kept .0))) (c .before .loop .inv .6 _ (sym (c .before .before .before .before .front .kept .0)) g dft fuel h)); kept = record { cursors = c .before .loop .inv .4; visits = c .before .loop .inv .5; long = c .before .loop .inv .3 } }))
+    (λ c. record { wrote = (λ g fuel h. node-end g fuel (c .before .before .before .before .before .before .before .before .before .before .before .before .before .before .first-of .result) (number-of (c .before .before .before .before .before .before .before .before .before .heads .result)) (number-of (c .before .loop .hs)) (c .before .before .before .before .before .before .before .before .size .result) (c .before .before .before .before .before .before .before .before .before .before .before .before .before .before .before .before .before .before .args .out .now) (c .before .before .before .before .front .last .0) _ _ _ (c .before .before .before .before .before .before .before .before .before .before .before .before .before .before .first-of .ensures) (c .before .before .before .before .before .before .before .before .before .heads .ensures) (c .before .before .before .before .before .before .before .before .size .ensures .0) (c .before .before .before .before .front .ensures) (omega (arith, c .before .loop .inv .8, c .loop-test .left)) (omega (arith, c .before .loop .inv .1, (c .before .loop .inv .2 ∙ c .before .before .before .before .front .kept .0))) (c .before .loop .inv .6 _ (sym (c .before .before .before .before .front .kept .0)) g fuel h)); kept = record { cursors = c .before .loop .inv .4; visits = c .before .loop .inv .5; long = c .before .loop .inv .3 } }))
     (λ t. node-lts.spec (
       blank-reads.Asked,
       blank-reads.Learnt,
@@ -184,7 +184,7 @@ pub +branch+node+visit-spec : {M : Type 1} → statement M
     node.Post
     (λ c κs. (c .before .before .before .before .before .pre .1 .few, c .before .before .before .before .before .pre .1 .cursors, c .before .before .before .before .before .pre .1 .ok .long, λ r l e. (c .before .before .before .before .before .pre .1 .low r l, cursor-within (c .before .before .before .before .before .pre .1) r l e .1)))
     (λ c. omega (arith, c .before .before .before .before .before .before .before .pre .1 .links-fit))
-    (λ c. record { wrote = (λ g dft fuel h. blank-short _ g (c .before .blank .result) (c .before .blank .ensures) dft fuel h (c .if1 .taken)); kept = record { cursors = refl; visits = (λ r q h l. refl); long = refl } })
+    (λ c. record { wrote = (λ g fuel h. blank-short _ g (c .before .blank .result) (c .before .blank .ensures) fuel h (c .if1 .taken)); kept = record { cursors = refl; visits = (λ r q h l. refl); long = refl } })
     (λ c κs. omega (arith, c .before .if1 .left))
     (λ c. omega (arith, c .before .before .before .before .before .before .before .blank .ensures .most))
     (λ c. omega (arith, c .before .before .before .before .before .before .before .before .before .before .before .before .before .pre .1 .visits-fit, c .before .before .before .before .before .before .if1 .left))
@@ -196,10 +196,12 @@ pub +branch+node+visit-spec : {M : Type 1} → statement M
     (λ c κs. (simp (length-take, length-drop) (omega (arith, c .before .before .before .before .before .before .before .before .before .before .before .before .before .before .pre .0, c .before .before .before .before .before .skips .kept .0, c .before .before .before .before .before .before .before .if1 .left)), blank-given _ (c .before .before .before .before .before .before .before .before .before .before .before .before .before .before .pre .1) (c .before .before .before .before .before .before .before .before .blank .result) (c .before .before .before .before .before .before .before .before .blank .ensures) (c .before .before .before .before .before .skips .last .0) (omega (arith, c .before .before .before .before .before .before .before .if1 .left)) (c .before .before .before .before .before .skips .ensures)))
     (λ c. omega (arith, blank-most _ (c .before .before .before .before .before .before .before .before .before .before .before .before .before .before .before .before .before .pre .1) (c .before .before .before .before .before .before .before .before .before .before .before .blank .result) (c .before .before .before .before .before .before .before .before .before .before .before .blank .ensures) (c .before .before .before .before .before .before .before .before .skips .last .0) (omega (arith, c .before .before .before .before .before .before .before .before .before .before .if1 .left)) (c .before .before .before .before .before .before .before .before .skips .ensures) (c .before .before .visit .result) (c .before .before .visit .last .1 .1 .1 .1 .1 .1 .1 .1 .1 .1 .0) (c .before .before .visit .ensures .wrote), c .before .before .before .before .before .before .before .before .before .before .before .before .before .before .before .before .before .pre .1 .links-fit))
     (λ c. same-len-mid (c .before .before .before .before .before .before .before .before .before .before .before .blank .result) (length (c .before .before .before .before .before .before .before .before .skips .last .0) - c .before .before .before .before .before .before .before .before .before .before .before .blank .result) (c .before .before .before .before .before .before .before .before .skips .last .0) (c .before .before .visit .last .1 .1 .1 .1 .1 .1 .1 .1 .1 .1 .0) (c .before .before .visit .kept .1 .1 .1 .1 .1 .1 .1 .1 .1 .1 .0) ∙ c .before .before .before .before .before .before .before .before .skips .kept .0)
-    (λ c. record { wrote = (λ g dft fuel h. blank-wrote _ g (c .before .before .before .before .before .before .before .before .before .before .before .blank .result) (c .before .before .before .before .before .before .before .before .before .before .before .blank .ensures) (c .before .before .before .before .before .before .before .before .skips .last .0) (omega (arith, c .before .before .before .before .before .before .before .before .before .before .if1 .left)) (c .before .before .before .before .before .before .before .before .skips .ensures) (c .before .before .visit .result) (c .before .before .visit .last .1 .1 .1 .1 .1 .1 .1 .1 .1 .1 .0) (c .before .before .visit .ensures .wrote) dft fuel h); kept = record { cursors = c .before .before .visit .ensures .kept .cursors; visits = c .before .before .visit .ensures .kept .visits; long = c .before .before .visit .ensures .kept .long } }))
+    (λ c. record { wrote = (λ g fuel h. blank-wrote _ g (c .before .before .before .before .before .before .before .before .before .before .before .blank .result) (c .before .before .before .before .before .before .before .before .before .before .before .blank .ensures) (c .before .before .before .before .before .before .before .before .skips .last .0) (omega (arith, c .before .before .before .before .before .before .before .before .before .before .if1 .left)) (c .before .before .before .before .before .before .before .before .skips .ensures) (c .before .before .visit .result) (c .before .before .visit .last .1 .1 .1 .1 .1 .1 .1 .1 .1 .1 .0) (c .before .before .visit .ensures .wrote) fuel h); kept = record { cursors = c .before .before .visit .ensures .kept .cursors; visits = c .before .before .visit .ensures .kept .visits; long = c .before .before .visit .ensures .kept .long } }))
     λ t. visit-lts.spec (
       first-alive-reads.Asked,
       first-alive-reads.Learnt,
+      default-leaf-reads.Asked,
+      default-leaf-reads.Learnt,
       leaf-reads.Asked,
       leaf-reads.Learnt,
       real-reads.Asked,
@@ -217,14 +219,14 @@ pub +branch+node+visit-spec : {M : Type 1} → statement M
     )
     (visit-at t)
     visit.Post
-    (λ c. record { wrote = (λ g dft fuel h. no-room _ _ _ _ (c .if1 .taken)); kept = record { cursors = refl; visits = (λ r q h l. refl); long = refl } })
+    (λ c. record { wrote = (λ g fuel h. no-room _ _ _ _ (c .if1 .taken)); kept = record { cursors = refl; visits = (λ r q h l. refl); long = refl } })
     (λ c κs. c .before .before .before .pre .1 .few)
-    (λ c. omega (arith, c .before .before .if1 .left))
-    (λ c. simp length-set)
-    (λ c. record { wrote = (λ g dft fuel h. none-result g dft fuel _ h (omega (arith, c .before .before .if1 .left)) (c .if2 .taken) (c .before .first-alive .ensures)); kept = record { cursors = refl; visits = (λ r q h l. refl); long = refl } })
+    (λ c κs. c .before .before .before .before .before .before .before .pre .1 .ok .whole)
+    (λ c. c .before .before .default-leaf .kept .1 .0)
+    (λ c. record { wrote = (λ g fuel h. none-result g fuel _ _ _ h (c .before .before .before .before .before .if2 .taken) (c .before .before .before .before .before .before .first-alive .ensures) (c .before .before .default-leaf .ensures)); kept = record { cursors = refl; visits = (λ r q h l. refl); long = refl } })
     (λ c κs. (leaving (c .before .before .before .before .before .before .before .before .before .before .before .before .pre .1) _ (omega (arith, c .before .before .before .before .before .before .before .before .first-alive .ensures .most, c .before .before .before .before .before .before .before .if2 .left)) (c .before .before .before .before .before .before .before .before .first-alive .ensures .there (omega (arith, c .before .before .before .before .before .before .before .before .first-alive .ensures .most, c .before .before .before .before .before .before .before .if2 .left))), omega (arith, c .before .before .before .before .before .before .before .before .before .before .before .before .pre .1 .links-fit)))
     (λ c. c .before .before .leaf .kept .1 .1 .1 .1 .1 .0)
-    (λ c. record { wrote = (λ g dft fuel h. leaf-result g dft fuel _ _ _ h (omega (arith, c .before .before .before .before .before .before .before .before .before .before .before .first-alive .ensures .most, c .before .before .before .before .before .before .before .before .before .before .if2 .left)) (c .before .before .before .before .before .before .before .before .before .before .before .first-alive .ensures) (c .before .before .before .before .before .before .before .before .before .if3 .taken) (c .before .before .leaf .ensures)); kept = record { cursors = refl; visits = (λ r q h l. refl); long = refl } })
+    (λ c. record { wrote = (λ g fuel h. leaf-result g fuel _ _ _ h (omega (arith, c .before .before .before .before .before .before .before .before .before .before .before .first-alive .ensures .most, c .before .before .before .before .before .before .before .before .before .before .if2 .left)) (c .before .before .before .before .before .before .before .before .before .before .before .first-alive .ensures) (c .before .before .before .before .before .before .before .before .before .if3 .taken) (c .before .before .leaf .ensures)); kept = record { cursors = refl; visits = (λ r q h l. refl); long = refl } })
     (λ c. refl)
     (λ c κs. (c .before .before .before .before .before .before .before .before .before .before .pre .1 .few, c .before .before .before .before .before .before .before .before .before .before .pre .1 .cursors, c .before .before .before .before .before .before .before .before .before .before .pre .1 .ok .long, (λ r l e. c .before .before .before .before .before .before .before .before .before .before .pre .1 .low r l), refl))
     (λ c κs. let k = cols (c .before .before .before .before .before .before .before .before .before .before .before .before .before .before .before .before .before .pre .1) (omega (arith, c .before .before .before .before .before .before .before .before .before .before .before .if3 .left)) in looking (c .before .before .before .before .before .before .before .before .before .before .before .before .before .before .before .before .before .pre .1) _ (k .k) (k .rest) (k .is) (k .there) (c .before .before .before .before .before .before .real .ensures))
@@ -240,8 +242,8 @@ pub +branch+node+visit-spec : {M : Type 1} → statement M
     (λ c κs. (c .before .before .before .before .before .before .before .before .before .before .before .before .before .before .before .before .before .before .before .before .before .before .before .before .before .before .before .before .before .before .before .pre .1 .few, omega (arith, c .before .before .before .before .before .before .before .before .before .before .before .before .before .before .before .before .before .before .before .before .before .before .before .before .before .before .before .before .before .before .before .pre .1 .cursors, c .before .before .before .before .before .before .before .before .before .raise .kept .0, ap length (c .before .before .before .before .node .ensures .kept .cursors)), λ r l e. lower-ok _ _ _ _ _ _ _ _ (c .before .before .before .before .before .before .before .before .before .raise .ensures) (c .before .before .before .before .node .ensures .kept .cursors) r l e))
     (λ c. omega (arith, skip-fits (c .before .before .before .before .before .before .before .before .before .before .before .before .before .before .before .before .before .before .before .before .before .real .last .1 .1 .1 .1 .1 .0) (c .before .before .before .before .before .before .before .before .before .before .raise .last .0) (c .before .before .before .before .before .before .before .before .before .before .raise .last .1 .0) (c .before .before .before .before .before .before .before .before .before .before .before .before .before .before .before .before .before .before .before .before .before .before .before .before .before .before .before .before .before .before .before .before .args .out .now) (c .before .before .before .before .before .node .last .1 .1 .1 .1 .1 .1 .1 .1 .1 .1 .0) (c .before .before .before .before .before .before .before .before .before .before .before .before .before .before .column .result) (c .before .before .before .before .before .node .result) (c .before .before .before .before .before .before .before .before .before .before .before .before .before .before .before .before .before .before .before .before .before .before .before .before .before .before .before .before .first-alive .result) (c .before .before .before .before .before .before .before .before .before .before .before .before .before .before .before .before .before .before .before .before .before .real .ensures) (c .before .before .before .before .before .before .before .before .before .before .before .before .before .before .column .ensures) (c .before .before .before .before .before .before .before .before .before .before .raise .ensures) (c .before .before .before .before .before .before .before .before .before .before .raise .kept .0) (c .before .before .before .before .before .before .before .before .before .before .raise .kept .1 .0) (omega (arith, c .before .before .before .before .before .before .before .before .before .before .before .before .before .before .before .before .before .before .before .before .before .before .before .before .before .before .if3 .left)) (c .before .before .before .before .before .before .before .before .before .before .before .before .before .before .before .before .before .before .before .before .before .before .before .before .before .before .before .before .before .before .before .before .pre .1) (c .before .before .before .before .before .before .before .before .before .if4 .taken) (omega (arith, c .before .before .before .before .before .before .before .before .before .before .before .before .before .before .before .before .before .before .before .before .before .before .before .before .before .before .before .before .before .if1 .left)) (c .before .before .before .before .before .node .ensures .wrote), c .before .before .before .before .before .before .before .before .before .before .before .before .before .before .before .before .before .before .before .before .before .before .before .before .before .before .before .before .before .before .before .before .pre .1 .links-fit))
     (λ c. same-len-mid 1 (length (set (c .before .before .before .before .before .before .before .before .before .before .before .before .before .before .before .before .before .before .before .before .before .before .before .before .before .before .before .before .before .before .before .before .args .out .now) 0 3) - 1) (set (c .before .before .before .before .before .before .before .before .before .before .before .before .before .before .before .before .before .before .before .before .before .before .before .before .before .before .before .before .before .before .before .before .args .out .now) 0 3) (c .before .before .before .before .before .node .last .1 .1 .1 .1 .1 .1 .1 .1 .1 .1 .0) (c .before .before .before .before .before .node .kept .1 .1 .1 .1 .1 .1 .1 .1 .1 .1 .0) ∙ length-set (c .before .before .before .before .before .before .before .before .before .before .before .before .before .before .before .before .before .before .before .before .before .before .before .before .before .before .before .before .before .before .before .before .args .out .now) 0 3)
-    (λ c. record { wrote = (λ g dft fuel h. skip-result (c .before .before .before .before .before .before .before .before .before .before .before .before .before .before .before .before .before .before .before .before .before .real .last .1 .1 .1 .1 .1 .0) (c .before .before .before .before .before .before .before .before .before .before .raise .last .0) (c .before .before .before .before .before .before .before .before .before .before .raise .last .1 .0) (c .before .before .before .before .before .before .before .before .before .before .before .before .before .before .before .before .before .before .before .before .before .before .before .before .before .before .before .before .before .before .before .before .args .out .now) (c .before .before .before .before .before .node .last .1 .1 .1 .1 .1 .1 .1 .1 .1 .1 .0) (c .before .before .before .before .before .before .before .before .before .before .before .before .before .before .column .result) (c .before .before .before .before .before .node .result) (c .before .before .before .before .before .before .before .before .before .before .before .before .before .before .before .before .before .before .before .before .before .before .before .before .before .before .before .before .first-alive .result) (c .before .before .before .before .before .before .before .before .before .before .before .before .before .before .before .before .before .before .before .before .before .real .ensures) (c .before .before .before .before .before .before .before .before .before .before .before .before .before .before .column .ensures) (c .before .before .before .before .before .before .before .before .before .before .raise .ensures) (c .before .before .before .before .before .before .before .before .before .before .raise .kept .0) (c .before .before .before .before .before .before .before .before .before .before .raise .kept .1 .0) (omega (arith, c .before .before .before .before .before .before .before .before .before .before .before .before .before .before .before .before .before .before .before .before .before .before .before .before .before .before .if3 .left)) g dft fuel (c .before .before .before .before .before .before .before .before .before .if4 .taken) (omega (arith, c .before .before .before .before .before .before .before .before .before .before .before .before .before .before .before .before .before .before .before .before .before .before .before .before .before .before .before .before .first-alive .ensures .most, c .before .before .before .before .before .before .before .before .before .before .before .before .before .before .before .before .before .before .before .before .before .before .before .before .before .before .before .if2 .left)) (c .before .before .before .before .before .before .before .before .before .before .before .before .before .before .before .before .before .before .before .before .before .before .before .before .before .before .before .before .first-alive .ensures) (omega (arith, c .before .before .before .before .before .before .before .before .before .before .before .before .before .before .before .before .before .before .before .before .before .before .before .before .before .before .before .before .before .if1 .left)) h (c .before .before .before .before .before .node .ensures .wrote)); kept = record { cursors = restored _ _ _ _ _ _ _ _ _ (c .before .before .before .before .before .before .before .before .before .before .raise .ensures) (c .before .before .before .before .before .node .ensures .kept .cursors) (c .lower .ensures) (c .lower .kept .0 ∙ ap length (c .before .before .before .before .before .node .ensures .kept .cursors) ∙ c .before .before .before .before .before .before .before .before .before .before .raise .kept .0); visits = kept-through (c .before .before .before .before .before .before .before .before .before .before .before .before .before .before .before .before .before .before .before .before .before .before .before .before .before .before .before .before .before .before .before .before .args .n) (c .before .before .before .before .before .before .before .before .before .before .before .before .before .before .before .before .before .before .before .before .before .before .before .before .before .before .before .before .before .before .before .before .args .v) (member (c .before .before .before .before .before .before .before .before .before .before .before .before .before .before .before .before .before .before .before .before .before .real .last .1 .1 .1 .1 .1 .0)) (c .before .before .before .before .before .before .before .before .before .before .before .before .before .before .before .before .before .before .before .before .before .before .before .before .before .before .before .before .before .before .before .before .args .cur .now) (c .before .before .before .before .before .before .before .before .before .before .before .before .before .before .before .before .before .before .before .before .before .before .before .before .before .before .before .before .before .before .before .before .args .vis .now) (c .before .before .before .before .before .before .before .before .before .before .raise .last .0) (c .before .before .before .before .before .before .before .before .before .before .raise .last .1 .0) (c .before .before .before .before .before .node .last .1 .1 .1 .1 .1 .1 .0) (c .before .before .before .before .before .before .before .before .before .before .raise .ensures) (c .before .before .before .before .before .node .ensures .kept .visits); long = c .before .before .before .before .before .node .ensures .kept .long ∙ c .before .before .before .before .before .before .before .before .before .before .raise .kept .1 .0 } })
+    (λ c. record { wrote = (λ g fuel h. skip-result (c .before .before .before .before .before .before .before .before .before .before .before .before .before .before .before .before .before .before .before .before .before .real .last .1 .1 .1 .1 .1 .0) (c .before .before .before .before .before .before .before .before .before .before .raise .last .0) (c .before .before .before .before .before .before .before .before .before .before .raise .last .1 .0) (c .before .before .before .before .before .before .before .before .before .before .before .before .before .before .before .before .before .before .before .before .before .before .before .before .before .before .before .before .before .before .before .before .args .out .now) (c .before .before .before .before .before .node .last .1 .1 .1 .1 .1 .1 .1 .1 .1 .1 .0) (c .before .before .before .before .before .before .before .before .before .before .before .before .before .before .column .result) (c .before .before .before .before .before .node .result) (c .before .before .before .before .before .before .before .before .before .before .before .before .before .before .before .before .before .before .before .before .before .before .before .before .before .before .before .before .first-alive .result) (c .before .before .before .before .before .before .before .before .before .before .before .before .before .before .before .before .before .before .before .before .before .real .ensures) (c .before .before .before .before .before .before .before .before .before .before .before .before .before .before .column .ensures) (c .before .before .before .before .before .before .before .before .before .before .raise .ensures) (c .before .before .before .before .before .before .before .before .before .before .raise .kept .0) (c .before .before .before .before .before .before .before .before .before .before .raise .kept .1 .0) (omega (arith, c .before .before .before .before .before .before .before .before .before .before .before .before .before .before .before .before .before .before .before .before .before .before .before .before .before .before .if3 .left)) g fuel (c .before .before .before .before .before .before .before .before .before .if4 .taken) (omega (arith, c .before .before .before .before .before .before .before .before .before .before .before .before .before .before .before .before .before .before .before .before .before .before .before .before .before .before .before .before .first-alive .ensures .most, c .before .before .before .before .before .before .before .before .before .before .before .before .before .before .before .before .before .before .before .before .before .before .before .before .before .before .before .if2 .left)) (c .before .before .before .before .before .before .before .before .before .before .before .before .before .before .before .before .before .before .before .before .before .before .before .before .before .before .before .before .first-alive .ensures) (omega (arith, c .before .before .before .before .before .before .before .before .before .before .before .before .before .before .before .before .before .before .before .before .before .before .before .before .before .before .before .before .before .if1 .left)) h (c .before .before .before .before .before .node .ensures .wrote)); kept = record { cursors = restored _ _ _ _ _ _ _ _ _ (c .before .before .before .before .before .before .before .before .before .before .raise .ensures) (c .before .before .before .before .before .node .ensures .kept .cursors) (c .lower .ensures) (c .lower .kept .0 ∙ ap length (c .before .before .before .before .before .node .ensures .kept .cursors) ∙ c .before .before .before .before .before .before .before .before .before .before .raise .kept .0); visits = kept-through (c .before .before .before .before .before .before .before .before .before .before .before .before .before .before .before .before .before .before .before .before .before .before .before .before .before .before .before .before .before .before .before .before .args .n) (c .before .before .before .before .before .before .before .before .before .before .before .before .before .before .before .before .before .before .before .before .before .before .before .before .before .before .before .before .before .before .before .before .args .v) (member (c .before .before .before .before .before .before .before .before .before .before .before .before .before .before .before .before .before .before .before .before .before .real .last .1 .1 .1 .1 .1 .0)) (c .before .before .before .before .before .before .before .before .before .before .before .before .before .before .before .before .before .before .before .before .before .before .before .before .before .before .before .before .before .before .before .before .args .cur .now) (c .before .before .before .before .before .before .before .before .before .before .before .before .before .before .before .before .before .before .before .before .before .before .before .before .before .before .before .before .before .before .before .before .args .vis .now) (c .before .before .before .before .before .before .before .before .before .before .raise .last .0) (c .before .before .before .before .before .before .before .before .before .before .raise .last .1 .0) (c .before .before .before .before .before .node .last .1 .1 .1 .1 .1 .1 .0) (c .before .before .before .before .before .before .before .before .before .before .raise .ensures) (c .before .before .before .before .before .node .ensures .kept .visits); long = c .before .before .before .before .before .node .ensures .kept .long ∙ c .before .before .before .before .before .before .before .before .before .before .raise .kept .1 .0 } })
     (λ c κs. (omega (arith, c .before .before .before .before .before .before .before .before .before .before .before .before .before .before .before .before .before .before .before .before .before .before .before .before .before .before .before .pre .0), branch-child (c .before .before .before .before .before .before .before .before .before .before .before .before .before .before .before .before .real .last .1 .1 .1 .1 .1 .0) (c .before .before .before .before .before .raise .last .0) (c .before .before .before .before .before .raise .last .1 .0) (c .before .before .before .before .before .before .before .before .before .before .before .before .before .before .before .before .before .before .before .before .before .before .before .before .before .before .before .args .out .now) [] (c .before .before .before .before .before .before .before .before .before .column .result) 0 (c .before .before .before .before .before .before .before .before .before .before .before .before .before .before .before .before .before .before .before .before .before .before .before .first-alive .result) (c .before .before .before .before .before .before .before .before .before .before .before .before .before .before .before .before .real .ensures) (c .before .before .before .before .before .before .before .before .before .column .ensures) (c .before .before .before .before .before .raise .ensures) (c .before .before .before .before .before .raise .kept .0) (c .before .before .before .before .before .raise .kept .1 .0) (omega (arith, c .before .before .before .before .before .before .before .before .before .before .before .before .before .before .before .before .before .before .before .before .before .if3 .left)) (c .before .before .before .before .before .before .before .before .before .before .before .before .before .before .before .before .before .before .before .before .before .before .before .before .before .before .before .pre .1) (c .before .before .before .before .if4 .left)))
     (λ c κs. (c .before .before .before .before .before .before .before .before .before .before .before .before .before .before .before .before .before .before .before .before .before .before .before .before .before .before .before .before .before .before .before .before .pre .1 .few, omega (arith, c .before .before .before .before .before .before .before .before .before .before .before .before .before .before .before .before .before .before .before .before .before .before .before .before .before .before .before .before .before .before .before .before .pre .1 .cursors, c .before .before .before .before .before .before .before .before .before .before .raise .kept .0, ap length (c .before .before .before .before .branch .ensures .kept .cursors)), λ r l e. lower-ok _ _ _ _ _ _ _ _ (c .before .before .before .before .before .before .before .before .before .before .raise .ensures) (c .before .before .before .before .branch .ensures .kept .cursors) r l e))
     (λ c. c .before .before .before .before .before .branch .kept .1 .1 .1 .1 .1 .1 .1 .1 .1 .1 .1 .0)
-    (λ c. record { wrote = (λ g dft fuel h. branch-result (c .before .before .before .before .before .before .before .before .before .before .before .before .before .before .before .before .before .before .before .before .before .before .real .last .1 .1 .1 .1 .1 .0) (c .before .before .before .before .before .before .before .before .before .before .before .raise .last .0) (c .before .before .before .before .before .before .before .before .before .before .before .raise .last .1 .0) (c .before .before .before .before .before .before .before .before .before .before .before .before .before .before .before .before .before .before .before .before .before .before .before .before .before .before .before .before .before .before .before .before .before .args .out .now) (c .before .before .before .before .before .branch .last .1 .1 .1 .1 .1 .1 .1 .1 .1 .1 .1 .0) (c .before .before .before .before .before .before .before .before .before .before .before .before .before .before .before .column .result) (c .before .before .before .before .before .branch .result) (c .before .before .before .before .before .before .before .before .before .before .before .before .before .before .before .before .before .before .before .before .before .before .before .before .before .before .before .before .before .first-alive .result) (c .before .before .before .before .before .before .before .before .before .before .before .before .before .before .before .before .before .before .before .before .before .before .real .ensures) (c .before .before .before .before .before .before .before .before .before .before .before .before .before .before .before .column .ensures) (c .before .before .before .before .before .before .before .before .before .before .before .raise .ensures) (c .before .before .before .before .before .before .before .before .before .before .before .raise .kept .0) (c .before .before .before .before .before .before .before .before .before .before .before .raise .kept .1 .0) (omega (arith, c .before .before .before .before .before .before .before .before .before .before .before .before .before .before .before .before .before .before .before .before .before .before .before .before .before .before .before .if3 .left)) g dft fuel (c .before .before .before .before .before .before .before .before .before .before .if4 .left) (omega (arith, c .before .before .before .before .before .before .before .before .before .before .before .before .before .before .before .before .before .before .before .before .before .before .before .before .before .before .before .before .before .first-alive .ensures .most, c .before .before .before .before .before .before .before .before .before .before .before .before .before .before .before .before .before .before .before .before .before .before .before .before .before .before .before .before .if2 .left)) (c .before .before .before .before .before .before .before .before .before .before .before .before .before .before .before .before .before .before .before .before .before .before .before .before .before .before .before .before .before .first-alive .ensures) h (c .before .before .before .before .before .branch .ensures .wrote)); kept = record { cursors = restored _ _ _ _ _ _ _ _ _ (c .before .before .before .before .before .before .before .before .before .before .before .raise .ensures) (c .before .before .before .before .before .branch .ensures .kept .cursors) (c .lower2 .ensures) (c .lower2 .kept .0 ∙ ap length (c .before .before .before .before .before .branch .ensures .kept .cursors) ∙ c .before .before .before .before .before .before .before .before .before .before .before .raise .kept .0); visits = kept-through (c .before .before .before .before .before .before .before .before .before .before .before .before .before .before .before .before .before .before .before .before .before .before .before .before .before .before .before .before .before .before .before .before .before .args .n) (c .before .before .before .before .before .before .before .before .before .before .before .before .before .before .before .before .before .before .before .before .before .before .before .before .before .before .before .before .before .before .before .before .before .args .v) (member (c .before .before .before .before .before .before .before .before .before .before .before .before .before .before .before .before .before .before .before .before .before .before .real .last .1 .1 .1 .1 .1 .0)) (c .before .before .before .before .before .before .before .before .before .before .before .before .before .before .before .before .before .before .before .before .before .before .before .before .before .before .before .before .before .before .before .before .before .args .cur .now) (c .before .before .before .before .before .before .before .before .before .before .before .before .before .before .before .before .before .before .before .before .before .before .before .before .before .before .before .before .before .before .before .before .before .args .vis .now) (c .before .before .before .before .before .before .before .before .before .before .before .raise .last .0) (c .before .before .before .before .before .before .before .before .before .before .before .raise .last .1 .0) (c .before .before .before .before .before .branch .last .1 .1 .1 .1 .1 .1 .1 .0) (c .before .before .before .before .before .before .before .before .before .before .before .raise .ensures) (c .before .before .before .before .before .branch .ensures .kept .visits); long = c .before .before .before .before .before .branch .ensures .kept .long ∙ c .before .before .before .before .before .before .before .before .before .before .before .raise .kept .1 .0 } })
+    (λ c. record { wrote = (λ g fuel h. branch-result (c .before .before .before .before .before .before .before .before .before .before .before .before .before .before .before .before .before .before .before .before .before .before .real .last .1 .1 .1 .1 .1 .0) (c .before .before .before .before .before .before .before .before .before .before .before .raise .last .0) (c .before .before .before .before .before .before .before .before .before .before .before .raise .last .1 .0) (c .before .before .before .before .before .before .before .before .before .before .before .before .before .before .before .before .before .before .before .before .before .before .before .before .before .before .before .before .before .before .before .before .before .args .out .now) (c .before .before .before .before .before .branch .last .1 .1 .1 .1 .1 .1 .1 .1 .1 .1 .1 .0) (c .before .before .before .before .before .before .before .before .before .before .before .before .before .before .before .column .result) (c .before .before .before .before .before .branch .result) (c .before .before .before .before .before .before .before .before .before .before .before .before .before .before .before .before .before .before .before .before .before .before .before .before .before .before .before .before .before .first-alive .result) (c .before .before .before .before .before .before .before .before .before .before .before .before .before .before .before .before .before .before .before .before .before .before .real .ensures) (c .before .before .before .before .before .before .before .before .before .before .before .before .before .before .before .column .ensures) (c .before .before .before .before .before .before .before .before .before .before .before .raise .ensures) (c .before .before .before .before .before .before .before .before .before .before .before .raise .kept .0) (c .before .before .before .before .before .before .before .before .before .before .before .raise .kept .1 .0) (omega (arith, c .before .before .before .before .before .before .before .before .before .before .before .before .before .before .before .before .before .before .before .before .before .before .before .before .before .before .before .if3 .left)) g fuel (c .before .before .before .before .before .before .before .before .before .before .if4 .left) (omega (arith, c .before .before .before .before .before .before .before .before .before .before .before .before .before .before .before .before .before .before .before .before .before .before .before .before .before .before .before .before .before .first-alive .ensures .most, c .before .before .before .before .before .before .before .before .before .before .before .before .before .before .before .before .before .before .before .before .before .before .before .before .before .before .before .before .if2 .left)) (c .before .before .before .before .before .before .before .before .before .before .before .before .before .before .before .before .before .before .before .before .before .before .before .before .before .before .before .before .before .first-alive .ensures) h (c .before .before .before .before .before .branch .ensures .wrote)); kept = record { cursors = restored _ _ _ _ _ _ _ _ _ (c .before .before .before .before .before .before .before .before .before .before .before .raise .ensures) (c .before .before .before .before .before .branch .ensures .kept .cursors) (c .lower2 .ensures) (c .lower2 .kept .0 ∙ ap length (c .before .before .before .before .before .branch .ensures .kept .cursors) ∙ c .before .before .before .before .before .before .before .before .before .before .before .raise .kept .0); visits = kept-through (c .before .before .before .before .before .before .before .before .before .before .before .before .before .before .before .before .before .before .before .before .before .before .before .before .before .before .before .before .before .before .before .before .before .args .n) (c .before .before .before .before .before .before .before .before .before .before .before .before .before .before .before .before .before .before .before .before .before .before .before .before .before .before .before .before .before .before .before .before .before .args .v) (member (c .before .before .before .before .before .before .before .before .before .before .before .before .before .before .before .before .before .before .before .before .before .before .real .last .1 .1 .1 .1 .1 .0)) (c .before .before .before .before .before .before .before .before .before .before .before .before .before .before .before .before .before .before .before .before .before .before .before .before .before .before .before .before .before .before .before .before .before .args .cur .now) (c .before .before .before .before .before .before .before .before .before .before .before .before .before .before .before .before .before .before .before .before .before .before .before .before .before .before .before .before .before .before .before .before .before .args .vis .now) (c .before .before .before .before .before .before .before .before .before .before .before .raise .last .0) (c .before .before .before .before .before .before .before .before .before .before .before .raise .last .1 .0) (c .before .before .before .before .before .branch .last .1 .1 .1 .1 .1 .1 .1 .0) (c .before .before .before .before .before .before .before .before .before .before .before .raise .ensures) (c .before .before .before .before .before .branch .ensures .kept .visits); long = c .before .before .before .before .before .branch .ensures .kept .long ∙ c .before .before .before .before .before .before .before .before .before .before .before .raise .kept .1 .0 } })

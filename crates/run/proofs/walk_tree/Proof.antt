@@ -19,9 +19,9 @@ abbrev μ-loop : tie.MeasureT-loop
 μ-loop table tree book visits₀ n₀ t₀ node₀ b₀ place₀ visits n t node b place = length t
 
 -- what a step on tells
-on : (c : tie.After-known-told Inv-loop μ-loop) → (1 ≤ c .before .s .given .0 .0) × (c .before .s .given .0 .0 ≤ length (c .before .before .before .before .loop .t .now)) × (1 ≤ c .before .s .given .0 .1 .0) × (c .before .s .given .0 .1 .0 ≤ length (c .before .before .before .before .loop .b .now))
+on : (c : tie.After-known-told2 Inv-loop μ-loop) → (1 ≤ c .before .s2 .given .0 .0) × (c .before .s2 .given .0 .0 ≤ length (c .before .before .before .before .loop .t .now)) × (1 ≤ c .before .s2 .given .0 .1 .0) × (c .before .s2 .given .0 .1 .0 ≤ length (c .before .before .before .before .loop .b .now))
 on c = let l = c .before .before .before .before .loop in
-    ahead (l .inv .5 (c .before .before .before .before .before .before .before .before .pre)) (l .inv .4) (c .before .before .before .at-node .result) (c .before .before .before .at-node .ensures) (c .before .s .given .0 .0) (c .before .s .given .0 .1 .0) (c .before .s .given .1)
+    ahead (l .inv .5 (c .before .before .before .before .before .before .before .before .pre)) (l .inv .4) (c .before .before .before .at-node .result) (c .before .before .before .at-node .ensures) (c .before .s2 .given .0 .0) (c .before .s2 .given .0 .1 .0) (c .before .s2 .given .1)
 
 pub walk-tree-spec : {M : Type 1} → statement M
 walk-tree-spec =
@@ -36,12 +36,12 @@ walk-tree-spec =
     (λ c k. let l = c .before .before .before .before .loop in c .refused .ensures ∙ broken-here (l .inv .5 k) (l .inv .4) (c .before .before .before .at-node .result) (c .before .before .before .at-node .ensures) (c .before .enum-told .given .1))
     (λ c. search needs)
     (λ c κs. search needs)
-    (λ c k. let l = c .before .before .before .before .loop in c .no-rule .ensures ∙ default-here (l .inv .5 k) (l .inv .4) (c .before .before .before .at-node .result) (c .before .before .before .at-node .ensures) (c .before .enum-told2 .given .1))
+    (λ c k. let l = c .before .before .before .before .before .loop in c .no-rule .ensures ∙ default-here (l .inv .5 k) (l .inv .4) (c .before .before .before .before .at-node .result) (c .before .before .before .before .at-node .ensures) (c .before .before .s .given .0 .0) (c .before .before .s .given .1))
     (λ c. search needs)
     (λ c. omega arith)
     (λ c. let l = c .before .before .before .before .loop in sym (length-take-le (l .n) (l .visits) (omega arith)))
     (λ c κs. search needs)
-    (λ c k. let l = c .before .before .before .before .before .loop in c .hit .ensures ∙ hit-here (l .inv .5 k) (l .inv .4) (c .before .before .before .before .at-node .result) (c .before .before .before .before .at-node .ensures) (c .before .before .enum-told3 .given .1))
+    (λ c k. let l = c .before .before .before .before .before .loop in c .hit .ensures ∙ hit-here (l .inv .5 k) (l .inv .4) (c .before .before .before .before .at-node .result) (c .before .before .before .before .at-node .ensures) (c .before .before .enum-told2 .given .1))
     (λ c. search needs)
     (λ c. omega (arith, on c))
     (λ c. omega (arith, on c))
@@ -64,5 +64,5 @@ walk-tree-spec =
       l .inv .2,
       rw length-set (l .inv .3),
       omega (arith, on (c .before .before), c .before .t .given .2),
-      λ k. here-next (l .inv .5 k) (l .inv .4) (c .before .before .before .before .before .at-node .result) (c .before .before .before .before .before .at-node .ensures) (c .before .before .before .s .given .0 .0) (c .before .before .before .s .given .0 .1 .0) (c .before .before .before .s .given .1) (omega (arith, on (c .before .before))),
+      λ k. here-next (l .inv .5 k) (l .inv .4) (c .before .before .before .before .before .at-node .result) (c .before .before .before .before .before .at-node .ensures) (c .before .before .before .s2 .given .0 .0) (c .before .before .before .s2 .given .0 .1 .0) (c .before .before .before .s2 .given .1) (omega (arith, on (c .before .before))),
     )))

@@ -41,5 +41,6 @@ by-rules-spec =
     (λ c. omega (arith, few (c .before .before .before .before .before .before .before .before .before .before .pre) (c .before .before .before .before .before .loop .inv (c .before .before .before .before .before .before .before .before .before .before .pre)) (c .before .before .before .before .loop-test .taken)))
     (λ c. omega arith)
     (λ c g. again g (c .before .before .before .before .before .loop .inv g) (c .before .before .before .before .loop-test .taken) _ (c .before .takes .ensures) (c .if1 .left))
+    (λ c. omega (arith, long (c .before .before .before .before .before .before .before .pre)))
     (λ c κs. tt)
-    (λ c g. c .no-rule .ensures ∙ ap (λ a. (0, a)) (sym (finished g (c .before .before .loop .inv g) (c .before .loop-test .left)))))
+    (λ c g. c .no-rule .ensures ∙ ap (λ a. (0, a)) (sym (finished g (c .before .before .before .loop .inv g) (c .before .before .loop-test .left)))))

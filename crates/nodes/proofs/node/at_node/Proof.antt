@@ -18,7 +18,8 @@ at-node-spec =
     (tie.spec
     (λ c p. node-out p (c .before .before .before .before .args .t .now) (c .before .before .before .before .args .node) (c .if1 .taken))
     (λ c. search needs)
-    (λ c p. node-default p (c .before .before .before .before .before .before .args .t .now) (c .before .before .before .before .before .before .args .node) (c .before .before .if1 .left) (c .if2 .taken))
+    (λ c κs. search needs)
+    (λ c p. c .default-at .ensures ∙ node-default p (c .before .before .before .before .before .before .before .args .t .now) (c .before .before .before .before .before .before .before .args .node) (c .before .before .before .if1 .left) (c .before .if2 .taken))
     (λ c p. node-left p (c .before .before .before .before .before .before .before .before .args .t .now) (c .before .before .before .before .before .before .before .before .args .node) (c .before .before .before .before .if1 .left) (c .before .if3 .taken) (c .if4 .taken))
     (λ c p. node-hit p (c .before .before .before .before .before .before .before .before .args .t .now) (c .before .before .before .before .before .before .before .before .args .node) (c .before .before .before .before .if1 .left) (c .before .if3 .taken) (c .if4 .left))
     (λ c p. node-no-part p (c .before .before .before .before .before .before .before .before .args .t .now) (c .before .before .before .before .before .before .before .before .args .node) (c .before .before .before .before .if1 .left) (c .before .before .if2 .left) (c .before .if3 .left) (c .if5 .taken))

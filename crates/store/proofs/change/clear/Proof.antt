@@ -13,4 +13,5 @@ clear-spec =
     (λ c. search needs)
     (λ c κs. search needs)
     (λ c. search needs)
+    (λ c. search needs)
     (λ c. let e = c .before .before .before .before .before in emptied (e .args .table .now) (c .before .before .zero .last .0) (e .pre) (c .before .before .zero .ensures)))
