@@ -23,7 +23,11 @@ static void enter(uint16_t number, uint16_t plan, const uint16_t *pattern, size_
 
 static void show(const char *call, bellgantlet_answer a)
 {
-    printf("%s: %u, rule %u, plan %u", call, a.number, a.rule, a.plan);
+    printf("%s: %u, ", call, a.number);
+    if (a.number == 0 && a.rule == 0)
+        printf("no rule, plan %u", a.plan);
+    else
+        printf("rule %u, plan %u", a.rule, a.plan);
     for (int x = 0; x < BELLGANTLET_VARIABLES; x++)
         if (a.number == 0 && a.places[x] != BELLGANTLET_UNBOUND)
             printf(", variable %d at %u", x, a.places[x]);
@@ -54,14 +58,20 @@ int main(void)
     enter(9, 41, nine, N(nine));
     enter(8, 42, other, N(other));
     enter(1000, 42, other, N(other));
-    t = bellgantlet_compile(signature, N(signature), table, N(table), space, 36);
-    printf("compile into 36 words: %u, %zu\n", t.number, t.length);
+    t = bellgantlet_compile(signature, N(signature), table, N(table), space, 38);
+    printf("compile into 38 words: %u, %zu\n", t.number, t.length);
     t = bellgantlet_compile(signature, N(signature), table, N(table), space, N(space));
     printf("compile: %u, %zu\n", t.number, t.length);
     for (size_t i = 0; i < N(bookings); i++) {
         show("run", bellgantlet_run(signature, N(signature), space, t.length, bookings[i], 3));
         show("decide", bellgantlet_decide(signature, N(signature), table, N(table), bookings[i], 3));
     }
+    printf("set default 2: %u\n", bellgantlet_set_default(signature, N(signature), 2, table, N(table)));
+    printf("set default 3, too short: %u\n", bellgantlet_set_default(signature, N(signature), 3, table, N(table) - 1));
+    show("decide", bellgantlet_decide(signature, N(signature), table, N(table), bookings[2], 3));
+    show("run, compiled before", bellgantlet_run(signature, N(signature), space, t.length, bookings[2], 3));
+    t = bellgantlet_compile(signature, N(signature), table, N(table), space, N(space));
+    show("run, compiled again", bellgantlet_run(signature, N(signature), space, t.length, bookings[2], 3));
     printf("withdraw 7: %u\n", bellgantlet_withdraw(signature, N(signature), 7, table, N(table)));
     printf("withdraw 7: %u\n", bellgantlet_withdraw(signature, N(signature), 7, table, N(table)));
     enter(8, 42, other, N(other));

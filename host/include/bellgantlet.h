@@ -7,6 +7,9 @@
  * keeps a pointer, allocates, or fails otherwise than by its number; each is defined on every content of what it is lent.
  * A call may run at the same time as any other that does not write what it is lent.
  *
+ * Tables and trees that were stored before version 0.5.0 have another form, and nothing tells it from this one: empty such a
+ * table, enter its rules again, and compile again.
+ *
  * Every answer has a number: 0, or that of the first refusal that applies, in the order given. On a refusal all other
  * results are 0 and nothing is written, except on 12, and by a check, which keeps the number.
  *
@@ -23,12 +26,12 @@
 extern "C" {
 #endif
 
-#define BELLGANTLET_VERSION "0.4.0"
-#define BELLGANTLET_VERSION_NUMBER 400  /* 10,000 times the first number, 100 times the second, the third */
+#define BELLGANTLET_VERSION "0.5.0"
+#define BELLGANTLET_VERSION_NUMBER 500  /* 10,000 times the first number, 100 times the second, the third */
 
 enum {
     BELLGANTLET_SIGNATURE = 1533,   /* the most words of a lawful signature: 255 constructors with four arguments, one without */
-    BELLGANTLET_TABLE = 4289,       /* the words of a table */
+    BELLGANTLET_TABLE = 4290,       /* the words of a table: how many rules it has, its default plan, the rules */
     BELLGANTLET_WITNESS = 4096,     /* the words of a witness buffer */
     BELLGANTLET_TREE = 32768,       /* the most words of a tree */
     BELLGANTLET_BOOKING = 4096,     /* the most words of a booking */
@@ -46,6 +49,7 @@ enum {
     BELLGANTLET_STACK_EMPTY = 4096,
     BELLGANTLET_STACK_ENTER = 860160,
     BELLGANTLET_STACK_WITHDRAW = 860160,
+    BELLGANTLET_STACK_SET_DEFAULT = 860160,
     BELLGANTLET_STACK_DECIDE = 860160,
     BELLGANTLET_STACK_COMPILE = 2228224,
     BELLGANTLET_STACK_RUN = 16384,
@@ -84,7 +88,7 @@ static inline const char *bellgantlet_refusal_text(uint16_t number)
     switch (number) {
     case BELLGANTLET_DONE: return "Done.";
     case BELLGANTLET_SIGNATURE_UNLAWFUL: return "The signature is unlawful.";
-    case BELLGANTLET_TOO_SHORT: return "A lent table is under 4,289 words or a witness buffer under 4,096.";
+    case BELLGANTLET_TOO_SHORT: return "A lent table is under 4,290 words or a witness buffer under 4,096.";
     case BELLGANTLET_TABLE_UNSOUND: return "The table is not sound.";
     case BELLGANTLET_NUMBER_OUTSIDE: return "The rule number is not 1 to 999.";
     case BELLGANTLET_NUMBER_HELD: return "The number to enter is held.";
@@ -117,7 +121,8 @@ typedef struct {
     size_t length;
 } bellgantlet_tree;
 
-/* What run and decide answer: the default is rule 0, plan 0 and 16 unbound places; on a refusal the places are 0. */
+/* What run and decide answer. Where no rule takes the booking, the rule is 0, the plan is the default plan, and all places are
+ * unbound; a plan may be any number, so that rule 0 alone says it. On a refusal the places are 0. */
 typedef struct {
     uint16_t number;
     uint16_t rule;
@@ -144,7 +149,8 @@ typedef struct {
     uint16_t words[BELLGANTLET_CHECK_WORDS];
 } bellgantlet_check;
 
-/* Makes a table without rules: 4,289 words become 0, those behind stay. Refusals: 2. */
+/* Makes a table without rules and with default plan 1: the second word becomes 1, all others of 4,290 become 0, those
+ * behind stay. Refusals: 2. */
 uint16_t bellgantlet_empty(uint16_t *table, size_t table_words);
 
 /* Enters a rule. On 12 a booking that both rules take stands first in the witness buffer, whose rest stays; on every
@@ -162,20 +168,28 @@ uint16_t bellgantlet_withdraw(
     uint16_t number,
     uint16_t *table, size_t table_words);
 
-/* Writes the tree of the rules in force from index 0 of the space, whose other words stay. Refusals: 1, 2, 3, 14. */
+/* Sets the default plan, any number: the second word of the table becomes it, all others stay. Trees compiled before keep
+ * theirs. Refusals: 1, 2, 3. */
+uint16_t bellgantlet_set_default(
+    const uint16_t *signature, size_t signature_words,
+    uint16_t plan,
+    uint16_t *table, size_t table_words);
+
+/* Writes the tree of the rules in force and of the default plan from index 0 of the space, whose other words stay. A
+ * leaf without a rule has the words 0 and that plan. Refusals: 1, 2, 3, 14. */
 bellgantlet_tree bellgantlet_compile(
     const uint16_t *signature, size_t signature_words,
     const uint16_t *table, size_t table_words,
     uint16_t *space, size_t space_words);
 
-/* Answers a booking directly from the table. Refusals: 1, 2, 3, 13. */
+/* Answers a booking directly from the table, with the default plan that stands in it. Refusals: 1, 2, 3, 13. */
 bellgantlet_answer bellgantlet_decide(
     const uint16_t *signature, size_t signature_words,
     const uint16_t *table, size_t table_words,
     const uint16_t *booking, size_t booking_words);
 
-/* Answers a booking over a tree, by the rules that it was compiled from. The slice may be longer than the tree.
- * Refusals: 1, 13, 15. */
+/* Answers a booking over a tree, by the rules and with the default plan that it was compiled from, whatever the table says
+ * now. The slice may be longer than the tree. Refusals: 1, 13, 15. */
 bellgantlet_answer bellgantlet_run(
     const uint16_t *signature, size_t signature_words,
     const uint16_t *tree, size_t tree_words,

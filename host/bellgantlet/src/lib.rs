@@ -21,8 +21,8 @@ use std::sync::Arc;
 pub const VERSION: &str = env!("CARGO_PKG_VERSION");
 /// The most words of a lawful signature: 255 constructors with four arguments and one without, as some value must end.
 pub const SIGNATURE: usize = 1 + 255 * 6 + 2;
-/// Words of a table.
-pub const TABLE: usize = 4289;
+/// Words of a table: how many rules it has, its default plan, the rules.
+pub const TABLE: usize = 4290;
 /// Words of a witness buffer.
 pub const WITNESS: usize = 4096;
 /// The most words of a tree.
@@ -156,7 +156,7 @@ impl fmt::Display for RuleNumber {
     }
 }
 
-/// The rules in force: always sound under its signature.
+/// The rules in force and the default plan: always sound under its signature.
 #[derive(Clone, Debug, PartialEq, Eq)]
 pub struct Table {
     signature: Signature,
@@ -164,7 +164,7 @@ pub struct Table {
 }
 
 impl Table {
-    /// A table without rules.
+    /// A table without rules and with default plan 1.
     pub fn new(signature: &Signature) -> Table {
         let mut words = vec![0; TABLE].into_boxed_slice();
         let number = raw::empty(&mut words);
@@ -173,6 +173,7 @@ impl Table {
     }
 
     /// A table as [`Table::words`] gave it, say from a disk; refused with 2 or 3. Words behind the table's own are left out.
+    /// A version before 0.5 stored another form: enter its rules again.
     pub fn from_words(signature: &Signature, words: &[u16]) -> Result<Table, Refusal> {
         let mut words: Box<[u16]> = words[..words.len().min(TABLE)].into();
         // 0 is no rule's number: a sound table refuses it with 4 and stays as it is.
@@ -193,7 +194,7 @@ impl Table {
 
     /// The rules, rising by number: number, plan and pattern of each.
     pub fn rules(&self) -> impl Iterator<Item = (RuleNumber, u16, &[u16])> {
-        let mut at = 1;
+        let mut at = 2;
         (0..self.words[0]).map(move |_| {
             let (number, plan, n) = (self.words[at], self.words[at + 1], self.words[at + 2] as usize);
             let pattern = &self.words[at + 3..at + 3 + n];
@@ -221,7 +222,22 @@ impl Table {
         }
     }
 
-    /// The tree of the rules in force; refused with [`Refusal::TreeTooLarge`] alone. Takes up to [`stack::COMPILE`] bytes.
+    /// The plan of a booking that no rule takes.
+    pub fn default_plan(&self) -> u16 {
+        self.words[1]
+    }
+
+    /// Sets the default plan, any number; trees compiled before keep theirs. A sound table is not refused. Takes up to
+    /// [`stack::SET_DEFAULT`] bytes.
+    pub fn set_default(&mut self, plan: u16) -> Result<(), Refusal> {
+        match raw::set_default(&self.signature.0, plan, &mut self.words) {
+            0 => Ok(()),
+            n => Err(Refusal::of(n)),
+        }
+    }
+
+    /// The tree of the rules in force and the default plan; refused with [`Refusal::TreeTooLarge`] alone. Takes up to
+    /// [`stack::COMPILE`] bytes.
     pub fn compile(&self) -> Result<Tree, Refusal> {
         let mut space = vec![0; TREE];
         let t = raw::compile(&self.signature.0, &self.words, &mut space);
@@ -247,6 +263,7 @@ pub struct Tree {
 
 impl Tree {
     /// A tree as [`Tree::words`] gave it. What is broken shows when a run walks there, as [`Refusal::TreeBroken`].
+    /// A version before 0.5 stored another form, which may not be refused: compile again.
     pub fn from_words(signature: &Signature, words: &[u16]) -> Tree {
         Tree { signature: signature.clone(), words: words.into() }
     }
@@ -255,8 +272,8 @@ impl Tree {
         &self.words
     }
 
-    /// The answer by the rules that the tree was compiled from. A tree of [`Table::compile`] refuses with
-    /// [`Refusal::BookingUnlawful`] alone.
+    /// The answer by the rules and with the default plan that the tree was compiled from. A tree of [`Table::compile`] refuses
+    /// with [`Refusal::BookingUnlawful`] alone.
     pub fn run(&self, booking: &[u16]) -> Result<Answer, Refusal> {
         Answer::of(raw::run(&self.signature.0, &self.words, booking))
     }
@@ -265,7 +282,7 @@ impl Tree {
 /// What a booking gets.
 #[derive(Clone, Copy, Debug, PartialEq, Eq)]
 pub enum Answer {
-    /// No rule takes the booking.
+    /// No rule takes the booking. This alone says it: a plan may be any number.
     Default { plan: u16 },
     Rule { number: RuleNumber, plan: u16, places: Places },
 }
@@ -279,6 +296,14 @@ impl Answer {
             None => Answer::Default { plan: a.plan },
             Some(n) => Answer::Rule { number: RuleNumber(n), plan: a.plan, places: Places(a.places) },
         })
+    }
+
+    /// The rule that takes the booking, if one does.
+    pub fn rule(&self) -> Option<RuleNumber> {
+        match self {
+            Answer::Default { .. } => None,
+            Answer::Rule { number, .. } => Some(*number),
+        }
     }
 
     /// The plan's number.

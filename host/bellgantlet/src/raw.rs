@@ -18,7 +18,8 @@ pub struct Tree {
     pub length: usize,
 }
 
-/// Rule, plan and a place for each variable, 65,535 where it is unbound; all 0 on a refusal.
+/// Rule, plan and a place for each variable, 65,535 where it is unbound; rule 0 and the default plan where no rule takes the
+/// booking; all 0 on a refusal.
 #[repr(C)]
 #[derive(Clone, Copy, Debug, PartialEq, Eq)]
 pub struct Answer {
@@ -67,6 +68,7 @@ mod link {
             witness_n: usize,
         ) -> Entered;
         pub fn bellgantlet_withdraw(signature: *const u16, signature_n: usize, number: u16, table: *mut u16, table_n: usize) -> u16;
+        pub fn bellgantlet_set_default(signature: *const u16, signature_n: usize, plan: u16, table: *mut u16, table_n: usize) -> u16;
         pub fn bellgantlet_compile(
             signature: *const u16,
             signature_n: usize,
@@ -124,6 +126,10 @@ pub fn enter(signature: &[u16], number: u16, plan: u16, pattern: &[u16], table: 
 
 pub fn withdraw(signature: &[u16], number: u16, table: &mut [u16]) -> u16 {
     unsafe { link::bellgantlet_withdraw(signature.as_ptr(), signature.len(), number, table.as_mut_ptr(), table.len()) }
+}
+
+pub fn set_default(signature: &[u16], plan: u16, table: &mut [u16]) -> u16 {
+    unsafe { link::bellgantlet_set_default(signature.as_ptr(), signature.len(), plan, table.as_mut_ptr(), table.len()) }
 }
 
 pub fn compile(signature: &[u16], table: &[u16], space: &mut [u16]) -> Tree {

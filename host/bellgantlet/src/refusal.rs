@@ -35,7 +35,7 @@ macro_rules! refusals {
 
 refusals! {
     SignatureUnlawful = 1: "The signature is unlawful.",
-    TooShort = 2: "A lent table is under 4,289 words or a witness buffer under 4,096.",
+    TooShort = 2: "A lent table is under 4,290 words or a witness buffer under 4,096.",
     TableUnsound = 3: "The table is not sound.",
     NumberOutside = 4: "The rule number is not 1 to 999.",
     NumberHeld = 5: "The number to enter is held.",

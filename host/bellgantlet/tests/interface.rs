@@ -144,7 +144,7 @@ fn functions(text: &str, mark: &str, end: &str, structs: &Structs) -> Calls {
 #[test]
 fn the_same_calls() {
     let header = of_header();
-    assert_eq!(header.len(), 10);
+    assert_eq!(header.len(), 11);
     let (link, _) = between(RAW, "extern \"C\" {", "\n    }");
     assert_eq!(functions(link, "pub fn ", ";", &structs(RAW)), header);
     assert_eq!(functions(EXPORTED, "pub extern \"C\" fn ", "\n", &structs(EXPORTED)), header);
@@ -186,6 +186,7 @@ fn the_same_constants() {
         ("STACK_EMPTY", stack::EMPTY),
         ("STACK_ENTER", stack::ENTER),
         ("STACK_WITHDRAW", stack::WITHDRAW),
+        ("STACK_SET_DEFAULT", stack::SET_DEFAULT),
         ("STACK_DECIDE", stack::DECIDE),
         ("STACK_COMPILE", stack::COMPILE),
         ("STACK_RUN", stack::RUN),
@@ -222,9 +223,9 @@ fn written(n: usize) -> String {
 
 #[test]
 fn the_readme_has_the_stacks() {
-    assert_eq!((stack::ENTER, stack::ENTER), (stack::WITHDRAW, stack::DECIDE));
+    assert_eq!([stack::ENTER; 3], [stack::WITHDRAW, stack::SET_DEFAULT, stack::DECIDE]);
     let calls = [
-        ("enter, withdraw, decide", stack::ENTER),
+        ("enter, withdraw, set_default, decide", stack::ENTER),
         ("compile", stack::COMPILE),
         ("run", stack::RUN),
         ("part", stack::PART),

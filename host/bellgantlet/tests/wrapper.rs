@@ -47,18 +47,21 @@ fn case_t() {
 fn case_t_here() {
     let mut table = table();
     let tree = table.compile().unwrap();
-    assert_eq!(tree.words().len(), 37);
+    assert_eq!(tree.words().len(), 39);
     let bookings: [&[u16]; 4] = [&[0, 1, 5], &[0, 2, 5], &[0, 3, 4], &[0, 1]];
     for b in bookings {
         assert_eq!(tree.run(b), table.decide(b));
     }
     let Answer::Rule { number, plan, places } = tree.run(&[0, 1, 5]).unwrap() else { panic!() };
     assert_eq!((number.get(), plan, places.of(0), places.of(1), places.iter().count()), (7, 40, Some(2), None, 1));
-    assert_eq!(tree.run(&[0, 3, 4]), Ok(Answer::Default { plan: 0 }));
+    assert_eq!(tree.run(&[0, 3, 4]), Ok(Answer::Default { plan: 1 }));
     assert_eq!(tree.run(&[0, 1, 5]).unwrap().to_string(), "rule 7, plan 40, variable 0 at 2");
-    assert_eq!(tree.run(&[0, 3, 4]).unwrap().to_string(), "no rule, plan 0");
+    assert_eq!(tree.run(&[0, 3, 4]).unwrap().to_string(), "no rule, plan 1");
     assert_eq!(tree.run(&[0, 1]), Err(Refusal::BookingUnlawful));
     assert_eq!(Tree::from_words(table.signature(), &[]).run(&[0, 1, 5]), Err(Refusal::TreeBroken));
+    // a leaf without a rule has its plan in the slice
+    assert_eq!(Tree::from_words(table.signature(), &[0]).run(&[0, 1, 5]), Err(Refusal::TreeBroken));
+    assert_eq!(Tree::from_words(table.signature(), &[0, 7]).run(&[0, 1, 5]), Ok(Answer::Default { plan: 7 }));
 
     let shares = table.enter(rule(8), 1, &[0, 258, 4]);
     assert_eq!(shares, Err(NotEntered::Shares { rule: rule(7), booking: vec![0, 1, 4] }));
@@ -78,7 +81,65 @@ fn case_t_here() {
     assert_eq!(table.withdraw(rule(7)), Err(Refusal::NotHeld));
     // the tree still answers by the rules that it was compiled from
     assert_eq!(tree.run(&[0, 1, 5]).unwrap().plan(), 40);
-    assert_eq!(table.decide(&[0, 1, 5]), Ok(Answer::Default { plan: 0 }));
+    assert_eq!(table.decide(&[0, 1, 5]), Ok(Answer::Default { plan: 1 }));
+}
+
+#[test]
+fn the_default_plan() {
+    std::thread::Builder::new().stack_size(stack::ANY + (64 << 10)).spawn(the_default_plan_here).unwrap().join().unwrap();
+}
+
+fn the_default_plan_here() {
+    let mut table = table();
+    assert_eq!(table.default_plan(), 1);
+    let (before, first) = (table.words().to_vec(), table.compile().unwrap());
+    // any plan, also that of a rule, and 0: that no rule takes the booking is told by the rule
+    for plan in [2, 40, 0, u16::MAX, u16::MAX] {
+        table.set_default(plan).unwrap();
+        assert_eq!(table.default_plan(), plan);
+        assert_eq!(table.words(), [&[2, plan], &before[2..]].concat());
+        assert_eq!(Table::from_words(table.signature(), table.words()).as_ref(), Ok(&table));
+        let tree = table.compile().unwrap();
+        for answer in [table.decide(&[0, 3, 4]).unwrap(), tree.run(&[0, 3, 4]).unwrap()] {
+            assert_eq!((answer, answer.rule(), answer.plan()), (Answer::Default { plan }, None, plan));
+            assert_eq!(answer.to_string(), format!("no rule, plan {plan}"));
+        }
+        assert_eq!(tree.run(&[0, 1, 5]), first.run(&[0, 1, 5]));
+        assert_eq!(tree.run(&[0, 1, 5]).unwrap().rule(), Some(rule(7)));
+        // a tree keeps the plan that it was compiled with
+        assert_eq!(first.run(&[0, 3, 4]), Ok(Answer::Default { plan: 1 }));
+    }
+    // entry and withdrawal keep it
+    table.enter(rule(8), 0, &[0, 2, 4]).unwrap();
+    assert_eq!((table.decide(&[0, 2, 4]).unwrap().rule(), table.default_plan()), (Some(rule(8)), u16::MAX));
+    [7, 8, 9].into_iter().for_each(|n| table.withdraw(rule(n)).unwrap());
+    assert_eq!(table.decide(&[0, 1, 5]), Ok(Answer::Default { plan: u16::MAX }));
+    assert_eq!(table.compile().unwrap().words(), [0, u16::MAX]);
+    assert_eq!(Table::new(table.signature()).compile().unwrap().words(), [0, 1]);
+}
+
+/// The numbers of the call itself, in their order, and nothing written.
+#[test]
+fn the_default_plan_is_refused() {
+    let sound = table().words().to_vec();
+    let mut unsound = sound.clone();
+    unsound[2] = 9;
+    let cases: [(&[u16], &[u16], u16); 5] = [
+        (&T[..14], &unsound[1..], 1),
+        (&T, &unsound[1..], 2),
+        (&T, &[], 2),
+        (&T, &unsound, 3),
+        (&T, &sound, 0),
+    ];
+    for (signature, table, number) in cases {
+        let mut words = table.to_vec();
+        assert_eq!(raw::set_default(signature, 5, &mut words), number);
+        if number == 0 {
+            assert_eq!(words[1], 5);
+            words[1] = table[1];
+        }
+        assert_eq!(words, table);
+    }
 }
 
 #[test]
@@ -94,7 +155,7 @@ fn what_is_checked_once() {
     // words behind the table's own say nothing of it
     assert_eq!(Table::from_words(sig, &[table.words(), &[7, 8]].concat()).as_ref(), Ok(&table));
     let mut twice = table.words().to_vec();
-    twice[1] = 9;
+    twice[2] = 9;
     assert_eq!(Table::from_words(sig, &twice), Err(Refusal::TableUnsound));
     let words = [0, 1, 5];
     let b = sig.booking(&words).unwrap();

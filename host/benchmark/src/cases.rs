@@ -10,12 +10,12 @@ pub struct Case {
 
 impl Case {
     pub fn table(&self, rules: usize) -> Vec<u16> {
-        let mut w = vec![rules as u16];
+        let mut w = vec![rules as u16, 1];
         for (number, plan, pattern) in &self.rules[..rules] {
             w.extend([*number, *plan, pattern.len() as u16]);
             w.extend(pattern);
         }
-        w.resize(4289, 0);
+        w.resize(bellgantlet::TABLE, 0);
         w
     }
 }

@@ -38,7 +38,7 @@ fn asked(l: &Lent, bookings: &[Vec<u16>]) -> Vec<(&'static str, Lent)> {
     let mut tree = vec![0; TREE];
     let n = raw::compile(&l.signature, &l.table, &mut tree).length;
     tree.truncate(n);
-    let mut all: Vec<_> = ["empty", "withdraw", "compile"].into_iter().map(|c| (c, l.clone())).collect();
+    let mut all: Vec<_> = ["empty", "withdraw", "set_default", "compile"].into_iter().map(|c| (c, l.clone())).collect();
     for b in bookings {
         let l = Lent { booking: b.clone(), tree: tree.clone(), place: b.len() - 1, ..l.clone() };
         all.extend(["decide", "run", "part"].into_iter().map(|c| (c, l.clone())));
@@ -163,9 +163,9 @@ fn not_lawful() -> Row {
     for n in [65, 4096, 65536] {
         for word in [1, 2, 256, 257, 260] {
             inputs.push(("enter", Lent { number: 1, pattern: vec![word; n], ..Lent::empty(&ONE_KIND) }));
-            let mut table = [vec![1, 1, 1, n as u16], vec![word; n]].concat();
+            let mut table = [vec![1, 1, 1, 1, n as u16], vec![word; n]].concat();
             table.resize(TABLE, word);
-            for call in ["enter", "withdraw", "compile", "decide"] {
+            for call in ["enter", "withdraw", "set_default", "compile", "decide"] {
                 inputs.push((call, Lent { number: 2, pattern: vec![258], booking: vec![0], ..Lent::new(&ONE_KIND, &table) }));
             }
         }
@@ -174,7 +174,7 @@ fn not_lawful() -> Row {
             inputs.extend(["part", "run", "decide"].map(|c| (c, l.clone())));
             inputs.extend(stepped(&ONE_KIND, &l.booking));
             let l = Lent { booking: vec![0], number: 1, pattern: vec![258], ..Lent::empty(&vec![word; n]) };
-            inputs.extend(["part", "run", "decide", "enter", "withdraw", "compile"].map(|c| (c, l.clone())));
+            inputs.extend(["part", "run", "decide", "enter", "withdraw", "set_default", "compile"].map(|c| (c, l.clone())));
             inputs.extend(stepped(&l.signature, &[0]));
         }
     }

@@ -22,7 +22,7 @@ pub fn enter(signature: &[u16], rules: &mut [u16], number: u16, plan: u16, patte
     if !prototype::pattern::formed(&t, pattern) {
         return 7;
     }
-    let mut at = 1;
+    let mut at = 2;
     let mut place = 0;
     for _ in 0..rules[0] {
         if rules[at] == number {
@@ -33,7 +33,7 @@ pub fn enter(signature: &[u16], rules: &mut [u16], number: u16, plan: u16, patte
         }
         at += 3 + rules[at + 2] as usize;
     }
-    let place = place.max(1);
+    let place = place.max(2);
     let n = 3 + pattern.len();
     rules.copy_within(place..at, place + n);
     rules[place..place + 3].copy_from_slice(&[number, plan, pattern.len() as u16]);
@@ -43,7 +43,7 @@ pub fn enter(signature: &[u16], rules: &mut [u16], number: u16, plan: u16, patte
 }
 
 pub fn withdraw(rules: &mut [u16], number: u16) -> u16 {
-    let (mut at, mut found) = (1, None);
+    let (mut at, mut found) = (2, None);
     for _ in 0..rules[0] {
         let n = 3 + rules[at + 2] as usize;
         if rules[at] == number {

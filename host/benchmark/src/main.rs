@@ -74,6 +74,9 @@ fn times(rounds: usize) {
         withdraw(c, rounds);
     }
     for c in &all {
+        set_default(c, rounds);
+    }
+    for c in &all {
         compile(c, rounds);
     }
     for c in &with_levels() {
@@ -225,6 +228,19 @@ fn withdraw(c: &Case, rounds: usize) {
     assert!(t1 == t2 && t1 == t3);
 }
 
+/// The default plan of a table with all rules.
+fn set_default(c: &Case, rounds: usize) {
+    let (sig, before) = (&c.signature, c.table(c.rules.len()));
+    let (mut t1, mut t2) = (before.clone(), before.clone());
+    let mut parties: Vec<Party> = vec![
+        ("library", Box::new(|| assert_eq!(raw::set_default(sig, 2, &mut t1), 0))),
+        ("prototype", Box::new(|| assert_eq!(prototype::table::set_default(sig, &mut t2, 2), 0))),
+    ];
+    line("set_default", c.name, &mut parties, rounds);
+    drop(parties);
+    assert!(t1 == t2 && t1[1] == 2 && t1[2..] == before[2..]);
+}
+
 fn compile(c: &Case, rounds: usize) {
     let (sig, table) = (&c.signature, c.table(c.rules.len()));
     let (mut s1, mut s2) = (vec![0; 32768], vec![0; 32768]);
@@ -265,6 +281,8 @@ fn alone(c: &Case, rounds: usize) {
         t.copy_from_slice(&table);
         assert_eq!(raw::withdraw(sig, c.rules[0].0, &mut t), 0);
     });
+    t.copy_from_slice(&table);
+    by_itself("set_default", c.name, rounds, || assert_eq!(raw::set_default(sig, 2, &mut t), 0));
     let name = match tree.number {
         0 => format!("{}, tree of {} words", c.name, tree.length),
         n => format!("{}, refused with {n}", c.name),
@@ -291,9 +309,10 @@ fn only(call: &str, case: &str, times: usize) {
             "decide" => drop(black_box(raw::decide(sig, &table, next()))),
             "enter" => drop(black_box(raw::enter(sig, *number, *plan, pattern, &mut c.table(n - 1), &mut witness))),
             "withdraw" => drop(black_box(raw::withdraw(sig, *number, &mut table.clone()))),
+            "set_default" => drop(black_box(raw::set_default(sig, 2, &mut table.clone()))),
             "compile" => drop(black_box(raw::compile(sig, &table, &mut space))),
             "prototype-run" => drop(black_box(prototype::run::run(sig, &tree, next()))),
-            _ => panic!("run, decide, enter, withdraw or compile"),
+            _ => panic!("run, decide, enter, withdraw, set_default or compile"),
         }
     }
 }

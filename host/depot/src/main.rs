@@ -11,7 +11,7 @@ struct Depot {
     names: Names,
     table: Table,
     tree: Tree,
-    /// How often rules have changed, and at which change the tree was compiled.
+    /// How often rules or the default plan have changed, and at which change the tree was compiled.
     change: u32,
     compiled: u32,
     /// The names of each rule's variables: of the rules in the table, and of those in the tree.
@@ -59,6 +59,17 @@ impl Depot {
             Ok(()) => {
                 self.change += 1;
                 println!("    withdrawn");
+            }
+            Err(r) => println!("    refused: {r}"),
+        }
+    }
+
+    fn set_default(&mut self, planner: &str, plan: u16) {
+        println!("{planner} sets the default plan {plan}, which was {}", self.table.default_plan());
+        match self.table.set_default(plan) {
+            Ok(()) => {
+                self.change += 1;
+                println!("    set");
             }
             Err(r) => println!("    refused: {r}"),
         }
@@ -170,6 +181,14 @@ fn main() -> Result<(), Refusal> {
     depot.answer("booking(solo, street, low, 101)");
     depot.answer("booking(trolley, seven, low, 50)");
 
+    // a booking that no rule takes
+    let left = "booking(solo, street, low, 61)";
+    depot.set_default("Cy", 5);
+    let third = depot.compile();
+    depot.answer(left);
+    depot.adopt(third);
+    depot.answer(left);
+
     println!("-- bookings arrive in pieces:");
     depot.receive(&[&[0, 2, 5], &[9], &[15, 16, 14, 1060]]);
     depot.receive(&[&[0, 4, 18], &[12, 1050]]);
@@ -180,11 +199,13 @@ fn main() -> Result<(), Refusal> {
         let shown = depot.names.show_pattern(pattern, &depot.variables[&number.get()]);
         println!("    rule {number}, plan {plan}: {shown}");
     }
+    println!("    no rule: plan {}", depot.table.default_plan());
     let stored = depot.table.words().to_vec();
     let again = Table::from_words(depot.table.signature(), &stored)?;
     println!("-- the table stored and read again is the same: {}", again == depot.table);
     let mut bad = stored.clone();
-    bad[1] = bad[4 + bad[3] as usize];
+    // the number of the second rule in place of the first one's
+    bad[2] = bad[5 + bad[4] as usize];
     println!("-- with a word changed: {}", Table::from_words(depot.table.signature(), &bad).unwrap_err());
     Ok(())
 }

@@ -1,11 +1,13 @@
-//! 01, Table and Turned down: the calls, each as what it answers and what is written.
+//! 01, Table and Turned down, and 02, job 3: the calls, each as what it answers and what is written.
 use crate::pattern::{admitted, Pattern};
 use crate::rows::{rows_of, some_meet_at, Row, Side};
 use crate::signature::Signature;
-use crate::tree::{run as run_tree, tree_of, Found, DEFAULT};
+use crate::tree::{run as run_tree, tree_of, unmatched, Found};
 
-pub const TABLE: usize = 4289;
+pub const TABLE: usize = 4290;
 pub const WITNESS: usize = 4096;
+/// The default plan that emptying sets.
+pub const EMPTIED: u16 = 1;
 
 pub struct Rule {
     pub number: u16,
@@ -42,12 +44,12 @@ impl Rule {
     }
 }
 
-/// The rules of a sound table.
+/// The rules of a sound table: the count, the default, which may be any word, and the rules.
 pub fn sound(sig: &Signature, table: &[u16]) -> Option<Vec<Rule>> {
     let table = &table[..TABLE];
     let count = table[0] as usize;
     let mut rules: Vec<Rule> = vec![];
-    let mut at = 1;
+    let mut at = 2;
     for _ in 0..count {
         if at + 3 > TABLE {
             return None;
@@ -74,10 +76,11 @@ pub fn sound(sig: &Signature, table: &[u16]) -> Option<Vec<Rule>> {
     Some(rules)
 }
 
-/// The rules written into a table; words from 4,289 on stay.
-pub fn stored(rules: &[Rule], table: &[u16]) -> Vec<u16> {
-    let mut out = vec![rules.len() as u16];
+/// The default and the rules written into a table; words from 4,290 on stay.
+fn stored<'a>(default: u16, rules: impl Iterator<Item = &'a Rule>, table: &[u16]) -> Vec<u16> {
+    let mut out = vec![0, default];
     for r in rules {
+        out[0] += 1;
         out.extend([r.number, r.plan, r.words.len() as u16]);
         out.extend(&r.words);
     }
@@ -124,7 +127,7 @@ impl Model {
         if table.len() < TABLE {
             return (2, table.to_vec());
         }
-        (0, stored(&[], table))
+        (0, stored(EMPTIED, [].iter(), table))
     }
 
     /// The number, the lowest rule that shares a booking (on 12), and the table. Which booking is shown is open.
@@ -152,17 +155,9 @@ impl Model {
             return (12, r.number, table.to_vec());
         }
         // in their order by number
-        let mut out = vec![rules.len() as u16 + 1];
-        let mut put = |r: &Rule| {
-            out.extend([r.number, r.plan, r.words.len() as u16]);
-            out.extend(&r.words);
-        };
-        rules.iter().filter(|r| r.number < number).for_each(&mut put);
-        put(&rule);
-        rules.iter().filter(|r| r.number > number).for_each(&mut put);
-        out.resize(TABLE, 0);
-        out.extend(&table[TABLE..]);
-        (0, 0, out)
+        let below = rules.iter().filter(|r| r.number < number);
+        let above = rules.iter().filter(|r| r.number > number);
+        (0, 0, stored(table[1], below.chain([&rule]).chain(above), table))
     }
 
     pub fn withdraw(&mut self, words: &[u16], number: u16, table: &[u16]) -> (u16, Vec<u16>) {
@@ -175,19 +170,19 @@ impl Model {
         if number < 1 || number > 999 {
             return same(4);
         }
-        let Some(i) = rules.iter().position(|r| r.number == number) else {
+        if !rules.iter().any(|r| r.number == number) {
             return same(6);
-        };
-        let mut out = vec![rules.len() as u16 - 1];
-        for (j, r) in rules.iter().enumerate() {
-            if i != j {
-                out.extend([r.number, r.plan, r.words.len() as u16]);
-                out.extend(&r.words);
-            }
         }
-        out.resize(TABLE, 0);
-        out.extend(&table[TABLE..]);
-        (0, out)
+        (0, stored(table[1], rules.iter().filter(|r| r.number != number), table))
+    }
+
+    pub fn set_default(&mut self, words: &[u16], plan: u16, table: &[u16]) -> (u16, Vec<u16>) {
+        let mut after = table.to_vec();
+        match self.open(words, table.len() >= TABLE, table) {
+            Ok(_) => after[1] = plan,
+            Err(n) => return (n, after),
+        }
+        (0, after)
     }
 
     pub fn compile(&mut self, words: &[u16], table: &[u16], space: &[u16]) -> (u16, usize, Vec<u16>) {
@@ -199,7 +194,7 @@ impl Model {
         for r in (*rules).as_ref().unwrap() {
             rows.extend(r.rows.iter().map(|row| (row.clone(), r.number, r.plan)));
         }
-        match tree_of(&sig, &rows, space.len().min(32768)) {
+        match tree_of(&sig, &rows, table[1], space.len().min(32768)) {
             None => (14, 0, space.to_vec()),
             Some(tree) => {
                 let mut out = tree.words();
@@ -218,7 +213,7 @@ impl Model {
         let Some(v) = sig.read_booking(booking) else {
             return refused(13);
         };
-        let mut answer = DEFAULT;
+        let mut answer = unmatched(table[1]);
         let mut taken = 0;
         for r in (*rules).as_ref().unwrap() {
             let ways = r.pattern.fits_with(&v, 0);

@@ -146,6 +146,17 @@ impl Compare {
         got
     }
 
+    pub fn set_default(&mut self, sig: &[u16], plan: u16, table: &mut Vec<u16>) -> u16 {
+        let mut lent = Lent::of(table);
+        let got = raw::set_default(sig, plan, lent.words());
+        let expected = self.model.set_default(sig, plan, table);
+        same!("set_default", "number", got, expected.0, sig, plan, table);
+        same!("set_default", "table", lent.after(), &expected.1[..], sig, plan, table);
+        *table = expected.1;
+        self.count("set_default", got);
+        got
+    }
+
     /// The tree, or the number of the refusal.
     pub fn compile(&mut self, sig: &[u16], table: &[u16], space: &[u16]) -> Result<Vec<u16>, u16> {
         let mut lent = Lent::of(space);

@@ -93,7 +93,8 @@ fn one(rest: &mut &[u8]) -> Json {
         }
         b'"' => {
             let n = rest[1..].iter().position(|b| *b == b'"').unwrap();
-            let t = String::from_utf8(rest[1..1 + n].to_vec()).unwrap();
+            // of the escapes they have the newline's alone
+            let t = std::str::from_utf8(&rest[1..1 + n]).unwrap().replace("\\n", "\n");
             *rest = &rest[n + 2..];
             Json::Text(t)
         }

@@ -9,6 +9,7 @@ use reference::random::*;
 use reference::rows::{rows_of, shared_value, Side};
 use reference::signature::{all_values, Signature};
 use reference::stepped::step;
+use reference::text::printed;
 use std::time::Instant;
 
 const T: [u16; 15] = [6, 0, 2, 1, 2, 1, 0, 1, 0, 1, 0, 2, 0, 2, 0];
@@ -67,10 +68,11 @@ fn timed(c: &mut Compare, name: &str, f: impl FnOnce(&mut Compare)) {
 
 /// Each call's numbers: those that 01 lets it give, all of them reached.
 fn summary(c: &Compare, scale: usize) {
-    let known: [(&str, &[u16]); 10] = [
+    let known: [(&str, &[u16]); 11] = [
         ("empty", &[0, 2]),
         ("enter", &[0, 1, 2, 3, 4, 5, 7, 8, 9, 10, 11, 12, 18]),
         ("withdraw", &[0, 1, 2, 3, 4, 6]),
+        ("set_default", &[0, 1, 2, 3]),
         ("compile", &[0, 1, 2, 3, 14]),
         ("decide", &[0, 1, 2, 3, 13]),
         ("run", &[0, 1, 13, 15]),
@@ -102,6 +104,12 @@ fn emptied(c: &mut Compare, r: &mut Random) -> Vec<u16> {
     table
 }
 
+/// A default plan: the least, the greatest, that of an emptied table, or any.
+fn plan(r: &mut Random) -> u16 {
+    let any = r.next() as u16;
+    *r.pick(&[0, 1, 65535, any])
+}
+
 fn size(r: &mut Random) -> Size {
     *r.pick(&[Size::Small, Size::Medium, Size::Medium, Size::Large])
 }
@@ -126,6 +134,7 @@ fn signatures(c: &mut Compare, r: &mut Random) {
         c.enter(&words, 5, 6, &p, &mut table, 4096);
         c.decide(&words, &table, &b);
         c.compile(&words, &table, &vec![9; 600]).ok();
+        c.set_default(&words, plan(r), &mut table);
         c.withdraw(&words, 5, &mut table);
     }
 }
@@ -251,6 +260,10 @@ fn list(c: &mut Compare, r: &mut Random, words: &[u16], sig: &Signature) -> Vec<
             c.withdraw(words, number, &mut table);
             continue;
         }
+        if r.once_in(8) {
+            c.set_default(words, plan(r), &mut table);
+            continue;
+        }
         let mut p = r.pick(&all).clone();
         if r.once_in(12) {
             damage(r, &mut p);
@@ -295,12 +308,18 @@ fn lists(c: &mut Compare, r: &mut Random) {
     let (words, sig) = signature(r, of);
     let table = list(c, r, &words, &sig);
     let tree = compiled(c, r, &words, &table);
+    // another default from here on: the table's answers change with it where no rule takes a booking, the tree's do not
+    let mut other = table.clone();
+    assert_eq!(c.set_default(&words, plan(r), &mut other), 0);
     for _ in 0..8 {
         let b = asked(r, &sig, &table);
         let direct = c.decide(&words, &table, &b);
         if let Some(t) = &tree {
             assert_eq!(direct, c.run(&words, t, &b));
         }
+        let unmatched = direct.0 == 0 && direct.1 == 0;
+        let expected = (direct.0, direct.1, if unmatched { other[1] } else { direct.2 }, direct.3);
+        assert_eq!(c.decide(&words, &other, &b), expected);
     }
 }
 
@@ -326,7 +345,7 @@ fn full(c: &mut Compare, r: &mut Random) {
         let number = if r.once_in(90) { 1 } else { 1 + i * 101 % 999 };
         c.enter(&words, number, i, &p, &mut table, 4096);
         if i > 64 && r.once_in(4) {
-            let held = table[1];
+            let held = table[2];
             c.withdraw(&words, held, &mut table);
         }
     }
@@ -355,7 +374,8 @@ fn tables(c: &mut Compare, r: &mut Random) {
         c.decide(&words, &table, &b);
         if r.once_in(2) {
             c.compile(&words, &table, &vec![5; 3000]).ok();
-            c.withdraw(&words, good[1], &mut table.clone());
+            c.withdraw(&words, good[2], &mut table.clone());
+            c.set_default(&words, plan(r), &mut table.clone());
             let p = rule_pattern(r, &sig);
             c.enter(&words, r.between(1, 999) as u16, 1, &p, &mut table, 4096);
         }
@@ -365,19 +385,20 @@ fn tables(c: &mut Compare, r: &mut Random) {
             c.decide(&words, &table, &b);
             c.compile(&words, &table, &[]).ok();
             c.withdraw(&words, 1, &mut table.clone());
+            c.set_default(&words, plan(r), &mut table.clone());
             c.enter(&words, 1, 1, &[258], &mut table, 4096);
         }
     }
 }
 
-/// Words of a table changed where rules stand, or just behind, or anywhere.
+/// Words of a table changed where the default or rules stand, or just behind, or anywhere.
 fn changed(r: &mut Random, table: &mut [u16]) {
-    let mut used = 1;
+    let mut used = 2;
     for _ in 0..table[0] {
         used += 3 + table[used + 2] as usize;
     }
     for i in 0..r.between(1, 2) {
-        match r.below(10) {
+        match r.below(11) {
             0 => table[0] = odd_word(r),
             1 => table[0] = table[0].wrapping_add(r.below(3) as u16).wrapping_sub(1),
             2 => {
@@ -398,8 +419,8 @@ fn changed(r: &mut Random, table: &mut [u16]) {
             }
             6 if i == 0 && used < 2000 => {
                 // the rules once more behind themselves, under other numbers: they share bookings with themselves
-                let n = used - 1;
-                table.copy_within(1..used, used);
+                let n = used - 2;
+                table.copy_within(2..used, used);
                 let mut at = used;
                 for _ in 0..table[0] {
                     table[at] = table[at].saturating_add(r.below(900) as u16);
@@ -410,13 +431,14 @@ fn changed(r: &mut Random, table: &mut [u16]) {
             }
             7 if i == 0 && table[0] > 1 => {
                 // a rule under the number of the next one, or under one more or one less
-                let mut at = 1;
+                let mut at = 2;
                 for _ in 0..r.below(table[0] as usize - 1) {
                     at += 3 + table[at + 2] as usize;
                 }
                 let next = table[at + 3 + table[at + 2] as usize];
                 table[at] = next + r.below(3) as u16 - 1;
             }
+            8 => table[1] = odd_word(r),
             _ => {
                 let i = r.between(1, used).min(TABLE - 1);
                 table[i] = odd_word(r);
@@ -430,11 +452,12 @@ fn trees(c: &mut Compare, r: &mut Random) {
     let of = *r.pick(&[Size::Small, Size::Medium]);
     let (words, sig) = signature(r, of);
     let table = list(c, r, &words, &sig);
-    let tree = compiled(c, r, &words, &table).unwrap_or(vec![3, 0]);
+    let tree = compiled(c, r, &words, &table).unwrap_or(vec![3, 0, 9]);
     for _ in 0..15 {
         let mut t = tree.clone();
         let n = t.len();
-        match r.below(6) {
+        let b = asked(r, &sig, &table);
+        match r.below(7) {
             // changed near the front, where runs walk
             0 | 1 | 2 => {
                 for _ in 0..r.between(1, 4) {
@@ -449,11 +472,31 @@ fn trees(c: &mut Compare, r: &mut Random) {
             }
             3 => damage(r, &mut t),
             4 => t.truncate(r.below(n + 1)),
+            // cut in the leaf where the run ends, or behind it; or that leaf's last word, a default leaf's plan, is another
+            5 => {
+                let needed = needed(c, &words, &t, &b);
+                match r.below(4) {
+                    0 if needed > 0 => t[needed - 1] = odd_word(r),
+                    _ => t.truncate((needed + 1).saturating_sub(r.below(4))),
+                }
+            }
             _ => t = (0..r.below(30)).map(|_| *r.pick(&[0, 1, 1, 2, 3, 3, 3, 4, 4, 5, 7, 12, 100])).collect(),
         }
-        let b = asked(r, &sig, &table);
         c.run(&words, &t, &b);
     }
+}
+
+/// How many words of a tree a run needs; all where none are enough.
+fn needed(c: &mut Compare, sig: &[u16], tree: &[u16], booking: &[u16]) -> usize {
+    let (mut few, mut enough) = (0, tree.len());
+    while few < enough {
+        let n = (few + enough) / 2;
+        match c.model.run(sig, &tree[..n], booking).0 {
+            15 => few = n + 1,
+            _ => enough = n,
+        }
+    }
+    enough
 }
 
 /// States of a check that no begin and step made, or that were made under another signature, stepped some words.
@@ -520,7 +563,7 @@ fn limits(c: &mut Compare, r: &mut Random) {
             c.part(&sig, &b, place);
         }
         // 4,096 visits: every part is taken
-        c.run(&sig, &[2, 0, 3, 6, 6, 6, 3, 0], &b);
+        c.run(&sig, &[2, 0, 3, 6, 6, 6, 3, 0, 9], &b);
         let mut walk = vec![3; 1];
         walk.extend([1, 1, 1, 1, 0, 0]);
         c.run(&sig, &walk, &b);
@@ -543,7 +586,7 @@ fn limits(c: &mut Compare, r: &mut Random) {
     for n in 253..259 {
         let b: Vec<u16> = std::iter::repeat(0).take(n - 2).chain([1, 1037]).collect();
         c.part(&levels, &b, n - 1);
-        c.run(&levels, &[3, 0], &b);
+        c.run(&levels, &[3, 0, 9], &b);
     }
     for level in 998..1103 {
         c.run(&levels, &[2, 0, 2, 5, 5, 4, 4, 0, 63, 64, 100, 15, 15, 16, 0, 1, 7, 8, 0], &[1, level]);
@@ -564,7 +607,7 @@ fn limits(c: &mut Compare, r: &mut Random) {
     for n in 250..260 {
         let b: Vec<u16> = std::iter::repeat(0).take(n - 1).chain([2]).collect();
         c.part(&sig, &b, n - 1);
-        c.run(&sig, &[3, 0], &b);
+        c.run(&sig, &[3, 0, 9], &b);
     }
     for n in [1usize, 2, 62, 63, 64, 65, 66] {
         for last in [2, 258, 261, 259] {
@@ -579,14 +622,32 @@ fn limits(c: &mut Compare, r: &mut Random) {
         let p = [vec![256], or(a), or(b)].concat();
         c.enter(&T, 1, 1, &p, &mut vec![0; TABLE], 4096);
     }
-    for n in [0, 1, 4288, 4289, 4290] {
+    for n in [0, 1, 2, TABLE - 1, TABLE, TABLE + 1] {
         c.empty(&mut vec![7; n]);
+        for w in [0, 7] {
+            let table = vec![w; n];
+            c.set_default(&T, 5, &mut table.clone());
+            c.set_default(&T[1..], 5, &mut table.clone());
+        }
     }
+    defaults(c);
     stepped_at_limits(c);
     signatures_at_limits(c);
     tables_at_limits(c);
     case_t(c);
     let _ = r;
+}
+
+/// Trees by hand whose default leaf ends with the slice, or before it; booking left at it is no fault.
+fn defaults(c: &mut Compare) {
+    for plan in [0, 1, 9, 65535] {
+        for tree in [vec![0, plan], vec![3, 0, plan], vec![2, 0, 1, 4, 0, plan], vec![2, 0, 1, 4, 3, 3, 0, plan], vec![3, 3, 0, plan]] {
+            for n in 0..=tree.len() {
+                c.run(&T, &tree[..n], &[0, 1, 5]);
+            }
+            c.run(&T, &[&tree[..], &[0]].concat(), &[0, 1, 5]);
+        }
+    }
 }
 
 /// Checks with as many open values as there can be, under the longest signature, and under longer slices.
@@ -732,7 +793,7 @@ fn tables_at_limits(c: &mut Compare) {
     let mut wide = vec![67u16, 0, 2, 1, 2, 1, 4, 1, 1, 1, 1, 1, 0];
     wide.extend([2, 0].repeat(64));
     let stored = |rules: &[(u16, Vec<u16>)]| {
-        let mut t = vec![rules.len() as u16];
+        let mut t = vec![rules.len() as u16, 6];
         for (n, p) in rules {
             t.extend([*n, 5, p.len() as u16]);
             t.extend(p);
@@ -759,6 +820,7 @@ fn tables_at_limits(c: &mut Compare) {
     for table in tables {
         c.decide(&wide, &table, &[0, 2, 3]);
         c.withdraw(&wide, 1, &mut table.clone());
+        c.set_default(&wide, 7, &mut table.clone());
         c.compile(&wide, &table, &[0; 3000]).ok();
         c.enter(&wide, 997, 1, &[259], &mut table.clone(), 4096);
     }
@@ -777,17 +839,19 @@ fn exact(n: usize) -> Vec<u16> {
 }
 
 fn case_t(c: &mut Compare) {
-    let mut table = vec![0; TABLE];
+    let mut table = vec![7; TABLE];
+    c.empty(&mut table);
     assert_eq!(c.enter(&T, 7, 40, &[0, 1, 261], &mut table, 4096), 0);
     assert_eq!(c.enter(&T, 9, 41, &[0, 260, 1, 5], &mut table, 4096), 0);
-    let tree = c.compile(&T, &table, &[0; 37]).unwrap();
+    let tree = c.compile(&T, &table, &[0; 39]).unwrap();
     assert_eq!(
         tree,
-        [2, 0, 1, 4, 2, 1, 3, 10, 17, 27, 3, 1, 7, 40, 1, 0, 2, 2, 4, 2, 22, 23, 0, 1, 9, 41, 0, 2, 4, 2, 32, 33, 0, 1, 9, 41, 0]
+        [2, 0, 1, 4, 2, 1, 3, 10, 17, 28, 3, 1, 7, 40, 1, 0, 2, 2, 4, 2, 22, 24, 0, 1, 1, 9, 41, 0, 2, 4, 2, 33, 35, 0, 1, 1, 9, 41, 0]
     );
     for b in [[0, 1, 5], [0, 2, 5], [0, 3, 4]] {
         assert_eq!(c.run(&T, &tree, &b), c.decide(&T, &table, &b));
     }
+    assert_eq!(c.decide(&T, &table, &[0, 3, 4]), (0, 0, 1, [65535; 16]));
     assert_eq!(c.enter(&T, 8, 1, &[0, 258, 4], &mut table, 4096), 12);
     let cases: [(&[u16], u16); 7] = [
         (&[260, 260, 261], 0),
@@ -823,15 +887,8 @@ fn vector(c: &mut Compare, v: &Json, name: &str) {
     let sig = v.get("sig").words();
     let mut table = vec![9; v.get("table_words").number()];
     c.empty(&mut table);
-    for (call, number) in v.get("calls").list().iter().zip(v.get("numbers").words()) {
-        let call = call.list();
-        let n = call[1].number() as u16;
-        let got = match call[0].text() {
-            "enter" => c.enter(&sig, n, call[2].number() as u16, &call[3].words(), &mut table, call[4].number()),
-            _ => c.withdraw(&sig, n, &mut table),
-        };
-        assert_eq!(got, number, "{name}");
-    }
+    performed(c, &sig, v.get("calls"), v.get("numbers"), &mut table, name);
+    assert_eq!(table[1] as usize, v.get("default").number(), "{name}");
     let mut expected = v.get("table").words();
     expected.resize(TABLE, 0);
     expected.resize(table.len(), 9);
@@ -842,10 +899,27 @@ fn vector(c: &mut Compare, v: &Json, name: &str) {
         Err(n) => assert_eq!(result, [n, 0], "{name}"),
     }
     for d in v.get("decide").list() {
-        check(c.decide(&sig, &table, &d.get("booking").words()), d, name);
+        check(c.decide(&sig, &table, &d.get("booking").words()), d.get("answer"), name);
     }
     for d in v.get("run").list() {
-        check(c.run(&sig, &d.get("tree").words(), &d.get("booking").words()), d, name);
+        check(c.run(&sig, &d.get("tree").words(), &d.get("booking").words()), d.get("answer"), name);
+    }
+}
+
+/// Calls made of a table as it stands; each must give its number.
+fn performed(c: &mut Compare, sig: &[u16], calls: &Json, numbers: &Json, table: &mut Vec<u16>, name: &str) {
+    let numbers = numbers.packed();
+    assert_eq!(calls.list().len(), numbers.len(), "{name}");
+    for (call, number) in calls.list().iter().zip(numbers) {
+        let call = call.list();
+        let n = call[1].number() as u16;
+        let got = match call[0].text() {
+            "enter" => c.enter(sig, n, call[2].number() as u16, &call[3].words(), table, call[4].number()),
+            "withdraw" => c.withdraw(sig, n, table),
+            "default" => c.set_default(sig, n, table),
+            call => panic!("no call {call}"),
+        };
+        assert_eq!(got, number, "{name}");
     }
 }
 
@@ -862,7 +936,7 @@ fn records(c: &mut Compare, folder: &str) {
 fn record(c: &mut Compare, r: &Json) {
     let (given, out) = (r.get("in"), r.get("out"));
     let words = |key: &str| given.get(key).packed();
-    let sig = words("sig");
+    let sig = if given.has("sig") { words("sig") } else { vec![] };
     let number = |got: u16| assert_eq!(got as usize, out.get("number").number(), "{r:?}");
     let after = |key: &str, before: Vec<u16>| if let Json::Text(_) = out.get(key) { before } else { out.get(key).packed() };
     let answer = |a: reference::calls::Answer| {
@@ -887,6 +961,31 @@ fn record(c: &mut Compare, r: &Json) {
             number(c.enter(&sig, n[0], n[1], &words("pattern"), &mut table, words("witness").len()));
             assert_eq!(table, expected, "{r:?}");
         }
+        "empty" | "set_default" => {
+            let mut table = words("table");
+            let expected = after("table", table.clone());
+            number(match given.has("plan") {
+                true => c.set_default(&sig, given.get("plan").number() as u16, &mut table),
+                false => c.empty(&mut table),
+            });
+            assert_eq!(table, expected, "{r:?}");
+        }
+        "list" => {
+            let mut table = words("table");
+            let expected = after("table", table.clone());
+            let name = format!("{r:?}");
+            let decided = |c: &mut Compare, table: &[u16], key: &str| {
+                for (b, a) in given.get("bookings").list().iter().zip(out.get(key).list()) {
+                    check(c.decide(&sig, table, &b.words()), a, &name);
+                }
+            };
+            decided(c, &table, "before");
+            performed(c, &sig, given.get("calls"), out.get("numbers"), &mut table, &name);
+            assert_eq!(table, expected, "{name}");
+            decided(c, &table, "after");
+        }
+        // of the reference alone
+        "program" => assert_eq!(printed(given.get("text").text().as_bytes()), out.get("printed").text(), "{r:?}"),
         "decide" => answer(c.decide(&sig, &words("table"), &words("booking"))),
         "run" => answer(c.run(&sig, &words("tree"), &words("booking"))),
         "compile" => {
@@ -901,7 +1000,7 @@ fn record(c: &mut Compare, r: &Json) {
 }
 
 fn check(got: reference::calls::Answer, expected: &Json, name: &str) {
-    let a = expected.get("answer").list();
+    let a = expected.list();
     let n = |i: usize| a[i].number() as u16;
     assert_eq!((got.0, got.1, got.2, got.3.to_vec()), (n(0), n(1), n(2), a[3].words()), "{name}");
 }

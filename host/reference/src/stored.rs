@@ -1,6 +1,6 @@
 //! The test data of the gate's programs `calls`, `runs` and `steps`: words of 16 bits, the lower byte first. Here as text, as words,
 //! and with the lines that the programs must print.
-use crate::calls::{Answer, Model, TABLE};
+use crate::calls::{Answer, Model, EMPTIED, TABLE};
 use crate::json::Json;
 use crate::pattern::admitted;
 use crate::rows::{rows_of, shared_value, Side};
@@ -26,6 +26,8 @@ pub enum Step {
     Show,
     /// 7: a word of the table is changed by hand.
     Change { index: u16, word: u16 },
+    /// 9
+    SetDefault { plan: u16 },
 }
 use Step::*;
 
@@ -83,6 +85,7 @@ impl Step {
             5 => Run { tree: w.list(), booking: w.list() },
             6 => Show,
             7 => Change { index: w.one(), word: w.one() },
+            9 => SetDefault { plan: w.one() },
             k => panic!("no step {k}"),
         }
     }
@@ -100,6 +103,7 @@ impl Step {
             Run { tree, booking } => [vec![5], list(tree), list(booking)].concat(),
             Show => vec![6],
             Change { index, word } => vec![7, *index, *word],
+            SetDefault { plan } => vec![9, *plan],
         }
     }
 
@@ -116,6 +120,7 @@ impl Step {
             Run { tree, booking } => format!("run{} booking{}", spaced(tree), spaced(booking)),
             Show => "show".into(),
             Change { index, word } => format!("change {index} {word}"),
+            SetDefault { plan } => format!("default {plan}"),
         }
     }
 
@@ -163,6 +168,7 @@ impl Step {
             ["decide"] => Decide { booking: lists[0].clone() },
             ["run", "booking"] => Run { tree: lists[0].clone(), booking: lists[1].clone() },
             ["show"] => Show,
+            ["default"] => SetDefault { plan: one(0) },
             ["change"] => return lists[0][1..].iter().zip(one(0)..).map(|(w, index)| Change { index, word: *w }).collect(),
             _ => panic!("not understood: {line}"),
         };
@@ -214,23 +220,28 @@ pub fn booking_text((s, b): &Booking) -> String {
 
 // ---- from the vectors
 
+/// An entry, a withdrawal or a default set, as a list has it.
+fn step_of(call: &Json) -> Step {
+    let call = call.list();
+    let number = call[1].number() as u16;
+    match call[0].text() {
+        "enter" => Enter {
+            in_full: false,
+            number,
+            plan: call[2].number() as u16,
+            witness: call[4].number() as u16,
+            pattern: call[3].words(),
+        },
+        "withdraw" => Withdraw { number },
+        "default" => SetDefault { plan: number },
+        call => panic!("no call {call}"),
+    }
+}
+
 /// The steps of a list of calls: the calls, the table where the signature is lawful, compile, the bookings decided and the first eight runs.
 pub fn steps_of(v: &Json) -> Vec<Step> {
     let mut all = vec![Table { words: v.get("table_words").number() as u16, signature: v.get("sig").words() }];
-    for call in v.get("calls").list() {
-        let call = call.list();
-        let number = call[1].number() as u16;
-        all.push(match call[0].text() {
-            "enter" => Enter {
-                in_full: false,
-                number,
-                plan: call[2].number() as u16,
-                witness: call[4].number() as u16,
-                pattern: call[3].words(),
-            },
-            _ => Withdraw { number },
-        });
-    }
+    all.extend(v.get("calls").list().iter().map(step_of));
     if v.get("compile").words()[0] != 1 {
         all.push(Show);
     }
@@ -240,13 +251,62 @@ pub fn steps_of(v: &Json) -> Vec<Step> {
     all
 }
 
+/// The steps of single calls on tables: the table's first 4,290 words changed to what a call is lent, the call, and the table where
+/// it may have been written. Calls of one signature stand in one list.
+pub fn steps_in(records: &[Json]) -> Vec<Step> {
+    let mut all = vec![];
+    let mut lent: (Vec<u16>, Vec<u16>) = (vec![], vec![]);
+    for r in records {
+        let (call, given, out) = (r.get("call").text(), r.get("in"), r.get("out"));
+        if !["set_default", "list", "decide", "compile"].contains(&call) {
+            continue;
+        }
+        let (signature, table) = (given.get("sig").packed(), given.get("table").packed());
+        if lent.0 != signature || lent.1.len() != table.len() {
+            all.push(Table { words: table.len() as u16, signature: signature.clone() });
+            lent = (signature, vec![0; table.len()]);
+            lent.1[1] = EMPTIED;
+        }
+        let changed = (0..table.len().min(TABLE)).filter(|i| table[*i] != lent.1[*i]);
+        all.extend(changed.map(|i| Change { index: i as u16, word: table[i] }));
+        lent.1 = table;
+        let bookings = || given.get("bookings").list().iter().map(|b| Decide { booking: b.words() });
+        match call {
+            "set_default" => all.push(SetDefault { plan: given.get("plan").number() as u16 }),
+            "list" => {
+                all.extend(bookings());
+                all.extend(given.get("calls").list().iter().map(step_of));
+            }
+            "decide" => all.push(Decide { booking: given.get("booking").packed() }),
+            _ => all.push(Compile { space: given.get("space").packed().len() as u16 }),
+        }
+        if !out.has("table") {
+            continue;
+        }
+        all.push(Show);
+        if let after @ Json::List(_) = out.get("table") {
+            lent.1 = after.packed();
+        }
+        if call == "list" {
+            all.extend(bookings());
+        }
+    }
+    all
+}
+
 /// The runs of a list of calls; under an unlawful signature one over the least tree.
 pub fn runs_in(v: &Json) -> Vec<Run3> {
     let sig = v.get("sig").words();
     if v.get("compile").words()[0] == 1 {
-        return vec![(sig, vec![0], v.get("decide").list()[0].get("booking").words())];
+        return vec![(sig, vec![0, 1], v.get("decide").list()[0].get("booking").words())];
     }
     v.get("run").list().iter().map(|d| (sig.clone(), d.get("tree").words(), d.get("booking").words())).collect()
+}
+
+/// The run of a record, if it is one.
+pub fn run_in(r: &Json) -> Option<Run3> {
+    let words = |key: &str| r.get("in").get(key).packed();
+    (r.get("call").text() == "run").then(|| (words("sig"), words("tree"), words("booking")))
 }
 
 /// The booking of a record.
@@ -292,6 +352,11 @@ pub fn played(steps: &[Step]) -> String {
             }
             Withdraw { number } => {
                 let (n, after) = model.withdraw(&sig, *number, &table);
+                out += &format!("{n}\n");
+                write(after);
+            }
+            SetDefault { plan } => {
+                let (n, after) = model.set_default(&sig, *plan, &table);
                 out += &format!("{n}\n");
                 write(after);
             }

@@ -14,7 +14,7 @@ pub fn printed(bytes: &[u8]) -> String {
         return refused(17);
     };
     let mut model = Model::default();
-    let mut table = vec![0; TABLE];
+    let (_, mut table) = model.empty(&[0; TABLE]);
     // 1 comes before the first rule, also where there is none
     match model.part(&text.signature, &[], 0).0 {
         1 => return refused(1),

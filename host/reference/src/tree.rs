@@ -1,9 +1,9 @@
-//! 01, Tree, and 02, job 1, node 4: the tree of rows by its rules, its words, and a run over them.
+//! 01, Tree, and 02, job 1, node 4, and job 3, the default leaf: the tree of rows by its rules, its words, and a run over them.
 use crate::rows::{Row, Test};
 use crate::signature::{Signature, Value, LEVELS};
 
 pub enum Tree {
-    Default,
+    Default { plan: u16 },
     Hit { rule: u16, plan: u16, binds: Vec<(u8, usize)> },
     Branch { first: u16, children: Vec<Tree> },
     Skip(Box<Tree>),
@@ -20,14 +20,14 @@ struct Line<'a> {
     plan: u16,
 }
 
-/// The tree of rows (with rule and plan each), or none where it has more words than allowed.
-pub fn tree_of(sig: &Signature, rows: &[(Row, u16, u16)], most: usize) -> Option<Tree> {
+/// The tree of rows (with rule and plan each) and of a default plan, or none where it has more words than allowed.
+pub fn tree_of(sig: &Signature, rows: &[(Row, u16, u16)], default: u16, most: usize) -> Option<Tree> {
     let lines = rows
         .iter()
         .map(|(r, rule, plan)| Line { columns: vec![Some(r)], binds: vec![], rule: *rule, plan: *plan })
         .collect();
     let mut left = most;
-    node(sig, lines, vec![0], 0, &mut left)
+    node(sig, lines, vec![0], 0, default, &mut left)
 }
 
 fn spend(left: &mut usize, n: usize) -> Option<()> {
@@ -35,10 +35,10 @@ fn spend(left: &mut usize, n: usize) -> Option<()> {
     Some(())
 }
 
-fn node(sig: &Signature, mut lines: Vec<Line>, mut kinds: Vec<usize>, visit: usize, left: &mut usize) -> Option<Tree> {
+fn node(sig: &Signature, mut lines: Vec<Line>, mut kinds: Vec<usize>, visit: usize, default: u16, left: &mut usize) -> Option<Tree> {
     if lines.is_empty() {
-        spend(left, 1)?;
-        return Some(Tree::Default);
+        spend(left, 2)?;
+        return Some(Tree::Default { plan: default });
     }
     let Some(kind) = kinds.pop() else {
         return hit(&lines, left);
@@ -55,7 +55,7 @@ fn node(sig: &Signature, mut lines: Vec<Line>, mut kinds: Vec<usize>, visit: usi
     }
     if !refined {
         spend(left, 1)?;
-        return Some(Tree::Skip(Box::new(node(sig, lines, kinds, visit + 1, left)?)));
+        return Some(Tree::Skip(Box::new(node(sig, lines, kinds, visit + 1, default, left)?)));
     }
     let number = sig.is_number(kind);
     let heads: Vec<u16> = if number { ends_of(&firsts) } else { sig.heads(kind).collect() };
@@ -71,7 +71,7 @@ fn node(sig: &Signature, mut lines: Vec<Line>, mut kinds: Vec<usize>, visit: usi
         }
         let mut deeper = kinds.clone();
         deeper.extend(arguments.iter().rev());
-        children.push(node(sig, kept, deeper, visit + 1, left)?);
+        children.push(node(sig, kept, deeper, visit + 1, default, left)?);
     }
     Some(match number {
         true => Tree::Split { ends: heads.iter().map(|w| w - LEVELS.start()).collect(), children },
@@ -123,7 +123,7 @@ impl Tree {
 
     fn put(&self, out: &mut Vec<u16>) {
         match self {
-            Tree::Default => out.push(0),
+            Tree::Default { plan } => out.extend([0, *plan]),
             Tree::Hit { rule, plan, binds } => {
                 out.extend([1, *rule, *plan, binds.len() as u16]);
                 for (x, visit) in binds {
@@ -159,7 +159,10 @@ impl Tree {
 
 pub type Found = (u16, u16, [u16; 16]);
 
-pub const DEFAULT: Found = (0, 0, [65535; 16]);
+/// The answer where no rule takes a booking.
+pub fn unmatched(plan: u16) -> Found {
+    (0, plan, [65535; 16])
+}
 
 /// A run of a booking over the words of a tree, or none where a walked node is broken.
 pub fn run(sig: &Signature, tree: &[u16], booking: &Value) -> Option<Found> {
@@ -170,7 +173,7 @@ pub fn run(sig: &Signature, tree: &[u16], booking: &Value) -> Option<Found> {
     let mut at = 0;
     loop {
         match word(at)? {
-            0 => return Some(DEFAULT),
+            0 => return Some(unmatched(word(at + 1)? as u16)),
             1 => {
                 let (rule, plan, n) = (word(at + 1)?, word(at + 2)?, word(at + 3)?);
                 if !parts.is_empty() || rule < 1 || rule > 999 {

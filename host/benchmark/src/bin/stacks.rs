@@ -90,7 +90,9 @@ fn wrapper() {
     assert_eq!(on(stack::DECIDE, || table.decide(&chain)).unwrap().plan(), 40);
     let tree = on(stack::COMPILE, || table.compile()).unwrap();
     assert_eq!(on(stack::RUN, || tree.run(&chain)).unwrap().plan(), 40);
+    on(stack::SET_DEFAULT, || table.set_default(2)).unwrap();
     on(stack::WITHDRAW, || table.withdraw(number)).unwrap();
+    assert_eq!(on(stack::DECIDE, || table.decide(&chain)).unwrap().rule(), None);
     let mut checker = on(stack::CHECK_BEGIN, || Checker::new(&signature));
     on(stack::CHECK_STEP, || chain.iter().try_for_each(|w| checker.push(*w))).unwrap();
     on(stack::CHECK_END, || checker.finish()).unwrap();
@@ -102,7 +104,7 @@ fn wrapper() {
 }
 
 fn search(rounds: usize) {
-    for call in ["enter", "withdraw", "decide", "compile"] {
+    for call in ["enter", "withdraw", "set_default", "decide", "compile"] {
         let (bytes, pattern) = deepest(call, rounds);
         println!("{call}: {bytes} with {pattern:?}");
     }

@@ -6,7 +6,7 @@
 //!     vectors text                                            what the text program prints for standard input
 use reference::json::Json;
 use reference::stored::{booking_in, booking_text, booking_words, bookings_of, stepped};
-use reference::stored::{played, ran, run_text, run_words, runs_in, runs_of, steps_of, to_bytes, to_words, Step};
+use reference::stored::{played, ran, run_in, run_text, run_words, runs_in, runs_of, steps_in, steps_of, to_bytes, to_words, Step};
 use reference::{by_hand, text};
 use std::fs::{read, read_dir, read_to_string};
 use std::io::{Read, Write};
@@ -25,21 +25,29 @@ fn vectors() -> Vec<Json> {
     all.filter(|v| v.has("calls")).collect()
 }
 
-/// The file of the single calls that `steps` has.
-fn records() -> Json {
-    Json::read(&read_to_string(at("host/vectors/stepped-gate-4302.json")).unwrap())
+/// A file of single calls: `steps` has those of `STEPPED`, `calls` and `runs` those of `DEFAULTS`.
+fn records(name: &str) -> Json {
+    Json::read(&read_to_string(at(&format!("host/vectors/{name}"))).unwrap())
 }
+
+const STEPPED: &str = "stepped-gate-4302.json";
+const DEFAULTS: &str = "default-gate-4303.json";
 
 fn make(what: &str) -> Vec<u8> {
     let words: Vec<u16> = match what {
         "calls" => {
             let by_hand = read_to_string(at("host/vectors/calls.txt")).unwrap();
             let mut steps: Vec<Step> = by_hand.lines().flat_map(Step::read).collect();
+            steps.extend(steps_in(records(DEFAULTS).get("records").list()));
             steps.extend(vectors().iter().flat_map(steps_of));
             steps.iter().flat_map(Step::words).collect()
         }
-        "runs" => vectors().iter().flat_map(runs_in).flat_map(|r| run_words(&r)).collect(),
-        "steps" => records().get("records").list().iter().flat_map(|r| booking_words(&booking_in(r))).collect(),
+        "runs" => {
+            let mut runs: Vec<_> = vectors().iter().flat_map(runs_in).collect();
+            runs.extend(records(DEFAULTS).get("records").list().iter().filter_map(run_in));
+            runs.iter().flat_map(run_words).collect()
+        }
+        "steps" => records(STEPPED).get("records").list().iter().flat_map(|r| booking_words(&booking_in(r))).collect(),
         _ => panic!("calls, runs or steps"),
     };
     to_bytes(&words)
@@ -64,7 +72,7 @@ fn answer(what: &str) -> String {
         "calls" => played(&Step::all(&data(what))),
         "runs" => ran(&runs_of(&data(what))),
         "steps" => {
-            let (bookings, records) = (bookings_of(&data(what)), records());
+            let (bookings, records) = (bookings_of(&data(what)), records(STEPPED));
             let records = records.get("records").list();
             assert_eq!(bookings.len(), records.len(), "the data file has other bookings than the vectors");
             bookings.iter().zip(records).map(|(b, r)| stepped(b, r)).collect()
