@@ -75,7 +75,7 @@ finish g x y n left o e m = finish-at g x y n left o (m .0) (m .1) e (m .2)
 
 -- a turn
 -- a cell is written
-puts : (p l : List ℕ) (n : ℕ) (c : Cell) → length p ≡ n → 3 ≤ length l → put-cell (p ++ l) n c ≡ (p ++ cell-words c) ++ drop 3 l
+pub puts : (p l : List ℕ) (n : ℕ) (c : Cell) → length p ≡ n → 3 ≤ length l → put-cell (p ++ l) n c ≡ (p ++ cell-words c) ++ drop 3 l
 puts p [] n c e h = absurd (omega arith)
 puts p (x ∷ []) n c e h = absurd (omega arith)
 puts p (x ∷ (y ∷ [])) n c e h = absurd (omega arith)
@@ -90,7 +90,7 @@ puts p (x ∷ (y ∷ (z ∷ w))) n c e h =
     ∙ append-assoc p (t ∷ (v ∷ [])) (m ∷ w)
     ∙ sym (append-assoc p (t ∷ (v ∷ (m ∷ []))) w)
 
-put-more : (o o₀ done : List ℕ) (n : ℕ) (c : Cell) → o ≡ done ++ drop n o₀ → length done ≡ n → n + 3 ≤ length o₀ → put-cell o n c ≡ (done ++ cell-words c) ++ drop (n + 3) o₀
+pub put-more : (o o₀ done : List ℕ) (n : ℕ) (c : Cell) → o ≡ done ++ drop n o₀ → length done ≡ n → n + 3 ≤ length o₀ → put-cell o n c ≡ (done ++ cell-words c) ++ drop (n + 3) o₀
 put-more o o₀ done n c e l h =
     ap (λ (q : List ℕ). put-cell q n c) e
     ∙ puts done (drop n o₀) n c l (omega (arith, length-drop n o₀))

@@ -15,7 +15,7 @@ ghost use Rattle.sets.specs.Heads.{number-of};
 ghost use Rattle.overlap.specs.Least.{GivenHead, Written, GivenPlace, ValueWritten};
 
 // A head and the least values of its arguments, first in out; how many words.
-fn with_least(t: &[u16], c: u16, out: &mut [u16]) -> usize
+pub fn with_least(t: &[u16], c: u16, out: &mut [u16]) -> usize
     requires { ⌜ GivenHead (now t) c (now out) ⌝ }
     ensures { λ r. ⌜ ((g : GivenHead (now (t .entry)) c (now (out .entry))) → Written g r (now (out .exit))) ⌝ }
 {

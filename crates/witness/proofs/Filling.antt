@@ -99,12 +99,12 @@ pub record Front {t row o₀ : List ℕ} (g : GivenRow t row o₀) (i n : ℕ) (
   pub place : (c : Cell) → c ≡ cell-at row i → kind-tag ≤ c .tag → GivenPlace t (c .tag - kind-tag) (number-of (c .allowed)) (from o n)
 
 -- what is seen of it
-seen : (row : List ℕ) (i : ℕ) (c : Cell) (tag v m : ℕ) (w : List ℕ) → tag < tag-limit → drop i row ≡ cell-code tag v m ++ w → c ≡ cell-at row i → (c .tag ≡ tag) × (number-of (c .allowed) ≡ m)
+pub seen : (row : List ℕ) (i : ℕ) (c : Cell) (tag v m : ℕ) (w : List ℕ) → tag < tag-limit → drop i row ≡ cell-code tag v m ++ w → c ≡ cell-at row i → (c .tag ≡ tag) × (number-of (c .allowed) ≡ m)
 seen row i c tag v m w l e ec =
     let E : c ≡ cell-of tag v m = ec ∙ cell-there row i tag v m w l e .cell in
     (ap (λ (z : Cell). z .tag) E, ap (λ (z : Cell). number-of (z .allowed)) E ∙ number-words m)
 
-room-from : (o : List ℕ) (n : ℕ) → n + place-words ≤ length o → place-words ≤ length (from o n)
+pub room-from : (o : List ℕ) (n : ℕ) → n + place-words ≤ length o → place-words ≤ length (from o n)
 room-from o n h = rw (from-is o n) (omega (arith, length-drop n o))
 
 module _ {t row o₀ : List ℕ} (g : GivenRow t row o₀) where

@@ -34,7 +34,7 @@ use Rattle.witness.specs.Pair.{Proper, Both, Found}
 use Rattle.witness.proofs.Searching.{found-some, found-none}
 
 -- the rows of a pattern have at most 64 places
-proper-rows : {t : List ℕ} (g : Known t) (ws : List ℕ) (p : Pattern) → PatternWords (g .sig) ws p → All (Proper (g .sig) 0) (rows-plus (g .sig) 0 p)
+pub proper-rows : {t : List ℕ} (g : Known t) (ws : List ℕ) (p : Pattern) → PatternWords (g .sig) ws p → All (Proper (g .sig) 0) (rows-plus (g .sig) 0 p)
 proper-rows g ws p w =
     let f = sig-facts (g .sig) (g .signed) in
     let l : length (pattern-code p) ≤ pattern-limit = rw (w .is-code) (w .at-most) in

@@ -1,0 +1,12 @@
+pub mod Bits
+pub mod CellsFacts
+pub mod ChoiceFacts
+pub mod Counts
+pub mod CubeFacts
+pub mod HintFacts
+pub mod LeaveFacts
+pub mod LookFacts
+pub mod NodeFacts
+pub mod OpenFacts
+pub mod Paths
+pub mod RowFacts

@@ -1,0 +1,14 @@
+pub mod Agree
+pub mod Closing
+pub mod Edging
+pub mod Height
+pub mod Laws
+pub mod Leave
+pub mod Missed
+pub mod Opened
+pub mod Outer
+pub mod Parting
+pub mod Standing
+pub mod Viewing
+pub mod Walking
+pub mod Writing
