@@ -7,6 +7,7 @@ use defaulting::set_default;
 use emptying::empty::empty;
 use entering::enter::enter;
 use entry::sound::Entry;
+use gap::gap;
 use pattern::limits::VARIABLES;
 use run::run;
 use signature::refusals::SHARED;
@@ -19,6 +20,7 @@ ghost use Rattle.stepping.specs.State.{begin-state, step-state, refusal-in, end
 ghost use Rattle.tree.specs.RunCall.{RunCall};
 ghost use Rattle.table.specs.Limits.{limits};
 ghost use Rattle.table.specs.Calls.{Empty, Enter, Withdraw, SetDefault, Compile, DecideCall};
+ghost use Rattle.table.specs.Gap.{GapCall};
 ghost use Rattle.bellgantlet.specs.Answers.{entered-of, host-answer, PartCall};
 
 // On 12 the rule that shares a booking and the length of the booking.
@@ -31,6 +33,13 @@ pub struct Entered {
 
 #[repr(C)]
 pub struct Tree {
+    pub number: u16,
+    pub length: usize,
+}
+
+// The length of the booking that is shown.
+#[repr(C)]
+pub struct Shown {
     pub number: u16,
     pub length: usize,
 }
@@ -125,6 +134,17 @@ pub extern "C" fn bellgantlet_decide(signature: &[u16], table: &[u16], booking: 
         rule: a.rule,
         plan: a.plan,
         places: places,
+    }
+}
+
+#[no_mangle]
+pub extern "C" fn bellgantlet_gap(signature: &[u16], table: &[u16], witness: &mut [u16]) -> Shown
+    ensures { λ r. ⌜ GapCall limits (now (signature .entry)) (now (table .entry)) (now (witness .entry)) (r .number) (r .length) (now (witness .exit)) ⌝ }
+{
+    let g = gap(signature, table, witness);
+    Shown {
+        number: g.number,
+        length: g.len,
     }
 }
 

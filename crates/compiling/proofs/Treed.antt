@@ -104,7 +104,7 @@ module _ {t table lists : List ℕ} (g : InTable t table lists) where
   }
 
   module _ (room : ℕ) (x : row-stride * row-limit < room) (n : ℕ) (tab : List ℕ) (gave : (q : GivenRules t table lists room) → TableIndexed (q .force .known .sig) t table lists (q .force .rs) n tab) where
-    indexed : TableIndexed (g .force .known .sig) t table lists (g .force .rs) n tab
+    pub indexed : TableIndexed (g .force .known .sig) t table lists (g .force .rs) n tab
     unfolding given-rules
     indexed = gave (given-rules room x)
 

@@ -18,7 +18,7 @@ ghost use Rattle.entry.specs.Entry.{entry-answer, Numbered};
 pub const WITNESS: usize = BOOKING_LIMIT;
 
 // Whether refusal 2 does not apply.
-fn long_enough(table: &[u16], witness: &[u16]) -> bool
+pub fn long_enough(table: &[u16], witness: &[u16]) -> bool
     ensures { λ r. ⌜ r ≡ (long-table limits (now (table .entry)) && long-witness (now (witness .entry))) ⌝ }
 {
     if table.len() < TABLE {

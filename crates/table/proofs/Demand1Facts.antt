@@ -37,7 +37,8 @@ use Rattle.tree.specs.Limits.{last-number, tree-limit}
 use Rattle.tree.specs.Run.{run, run-words}
 use Rattle.tree.specs.RunCall.{RunCall, run-signature, run-booking, run-at}
 use Rattle.table.specs.Calls.{Start, refused, begin, start, on-signature, long-table, long-witness, enter-start, enter-number, enter-table, withdraw-number, withdraw-table, set-number, set-table, too-large, CompileFrom, decide-from, decide-booking, Entered, Empty, Enter, Withdraw, SetDefault, Compile, DecideCall}
-use Rattle.table.specs.Demand1.{FirstOf, Unlawful, Under, ShortTable, ShortWitness, Unsound, OfRulesInForce, NumberOutside, Held, NotHeld, Malformed, WronglyRanged, NotLinear, HeavyWords, AmbiguousWords, Full, UnlawfulBooking, TooLarge, Broken, zeros, part-refusals, empty-refusals, enter-refusals, withdraw-refusals, set-refusals, compile-refusals, decide-refusals, run-refusals, Demand1}
+use Rattle.table.specs.Demand1.{FirstOf, Unlawful, Under, ShortTable, ShortWitness, Unsound, OfRulesInForce, NumberOutside, Held, NotHeld, Malformed, WronglyRanged, NotLinear, HeavyWords, AmbiguousWords, Full, UnlawfulBooking, TooLarge, Broken, zeros, part-refusals, empty-refusals, enter-refusals, withdraw-refusals, set-refusals, gap-refusals, compile-refusals, decide-refusals, run-refusals, Demand1}
+use Rattle.table.specs.Gap.{GapFrom, GapCall}
 use Rattle.table.specs.Limits.{limits, table-length, witness-length, emptied-default}
 use Rattle.table.specs.Matrix.{tree-words}
 use Rattle.table.specs.Refusals.{entry-refusal, withdrawal-refusal, SharesHeld}
@@ -268,6 +269,22 @@ set-first ss plan before number after h =
     kept (refused m) a b f = b
     kept (begin sig rs) a b f = absurd (f a)
 
+gap-first : (ss table witness : List ℕ) (number len : ℕ) (witness′ : List ℕ) → GapCall limits ss table witness number len witness′ → FirstOf (gap-refusals ss table witness) number × ((number ≡ 0 → ⊥) → (len ≡ 0) × (witness′ ≡ witness)) × (len ≡ 0 → witness′ ≡ witness)
+gap-first ss table witness number len witness′ h =
+    (opened ss (long-table limits table && long-witness witness) table (short-either table witness) (long-both table witness) number set-number (λ m. refl) (number-is (enter-start limits ss table witness) (h .result-is)) (λ sig rs lawful holds e. e), kept (enter-start limits ss table witness) (h .result-is), unwritten (enter-start limits ss table witness) (h .result-is))
+  where
+    number-is : (s : Start) → GapFrom s witness number len witness′ → number ≡ set-number s
+    number-is (refused m) (a, b, c) = a
+    number-is (begin sig rs) (a, r) = a
+
+    kept : (s : Start) → GapFrom s witness number len witness′ → (number ≡ 0 → ⊥) → (len ≡ 0) × (witness′ ≡ witness)
+    kept (refused m) (a, b, c) f = (b, c)
+    kept (begin sig rs) (a, r) f = absurd (f a)
+
+    unwritten : (s : Start) → GapFrom s witness number len witness′ → len ≡ 0 → witness′ ≡ witness
+    unwritten (refused m) (a, b, c) e = c
+    unwritten (begin sig rs) (a, r) e = r .none-there e .1
+
 compile-first : (ss table space : List ℕ) (number len : ℕ) (space′ : List ℕ) → Compile limits ss table space number len space′ → FirstOf (compile-refusals ss table space) number × ((number ≡ 0 → ⊥) → (len ≡ 0) × (space′ ≡ space))
 compile-first ss table space number len space′ h =
     (opened ss (long-table limits table) table (short-table table) (long-not table) number f (λ m. refl) (number-is (start limits ss (long-table limits table) table) (h .result-is)) later, kept (start limits ss (long-table limits table) table) (h .result-is))
@@ -347,4 +364,4 @@ run-first ss tree bs number a h = go (read-signature ss) refl
     go (some sig) e = on-13 sig e (read-booking sig bs) refl
 
 pub demand-1 : Demand1
-demand-1 = record { part = part-first; empty = empty-first; enter = enter-first; withdraw = withdraw-first; set-default = set-first; compile = compile-first; decide = decide-first; run = run-first }
+demand-1 = record { part = part-first; empty = empty-first; enter = enter-first; withdraw = withdraw-first; set-default = set-first; gap = gap-first; compile = compile-first; decide = decide-first; run = run-first }

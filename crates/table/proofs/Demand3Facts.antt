@@ -24,6 +24,7 @@ use Rattle.table.specs.Matrix.{tree-words}
 use Rattle.table.specs.Refusals.{SharesHeld}
 use Rattle.table.specs.Rule.{Rule, default-of, table-words, stored, SameRules}
 use Rattle.table.specs.Sound.{sound, SoundTable}
+use Rattle.table.proofs.GapFacts.{long-gap}
 use Rattle.table.proofs.Outcomes.{calls-outcome, unlawful-calls}
 use Rattle.table.proofs.Reckoning.{emptied-is, numbers-not-3, valid-nil, valid-left, length-table, rises-same, step-enter, same-kept, chain, twelve-of, of-twelve}
 use Rattle.table.proofs.SameTrees.{sound-same-tree}
@@ -85,6 +86,7 @@ module _ (ss : List ℕ) (sig : Signature) (lawful : read-signature ss ≡ some 
       decides = λ bs number v a b r.
           let (x, y, z) = sound-decides ss sig lawful last left left-sound bs number v a b r in
           (x, subst (λ d. Answered d sig left bs a) left-default z);
+      gaps = λ witness witness′ number len l k. long-gap ss sig lawful last left (sound-table sig (ss, lawful) last left left-sound) witness witness′ number len k l;
     }
 
 -- which call of a list sets the default that it leaves

@@ -13,3 +13,5 @@ pub mod TreeLeaves
 pub mod Cases
 pub mod CaseT
 pub mod Laws
+pub mod GapFacts
+pub mod GapCases

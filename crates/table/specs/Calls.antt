@@ -114,7 +114,7 @@ module _ (l : Limits) where
   abbrev pub long-table : List ℕ → Bool
   long-table table = leb (table-length l) (length table)
 
-  -- an entry is lent a witness buffer too
+  -- an entry is lent a witness buffer too; so is the gap call of 02, job 4
   abbrev pub enter-start : List ℕ → List ℕ → List ℕ → Start
   enter-start ss before witness = start ss (long-table before && long-witness witness) before
 

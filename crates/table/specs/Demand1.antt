@@ -24,6 +24,7 @@ use Rattle.tree.specs.Limits.{last-number, tree-limit}
 use Rattle.tree.specs.Run.{run-words}
 use Rattle.tree.specs.RunCall.{RunCall}
 use Rattle.table.specs.Calls.{Entered, Empty, Enter, Withdraw, SetDefault, Compile, DecideCall}
+use Rattle.table.specs.Gap.{GapCall}
 use Rattle.table.specs.Limits.{limits, table-length, witness-length}
 use Rattle.table.specs.Matrix.{tree-words}
 use Rattle.table.specs.Refusals.{SharesHeld}
@@ -136,6 +137,10 @@ withdraw-refusals ss n table = (1, Unlawful ss) ∷ (2, ShortTable table) ∷ (3
 abbrev pub set-refusals : List ℕ → List ℕ → List (ℕ × Type 0)
 set-refusals ss table = (1, Unlawful ss) ∷ (2, ShortTable table) ∷ (3, Unsound ss table) ∷ []
 
+-- 02, job 4: "It takes refusals 1 to 3 of the list."
+abbrev pub gap-refusals : List ℕ → List ℕ → List ℕ → List (ℕ × Type 0)
+gap-refusals ss table witness = (1, Unlawful ss) ∷ (2, ShortTable table ⊎ ShortWitness witness) ∷ (3, Unsound ss table) ∷ []
+
 abbrev pub compile-refusals : List ℕ → List ℕ → List ℕ → List (ℕ × Type 0)
 compile-refusals ss table space = (1, Unlawful ss) ∷ (2, ShortTable table) ∷ (3, Unsound ss table) ∷ (14, OfRulesInForce ss table (λ sig rs. TooLarge (default-of table) sig rs space)) ∷ []
 
@@ -156,6 +161,8 @@ pub record Demand1 : Type 0 where
   pub enter : (ss : List ℕ) (n plan : ℕ) (ws before witness : List ℕ) (e : Entered) (after witness′ : List ℕ) → Enter limits ss n plan ws before witness e after witness′ → FirstOf (enter-refusals ss n ws before witness) (e .number) × ((e .number ≡ 0 → ⊥) → after ≡ before) × ((e .number ≡ 12 → ⊥) → (e .sharer ≡ 0) × (e .shown ≡ 0) × (witness′ ≡ witness))
   pub withdraw : (ss : List ℕ) (n : ℕ) (before : List ℕ) (number : ℕ) (after : List ℕ) → Withdraw limits ss n before number after → FirstOf (withdraw-refusals ss n before) number × ((number ≡ 0 → ⊥) → after ≡ before)
   pub set-default : (ss : List ℕ) (plan : ℕ) (before : List ℕ) (number : ℕ) (after : List ℕ) → SetDefault limits ss plan before number after → FirstOf (set-refusals ss before) number × ((number ≡ 0 → ⊥) → after ≡ before)
+  -- the witness buffer is written where a gap is shown alone
+  pub gap : (ss table witness : List ℕ) (number len : ℕ) (witness′ : List ℕ) → GapCall limits ss table witness number len witness′ → FirstOf (gap-refusals ss table witness) number × ((number ≡ 0 → ⊥) → (len ≡ 0) × (witness′ ≡ witness)) × (len ≡ 0 → witness′ ≡ witness)
   pub compile : (ss table space : List ℕ) (number len : ℕ) (space′ : List ℕ) → Compile limits ss table space number len space′ → FirstOf (compile-refusals ss table space) number × ((number ≡ 0 → ⊥) → (len ≡ 0) × (space′ ≡ space))
   -- decide and run write nothing that is lent
   pub decide : (ss table bs : List ℕ) (number : ℕ) (a : Answer) → DecideCall limits ss table bs number a → FirstOf (decide-refusals ss table bs) number × ((number ≡ 0 → ⊥) → a ≡ zeros)

@@ -17,6 +17,7 @@ use Rattle.tree.specs.Limits.{last-number, tree-limit}
 use Rattle.tree.specs.RunCall.{RunCall}
 use Rattle.table.specs.Calls.{Entered, Enter, Compile, DecideCall, Empty}
 use Rattle.table.specs.Decide.{Answered}
+use Rattle.table.specs.Gap.{GapCall, ShowsGap}
 use Rattle.table.specs.Limits.{Limits, limits, table-length, witness-length, emptied-default}
 use Rattle.table.specs.ListsOfCalls.{ListCall, enter, withdraw, set-default, numbers-reckoned, rules-left, default-left, Calls}
 use Rattle.table.specs.Matrix.{tree-words}
@@ -57,6 +58,8 @@ pub record AfterList (ss : List ℕ) (sig : Signature) (table : List ℕ) (rs : 
   pub runs : (space space′ behind bs : List ℕ) (len number : ℕ) (v : Value) (a : Answer) → Compile limits ss last space 0 len space′ → read-booking sig bs ≡ some v → RunCall ss (take len space′ ++ behind) bs number a → (number ≡ 0) × Answered dft sig left bs a
   -- deciding from the table answers so too
   pub decides : (bs : List ℕ) (number : ℕ) (v : Value) (a : Answer) → read-booking sig bs ≡ some v → DecideCall limits ss last bs number a → (number ≡ 0) × Answered dft sig left bs a
+  -- 02, job 4: the gap call tells of the rules left, whatever the default; 2 is left to refuse it, for a short witness buffer
+  pub gaps : (witness witness′ : List ℕ) (number len : ℕ) → witness-length ≤ length witness → GapCall limits ss last witness number len witness′ → (number ≡ 0) × ShowsGap sig left len witness witness′
 
 -- two tables cannot be told apart
 pub record Alike (ss table table′ : List ℕ) : Type 0 where

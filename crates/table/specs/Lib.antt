@@ -1,6 +1,7 @@
 pub mod Calls
 pub mod Decide
 pub mod Demand3
+pub mod Gap
 pub mod Limits
 pub mod ListsOfCalls
 pub mod Matrix
@@ -9,6 +10,7 @@ pub mod Rule
 pub mod Sound
 pub mod Cases
 pub mod CaseT
+pub mod GapCases
 pub mod Demand1
 pub mod Demand2
 pub mod Laws

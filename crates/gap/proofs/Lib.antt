@@ -1,0 +1,3 @@
+pub mod RowsTaken
+pub mod Showing
+pub mod Calling
