@@ -34,6 +34,16 @@ static void show(const char *call, bellgantlet_answer a)
     printf("\n");
 }
 
+/* A booking that no rule takes. */
+static void gap(void)
+{
+    bellgantlet_shown s = bellgantlet_gap(signature, N(signature), table, N(table), witness, N(witness));
+    printf("gap: %u.", s.number);
+    for (size_t i = 0; i < s.length; i++)
+        printf(" %u", witness[i]);
+    printf(s.number == 0 && s.length == 0 ? " None.\n" : "\n");
+}
+
 /* A booking whose words arrive one by one. */
 static void arrive(const uint16_t *words, size_t n)
 {
@@ -46,10 +56,11 @@ static void arrive(const uint16_t *words, size_t n)
 
 int main(void)
 {
-    static const uint16_t seven[] = {0, 1, 261}, nine[] = {0, 260, 1, 5}, other[] = {0, 258, 4};
+    static const uint16_t seven[] = {0, 1, 261}, nine[] = {0, 260, 1, 5}, other[] = {0, 258, 4}, left[] = {0, 1, 5};
     static const uint16_t bookings[][3] = {{0, 1, 5}, {0, 2, 5}, {0, 3, 4}, {0, 1, 1}};
     bellgantlet_tree t;
     bellgantlet_part_at p;
+    bellgantlet_shown s;
 
     printf("bellgantlet %s\n", BELLGANTLET_VERSION);
     printf("empty: %u\n", bellgantlet_empty(table, N(table)));
@@ -75,6 +86,11 @@ int main(void)
     printf("withdraw 7: %u\n", bellgantlet_withdraw(signature, N(signature), 7, table, N(table)));
     printf("withdraw 7: %u\n", bellgantlet_withdraw(signature, N(signature), 7, table, N(table)));
     enter(8, 42, other, N(other));
+    gap();
+    enter(10, 43, left, N(left));
+    gap();
+    s = bellgantlet_gap(signature, N(signature), table, N(table), witness, N(witness) - 1);
+    printf("gap, too short: %u, %zu\n", s.number, s.length);
     p = bellgantlet_part(signature, N(signature), bookings[0], 3, 1);
     printf("part at 1: %u, %zu from %zu\n", p.number, p.length, p.start);
     p = bellgantlet_part(signature, N(signature), bookings[0], 3, 3);

@@ -26,8 +26,8 @@
 extern "C" {
 #endif
 
-#define BELLGANTLET_VERSION "0.5.0"
-#define BELLGANTLET_VERSION_NUMBER 500  /* 10,000 times the first number, 100 times the second, the third */
+#define BELLGANTLET_VERSION "0.6.0"
+#define BELLGANTLET_VERSION_NUMBER 600  /* 10,000 times the first number, 100 times the second, the third */
 
 enum {
     BELLGANTLET_SIGNATURE = 1533,   /* the most words of a lawful signature: 255 constructors with four arguments, one without */
@@ -51,6 +51,7 @@ enum {
     BELLGANTLET_STACK_WITHDRAW = 860160,
     BELLGANTLET_STACK_SET_DEFAULT = 860160,
     BELLGANTLET_STACK_DECIDE = 860160,
+    BELLGANTLET_STACK_GAP = 1507328,
     BELLGANTLET_STACK_COMPILE = 2228224,
     BELLGANTLET_STACK_RUN = 16384,
     BELLGANTLET_STACK_PART = 8192,
@@ -121,6 +122,12 @@ typedef struct {
     size_t length;
 } bellgantlet_tree;
 
+/* What gap answers: the length of the booking that is shown, 0 where there is none and on a refusal. */
+typedef struct {
+    uint16_t number;
+    size_t length;
+} bellgantlet_shown;
+
 /* What run and decide answer. Where no rule takes the booking, the rule is 0, the plan is the default plan, and all places are
  * unbound; a plan may be any number, so that rule 0 alone says it. On a refusal the places are 0. */
 typedef struct {
@@ -187,6 +194,14 @@ bellgantlet_answer bellgantlet_decide(
     const uint16_t *signature, size_t signature_words,
     const uint16_t *table, size_t table_words,
     const uint16_t *booking, size_t booking_words);
+
+/* Shows a gap: a lawful booking that no rule takes, which goes to the default. It stands first in the witness buffer, whose
+ * rest stays; which one it is, where there are several, is open. Where rules take every lawful booking, the length is 0 and
+ * nothing is written. No tree is made, so that a table which compile refuses with 14 is answered too. Refusals: 1, 2, 3. */
+bellgantlet_shown bellgantlet_gap(
+    const uint16_t *signature, size_t signature_words,
+    const uint16_t *table, size_t table_words,
+    uint16_t *witness, size_t witness_words);
 
 /* Answers a booking over a tree, by the rules and with the default plan that it was compiled from, whatever the table says
  * now. The slice may be longer than the tree. Refusals: 1, 13, 15. */

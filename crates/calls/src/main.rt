@@ -2,7 +2,7 @@
 mod scene;
 mod show;
 
-const WORDS: usize = 65536;
+const WORDS: usize = 98304;
 
 const SIGNATURE: usize = 2048;
 
@@ -10,7 +10,7 @@ const TABLE: usize = 4400;
 
 const SPACE: usize = 40000;
 
-const WITNESS: usize = 4200;
+const WITNESS: usize = 5000;
 
 fn main() {
     let mut all = [0u16; WORDS];

@@ -156,6 +156,35 @@ fn a_run(w: &[u16], ss: &[u16]) -> usize
     e
 }
 
+// words of the witness buffer, all of it 0 before
+fn a_gap(w: &[u16], ss: &[u16], table: &[u16], witness: &mut [u16]) -> usize
+    ensures { λ r. ⌜ r ≤ length (now (w .entry)) ⌝ }
+{
+    if w.len() < 2 {
+        return 0;
+    }
+    let k = size(w[1]);
+    if witness.len() < k {
+        return 0;
+    }
+    shift::zero(witness);
+    let g = gap::gap(ss, table, &mut witness[0..k]);
+    show::gap(g.number, g.len, witness);
+    decided(ss, table, witness, g.len);
+    2
+}
+
+// The booking of so many words, if there is one, decided.
+fn decided(ss: &[u16], table: &[u16], witness: &[u16], n: usize) {
+    if n == 0 {
+        return;
+    }
+    if witness.len() < n {
+        return;
+    }
+    show::answer(decide(ss, table, &witness[0..n]));
+}
+
 // the table's words
 fn holding(w: &[u16], table: &[u16]) -> usize
     ensures { λ r. ⌜ (1 ≤ length (now (w .entry)) → r ≤ length (now (w .entry))) ⌝ }
@@ -197,6 +226,7 @@ fn call(w: &[u16], ss: &[u16], table: &mut [u16], space: &mut [u16], witness: &m
         7 => damage(w, table),
         IN_FULL => entry(w, ss, table, witness),
         9 => default_set(w, ss, table),
+        10 => a_gap(w, ss, table, witness),
         _ => 0,
     }
 }

@@ -60,3 +60,15 @@ pub fn entry(e: Entry, in_full: bool, witness: &[u16]) {
     }
     print::end();
 }
+
+// The number, whether a booking is shown, and whether a word behind it is no longer 0.
+pub fn gap(number: u16, len: usize, witness: &[u16]) {
+    print::number(number as usize);
+    if len > 0 {
+        print::text(b" shown");
+    }
+    if used(witness) > len {
+        print::text(b" written behind");
+    }
+    print::end();
+}

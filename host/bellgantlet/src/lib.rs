@@ -252,6 +252,19 @@ impl Table {
     pub fn decide(&self, booking: &[u16]) -> Result<Answer, Refusal> {
         Answer::of(raw::decide(&self.signature.0, &self.words, booking))
     }
+
+    /// A gap: a lawful booking that no rule takes, or none where every one is taken. Which one, where there are several, is
+    /// open. A sound table is not refused, also one that is too large for a tree. Takes up to [`stack::GAP`] bytes.
+    pub fn gap(&self) -> Result<Option<Vec<u16>>, Refusal> {
+        let mut witness = vec![0; WITNESS];
+        let s = raw::gap(&self.signature.0, &self.words, &mut witness);
+        if s.number != 0 {
+            return Err(Refusal::of(s.number));
+        }
+        witness.truncate(s.length);
+        // no booking has no words
+        Ok(Some(witness).filter(|w| !w.is_empty()))
+    }
 }
 
 /// A tree with the signature that it was compiled under.

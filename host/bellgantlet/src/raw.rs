@@ -18,6 +18,14 @@ pub struct Tree {
     pub length: usize,
 }
 
+/// The length of the booking that is shown, 0 where there is none and on a refusal.
+#[repr(C)]
+#[derive(Clone, Copy, Debug, PartialEq, Eq)]
+pub struct Shown {
+    pub number: u16,
+    pub length: usize,
+}
+
 /// Rule, plan and a place for each variable, 65,535 where it is unbound; rule 0 and the default plan where no rule takes the
 /// booking; all 0 on a refusal.
 #[repr(C)]
@@ -85,6 +93,14 @@ mod link {
             booking: *const u16,
             booking_n: usize,
         ) -> Answer;
+        pub fn bellgantlet_gap(
+            signature: *const u16,
+            signature_n: usize,
+            table: *const u16,
+            table_n: usize,
+            witness: *mut u16,
+            witness_n: usize,
+        ) -> Shown;
         pub fn bellgantlet_run(
             signature: *const u16,
             signature_n: usize,
@@ -141,6 +157,12 @@ pub fn compile(signature: &[u16], table: &[u16], space: &mut [u16]) -> Tree {
 pub fn decide(signature: &[u16], table: &[u16], booking: &[u16]) -> Answer {
     unsafe {
         link::bellgantlet_decide(signature.as_ptr(), signature.len(), table.as_ptr(), table.len(), booking.as_ptr(), booking.len())
+    }
+}
+
+pub fn gap(signature: &[u16], table: &[u16], witness: &mut [u16]) -> Shown {
+    unsafe {
+        link::bellgantlet_gap(signature.as_ptr(), signature.len(), table.as_ptr(), table.len(), witness.as_mut_ptr(), witness.len())
     }
 }
 

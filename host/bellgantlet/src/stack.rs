@@ -8,6 +8,7 @@ pub const ENTER: usize = 840 << 10;
 pub const WITHDRAW: usize = 840 << 10;
 pub const SET_DEFAULT: usize = 840 << 10;
 pub const DECIDE: usize = 840 << 10;
+pub const GAP: usize = 1472 << 10;
 pub const COMPILE: usize = 2176 << 10;
 pub const RUN: usize = 16 << 10;
 pub const PART: usize = 8 << 10;

@@ -144,7 +144,7 @@ fn functions(text: &str, mark: &str, end: &str, structs: &Structs) -> Calls {
 #[test]
 fn the_same_calls() {
     let header = of_header();
-    assert_eq!(header.len(), 11);
+    assert_eq!(header.len(), 12);
     let (link, _) = between(RAW, "extern \"C\" {", "\n    }");
     assert_eq!(functions(link, "pub fn ", ";", &structs(RAW)), header);
     assert_eq!(functions(EXPORTED, "pub extern \"C\" fn ", "\n", &structs(EXPORTED)), header);
@@ -188,6 +188,7 @@ fn the_same_constants() {
         ("STACK_WITHDRAW", stack::WITHDRAW),
         ("STACK_SET_DEFAULT", stack::SET_DEFAULT),
         ("STACK_DECIDE", stack::DECIDE),
+        ("STACK_GAP", stack::GAP),
         ("STACK_COMPILE", stack::COMPILE),
         ("STACK_RUN", stack::RUN),
         ("STACK_PART", stack::PART),
@@ -197,6 +198,8 @@ fn the_same_constants() {
         ("STACK_ANY", stack::ANY),
         ("DONE", 0),
     ];
+    let most = ours.iter().filter(|(name, _)| name.starts_with("STACK_") && *name != "STACK_ANY").map(|(_, n)| *n).max();
+    assert_eq!(most, Some(stack::ANY));
     for (name, value) in ours {
         assert_eq!(numbers.remove(name), Some(value), "{name}");
     }
@@ -226,6 +229,7 @@ fn the_readme_has_the_stacks() {
     assert_eq!([stack::ENTER; 3], [stack::WITHDRAW, stack::SET_DEFAULT, stack::DECIDE]);
     let calls = [
         ("enter, withdraw, set_default, decide", stack::ENTER),
+        ("gap", stack::GAP),
         ("compile", stack::COMPILE),
         ("run", stack::RUN),
         ("part", stack::PART),

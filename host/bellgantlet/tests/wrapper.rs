@@ -28,6 +28,11 @@ fn table() -> Table {
     table
 }
 
+/// A test's thread has 2 MB, and needs some of them itself.
+fn with_stack(f: fn()) {
+    std::thread::Builder::new().stack_size(stack::ANY + (64 << 10)).spawn(f).unwrap().join().unwrap();
+}
+
 #[test]
 fn refusals_have_their_numbers() {
     // 17 is of texts alone
@@ -40,8 +45,7 @@ fn refusals_have_their_numbers() {
 
 #[test]
 fn case_t() {
-    // a test's thread has 2 MB, and needs some of them itself
-    std::thread::Builder::new().stack_size(stack::ANY + (64 << 10)).spawn(case_t_here).unwrap().join().unwrap();
+    with_stack(case_t_here);
 }
 
 fn case_t_here() {
@@ -86,7 +90,7 @@ fn case_t_here() {
 
 #[test]
 fn the_default_plan() {
-    std::thread::Builder::new().stack_size(stack::ANY + (64 << 10)).spawn(the_default_plan_here).unwrap().join().unwrap();
+    with_stack(the_default_plan_here);
 }
 
 fn the_default_plan_here() {
@@ -140,6 +144,143 @@ fn the_default_plan_is_refused() {
         }
         assert_eq!(words, table);
     }
+}
+
+#[test]
+fn gaps() {
+    with_stack(gaps_here);
+}
+
+/// The gap that is shown, if there is one: a lawful booking that goes to the default.
+fn gap(table: &Table) -> Option<Vec<u16>> {
+    let gap = table.gap().unwrap()?;
+    assert!(table.signature().booking(&gap).is_ok());
+    assert_eq!(table.decide(&gap).unwrap().rule(), None);
+    Some(gap)
+}
+
+fn gaps_here() {
+    let mut table = table();
+    let before = table.words().to_vec();
+    let left = [vec![0, 2, 4], vec![0, 3, 4]];
+    // each gap of Case T closed by a rule for just that booking
+    let first = gap(&table).unwrap();
+    assert!(left.contains(&first));
+    table.enter(rule(1), 1, &first).unwrap();
+    let second = gap(&table).unwrap();
+    assert!(left.contains(&second) && first != second);
+    table.enter(rule(2), 1, &second).unwrap();
+    assert_eq!(table.gap(), Ok(None));
+    // the default plan says nothing of gaps
+    table.set_default(40).unwrap();
+    assert_eq!(table.gap(), Ok(None));
+    table.withdraw(rule(1)).unwrap();
+    assert_eq!(table.gap(), Ok(Some(first)));
+    table.withdraw(rule(2)).unwrap();
+    table.set_default(1).unwrap();
+    assert_eq!(table.words(), before);
+
+    let empty = Table::new(table.signature());
+    assert!(gap(&empty).is_some());
+    let mut one = empty.clone();
+    one.enter(rule(1), 1, &[259]).unwrap();
+    assert!(gap(&one).is_some());
+    one.enter(rule(2), 1, &[258]).unwrap();
+    assert_eq!(one.gap(), Ok(None));
+}
+
+/// Levels are the members of their kind.
+#[test]
+fn gaps_of_levels() {
+    with_stack(gaps_of_levels_here);
+}
+
+fn gaps_of_levels_here() {
+    let mut table = Table::new(&Signature::new(&[4, 0, 2, 1, 2, 1, 0, 1, 0, 2, 5]).unwrap());
+    let rules: [&[u16]; 4] = [&[0, 258, 280, 0, 36], &[0, 258, 280, 38, 99], &[0, 1, 280, 37, 37], &[0, 258, 280, 100, 100]];
+    for (i, pattern) in rules.into_iter().enumerate() {
+        assert!(gap(&table).is_some());
+        table.enter(rule(1 + i as u16), 1, pattern).unwrap();
+    }
+    assert_eq!(gap(&table), Some(vec![0, 2, 1037]));
+    table.enter(rule(5), 1, &[0, 2, 280, 37, 37]).unwrap();
+    assert_eq!(table.gap(), Ok(None));
+}
+
+/// 16 bits and 16 labels: a rule for each label and value of that bit, and five for bookings without all bits. Every booking
+/// is taken, and the tree asks for all bits first.
+fn bits() -> Table {
+    // 0: part and label; 1: four parts; 3: four bits; 2 and 4: without; bits 5 and 6; labels 7 to 22
+    let mut words = vec![23, 0, 2, 1, 4, 1, 4, 2, 2, 2, 2, 1, 0, 2, 4, 3, 3, 3, 3, 2, 0, 3, 0, 3, 0];
+    words.extend([4, 0].repeat(16));
+    let mut table = Table::new(&Signature::new(&words).unwrap());
+    let part = [3, 258, 258, 258, 258];
+    let mut patterns = vec![vec![0, 2, 258]];
+    for i in 0..4 {
+        patterns.push([vec![0, 1], part.repeat(i), vec![4], vec![258; 3 - i], vec![258]].concat());
+    }
+    for i in 0..16 {
+        for bit in [5, 6] {
+            let mut pattern = [vec![0, 1], part.repeat(4), vec![7 + i as u16]].concat();
+            pattern[2 + i / 4 * 5 + 1 + i % 4] = bit;
+            patterns.push(pattern);
+        }
+    }
+    for (i, pattern) in patterns.iter().enumerate() {
+        table.enter(rule(1 + i as u16), 1, pattern).unwrap();
+    }
+    table
+}
+
+/// The tables of these rules are answered, though their trees are too large.
+#[test]
+fn gaps_without_a_tree() {
+    with_stack(gaps_without_a_tree_here);
+}
+
+fn gaps_without_a_tree_here() {
+    let mut table = bits();
+    assert_eq!(table.compile(), Err(Refusal::TreeTooLarge));
+    assert_eq!(table.gap(), Ok(None));
+    // the rule of the last label and the last bit's upper value
+    table.withdraw(rule(37)).unwrap();
+    assert_eq!(table.compile(), Err(Refusal::TreeTooLarge));
+    let shown = gap(&table).unwrap();
+    assert_eq!((shown.len(), shown[21], shown[22]), (23, 6, 22));
+}
+
+/// The numbers of the call itself, in their order; what is not shown is not written.
+#[test]
+fn gaps_are_refused() {
+    with_stack(gaps_are_refused_here);
+}
+
+fn gaps_are_refused_here() {
+    let sound = table().words().to_vec();
+    let mut unsound = sound.clone();
+    unsound[2] = 9;
+    let cases: [(&[u16], &[u16], usize, u16); 9] = [
+        (&T[..14], &unsound[1..], 0, 1),
+        (&T[..14], &sound, WITNESS, 1),
+        (&T, &unsound[1..], WITNESS, 2),
+        (&T, &unsound, WITNESS - 1, 2),
+        (&T, &sound, 0, 2),
+        (&T, &[], WITNESS, 2),
+        (&T, &unsound, WITNESS, 3),
+        (&T, &sound, WITNESS, 0),
+        (&T, &sound, WITNESS + 9, 0),
+    ];
+    for (signature, table, n, number) in cases {
+        let mut witness = vec![7; n];
+        let shown = raw::gap(signature, table, &mut witness);
+        assert_eq!(shown, raw::Shown { number, length: if number == 0 { 3 } else { 0 } });
+        assert!(witness[shown.length..].iter().all(|w| *w == 7));
+    }
+    let mut all = Table::new(&Signature::new(&T).unwrap());
+    all.enter(rule(1), 1, &[258]).unwrap();
+    let mut witness = vec![7; WITNESS];
+    assert_eq!(raw::gap(&T, all.words(), &mut witness), raw::Shown { number: 0, length: 0 });
+    assert_eq!(witness, [7; WITNESS]);
 }
 
 #[test]

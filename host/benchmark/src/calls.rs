@@ -2,7 +2,7 @@
 use bellgantlet::{raw, stack, TABLE, TREE, WITNESS};
 
 /// The names of the calls and what each is documented to take of the stack.
-pub const CALLS: [(&str, usize); 11] = [
+pub const CALLS: [(&str, usize); 12] = [
     ("part", stack::PART),
     ("run", stack::RUN),
     ("empty", stack::EMPTY),
@@ -10,6 +10,7 @@ pub const CALLS: [(&str, usize); 11] = [
     ("enter", stack::ENTER),
     ("withdraw", stack::WITHDRAW),
     ("set_default", stack::SET_DEFAULT),
+    ("gap", stack::GAP),
     ("compile", stack::COMPILE),
     ("check_begin", stack::CHECK_BEGIN),
     ("check_step", stack::CHECK_STEP),
@@ -51,6 +52,7 @@ impl Lent {
             "enter" => raw::enter(&l.signature, l.number, 1, &l.pattern, &mut l.table, &mut l.witness).number,
             "withdraw" => raw::withdraw(&l.signature, l.number, &mut l.table),
             "set_default" => raw::set_default(&l.signature, 2, &mut l.table),
+            "gap" => raw::gap(&l.signature, &l.table, &mut l.witness).number,
             "compile" => raw::compile(&l.signature, &l.table, &mut l.space).number,
             "check_begin" => raw::check_begin(&l.signature, &mut l.check),
             "check_step" => raw::check_step(&l.signature, &mut l.check, l.word),

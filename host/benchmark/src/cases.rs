@@ -178,6 +178,35 @@ pub fn with_levels() -> Vec<Case> {
     vec![boxes("10 rules, levels", 10), boxes("64 rules, levels", 64)]
 }
 
+/// Each rule takes six of seven heads at a place, where all places before it have the seventh; the last takes bookings without
+/// all 40 places. Only the booking with the seventh head at each is left: 254 rows, which a search leaves one after the other.
+pub fn stairs() -> Case {
+    const PLACES: usize = 40;
+    // of kind k, 2 k has three places and the next kind, the last of them, 26, one place; 2 k + 1 has none; heads 28 to 34
+    let mut signature = vec![35];
+    (0..13).for_each(|k| signature.extend([k, 4, 14, 14, 14, k + 1, k, 0]));
+    signature.extend([13, 1, 14, 13, 0]);
+    signature.extend([14, 0].repeat(7));
+    let six = [vec![257; 5], (28..34).collect()].concat();
+    let chain = |at: &dyn Fn(usize) -> Vec<u16>| -> Vec<u16> {
+        (0..PLACES).flat_map(|i| [if i % 3 == 0 { vec![i as u16 / 3 * 2] } else { vec![] }, at(i)].concat()).collect()
+    };
+    let (mut rules, mut bookings) = (vec![], vec![]);
+    for step in 0..PLACES {
+        let pattern = chain(&|i| if i < step { vec![34] } else if i == step { six.clone() } else { vec![258] });
+        rules.push((1 + step as u16, 1, pattern));
+        bookings.push(chain(&|i| vec![if i < step { 34 } else { 28 }]));
+    }
+    rules.push((41, 1, [vec![260], chain(&|_| vec![258])].concat()));
+    bookings.push(vec![1]);
+    Case { name: "stairs", signature, rules, bookings }
+}
+
+/// The least booking of a signature.
+pub fn least(signature: &[u16]) -> Vec<u16> {
+    reference::signature::Signature::read(signature).unwrap().least_value(0).words()
+}
+
 /// A value of n words: 0 has one argument, 1 two, 2 none.
 fn exact(n: usize) -> Vec<u16> {
     match n {

@@ -1,6 +1,7 @@
 //! Where the calls go deepest: patterns of 64 words that nest in every way, entered and held; and words that are not lawful.
 use crate::calls::{Lent, Row};
-use crate::cases::{cases, long_deep, long_grid, long_wide, with_levels, Case};
+use crate::cases::{cases, least, long_deep, long_grid, long_wide, stairs, with_levels, Case};
+use crate::instances::instances;
 use bellgantlet::{raw, TABLE, TREE, WITNESS};
 
 /// One kind: 0 has no argument, 1 one, 2 two, 3 four.
@@ -17,6 +18,9 @@ pub fn rows() -> Vec<Row> {
     all.push(of_patterns("nested wide", wide()));
     all.push(of_patterns("variables under or", variables()));
     all.push(of_case(&letters()));
+    all.push(of_case(&stairs()));
+    all.push(of_case(&nested_stairs()));
+    all.push(of_instances());
     all.push(not_lawful());
     all.push(arriving());
     all
@@ -38,7 +42,7 @@ fn asked(l: &Lent, bookings: &[Vec<u16>]) -> Vec<(&'static str, Lent)> {
     let mut tree = vec![0; TREE];
     let n = raw::compile(&l.signature, &l.table, &mut tree).length;
     tree.truncate(n);
-    let mut all: Vec<_> = ["empty", "withdraw", "set_default", "compile"].into_iter().map(|c| (c, l.clone())).collect();
+    let mut all: Vec<_> = ["empty", "withdraw", "set_default", "gap", "compile"].into_iter().map(|c| (c, l.clone())).collect();
     for b in bookings {
         let l = Lent { booking: b.clone(), tree: tree.clone(), place: b.len() - 1, ..l.clone() };
         all.extend(["decide", "run", "part"].into_iter().map(|c| (c, l.clone())));
@@ -157,6 +161,24 @@ fn letters() -> Case {
     Case { name: "64 rules, 63 nested", signature: TWO_LETTERS.to_vec(), rules, bookings }
 }
 
+/// Stairs one in the other, 232 rows: 0 has one argument, and each rule takes the four without behind so many of it.
+fn nested_stairs() -> Case {
+    let step = |i: usize| [vec![0; i], vec![257, 257, 257, 1, 2, 3, 4]].concat();
+    let rules = (0..58).map(|i| (1 + i as u16, 1, step(i))).collect();
+    let bookings = [57, 255].map(|n| [vec![0; n], vec![1]].concat()).to_vec();
+    Case { name: "nested stairs", signature: vec![5, 0, 1, 0, 0, 0, 0, 0, 0, 0, 0, 0], rules, bookings }
+}
+
+/// The hard tables of gap, each with the booking that no rule takes, or the least.
+fn of_instances() -> Row {
+    let mut inputs = vec![];
+    for i in instances().0 {
+        let booking = if i.gap.is_empty() { least(&i.lent.signature) } else { i.gap };
+        inputs.extend(asked(&i.lent, &[booking]));
+    }
+    Row { name: "instances", inputs }
+}
+
 /// Words beyond every limit.
 fn not_lawful() -> Row {
     let mut inputs = vec![];
@@ -165,7 +187,7 @@ fn not_lawful() -> Row {
             inputs.push(("enter", Lent { number: 1, pattern: vec![word; n], ..Lent::empty(&ONE_KIND) }));
             let mut table = [vec![1, 1, 1, 1, n as u16], vec![word; n]].concat();
             table.resize(TABLE, word);
-            for call in ["enter", "withdraw", "set_default", "compile", "decide"] {
+            for call in ["enter", "withdraw", "set_default", "gap", "compile", "decide"] {
                 inputs.push((call, Lent { number: 2, pattern: vec![258], booking: vec![0], ..Lent::new(&ONE_KIND, &table) }));
             }
         }
@@ -174,7 +196,7 @@ fn not_lawful() -> Row {
             inputs.extend(["part", "run", "decide"].map(|c| (c, l.clone())));
             inputs.extend(stepped(&ONE_KIND, &l.booking));
             let l = Lent { booking: vec![0], number: 1, pattern: vec![258], ..Lent::empty(&vec![word; n]) };
-            inputs.extend(["part", "run", "decide", "enter", "withdraw", "set_default", "compile"].map(|c| (c, l.clone())));
+            inputs.extend(["part", "run", "decide", "enter", "withdraw", "set_default", "gap", "compile"].map(|c| (c, l.clone())));
             inputs.extend(stepped(&l.signature, &[0]));
         }
     }

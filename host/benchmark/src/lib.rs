@@ -3,5 +3,6 @@ pub mod calls;
 pub mod cases;
 pub mod deep;
 pub mod first_match;
+pub mod instances;
 pub mod search;
 pub mod stack;

@@ -1,8 +1,9 @@
 //! The calls side by side with the prototype, with a first-match list of the same rules, and a run with one pass over the
 //! booking. Times are the least of many rounds, in which the parties take turns.
 use bellgantlet::raw;
-use benchmark::cases::{cases, long, long_deep, long_grid, long_wide, with_levels, Case};
+use benchmark::cases::{cases, least, long, long_deep, long_grid, long_wide, stairs, with_levels, Case};
 use benchmark::first_match;
+use benchmark::instances::instances;
 use std::hint::black_box;
 use std::time::Instant;
 
@@ -90,13 +91,50 @@ fn times(rounds: usize) {
     for c in [long_grid(), long_wide(), long_deep()] {
         stepped(&c, rounds);
     }
+    gaps(rounds);
+}
+
+/// Gap beside decide of the least booking, on the tables of the other calls and on those that are hard for it.
+fn gaps(rounds: usize) {
+    let (hard, refused) = instances();
+    let mut rows: Vec<(String, f64)> = vec![];
+    for c in cases().iter().chain(&with_levels()).chain(&[stairs()]) {
+        rows.push(gap(c.name, &c.signature, &c.table(c.rules.len()), None, rounds));
+    }
+    for i in &hard {
+        rows.push(gap(&i.name, &i.lent.signature, &i.lent.table, Some(!i.gap.is_empty()), rounds));
+    }
+    let most = rows.iter().map(|(_, ns)| *ns).fold(0.0, f64::max);
+    println!("\n| gap on | rules | words shown | gap | decide | ratio | |\n|---|---|---|---|---|---|---|");
+    for (cells, ns) in rows {
+        println!("| {cells} | {} |", if ns == most { "slowest" } else { "" });
+    }
+    for (name, n) in refused {
+        println!("{name} is left out: a rule is refused with {n}");
+    }
+}
+
+/// The cells of a table and the time of gap in nanoseconds; with what is known of a gap.
+fn gap(name: &str, sig: &[u16], table: &[u16], known: Option<bool>, rounds: usize) -> (String, f64) {
+    let (mut witness, least) = (vec![0; 4096], least(sig));
+    let shown = raw::gap(sig, table, &mut witness);
+    let answer = raw::decide(sig, table, &witness[..shown.length]);
+    assert!(shown.number == 0 && known.is_none_or(|is| is == (shown.length > 0)), "{name}");
+    assert!(shown.length == 0 || (answer.number, answer.rule) == (0, 0), "{name}");
+    let mut parties: Vec<Party> = vec![
+        ("gap", Box::new(|| { black_box(raw::gap(sig, table, &mut witness)); })),
+        ("decide", Box::new(|| { black_box(raw::decide(sig, table, &least)); })),
+    ];
+    let t = turns(&mut parties, rounds);
+    let times = format!("{:.1} µs | {:.1} µs | {:.2}", t[0] / 1e3, t[1] / 1e3, t[0] / t[1]);
+    (format!("{name} | {} | {} | {times}", table[0], shown.length), t[0])
 }
 
 /// A step beside a word of the check inside part, which is without what part takes of the least booking. The part is that of
 /// the last place, as the end of a longer one would be looked for in a second walk.
 fn stepped(c: &Case, rounds: usize) {
     let (sig, b) = (&c.signature, &c.bookings[0]);
-    let least = reference::signature::Signature::read(sig).unwrap().least_value(0).words();
+    let least = least(sig);
     let mut begun = raw::Check::default();
     assert_eq!(raw::check_begin(sig, &mut begun), 0);
     let mut check = begun.clone();
@@ -296,7 +334,7 @@ fn by_itself(call: &str, case: &str, rounds: usize, f: impl FnMut()) {
 
 /// One call again and again, for a profiler: `benchmark only run "64 rules" 1000`.
 fn only(call: &str, case: &str, times: usize) {
-    let c = cases().into_iter().chain(with_levels()).find(|c| c.name == case).expect("a case");
+    let c = cases().into_iter().chain(with_levels()).chain([stairs()]).find(|c| c.name == case).expect("a case");
     let (sig, table, n) = (&c.signature, c.table(c.rules.len()), c.rules.len());
     let (number, plan, pattern) = c.rules.last().unwrap();
     let mut space = vec![0; 32768];
@@ -310,9 +348,10 @@ fn only(call: &str, case: &str, times: usize) {
             "enter" => drop(black_box(raw::enter(sig, *number, *plan, pattern, &mut c.table(n - 1), &mut witness))),
             "withdraw" => drop(black_box(raw::withdraw(sig, *number, &mut table.clone()))),
             "set_default" => drop(black_box(raw::set_default(sig, 2, &mut table.clone()))),
+            "gap" => drop(black_box(raw::gap(sig, &table, &mut witness))),
             "compile" => drop(black_box(raw::compile(sig, &table, &mut space))),
             "prototype-run" => drop(black_box(prototype::run::run(sig, &tree, next()))),
-            _ => panic!("run, decide, enter, withdraw, set_default or compile"),
+            _ => panic!("run, decide, enter, withdraw, set_default, gap or compile"),
         }
     }
 }

@@ -75,6 +75,16 @@ impl Depot {
         }
     }
 
+    /// A booking that no rule takes, by names.
+    fn gap(&self) -> Option<String> {
+        let gap = self.table.gap().unwrap().map(|words| self.names.show(&words));
+        match &gap {
+            Some(text) => println!("-- a gap: no rule takes {text}"),
+            None => println!("-- no gap: every booking is taken by a rule"),
+        }
+        gap
+    }
+
     /// Compiles a copy of the table on a thread of its own, which has the stack for it.
     fn compile(&self) -> Compiling {
         println!("-- compiling begins; bookings go on by the tree of change {}", self.compiled);
@@ -187,6 +197,19 @@ fn main() -> Result<(), Refusal> {
     let third = depot.compile();
     depot.answer(left);
     depot.adopt(third);
+    depot.answer(left);
+
+    // rules for all that is left but this booking, and one for the gap that is shown
+    depot.enter("Di", 40, 20, "booking(articulated, _, _, _) | booking(trolley, street, _, _)");
+    depot.enter("Di", 41, 21, "booking(midi | solo, hall(_), !by(_, !low), _) | booking(midi | solo, yard(_), !high, _)");
+    depot.enter("Di", 42, 22, "booking(midi | solo, street, high, _) | booking(midi, street, !high, 21..100)");
+    depot.enter("Di", 43, 23, "booking(solo, street, half | by(_, _), 21..100) | booking(solo, street, low, 62..100)");
+    if let Some(text) = depot.gap() {
+        depot.enter("Di", 44, 24, &text);
+        depot.gap();
+    }
+    let fourth = depot.compile();
+    depot.adopt(fourth);
     depot.answer(left);
 
     println!("-- bookings arrive in pieces:");

@@ -1,4 +1,5 @@
-//! 01, Table and Turned down, and 02, job 3: the calls, each as what it answers and what is written.
+//! 01, Table and Turned down, and 02, jobs 3 and 4: the calls, each as what it answers and what is written.
+use crate::gap::untaken;
 use crate::pattern::{admitted, Pattern};
 use crate::rows::{rows_of, some_meet_at, Row, Side};
 use crate::signature::Signature;
@@ -232,6 +233,14 @@ impl Model {
         }
         assert!(taken <= 1, "no two rules of a sound table take one booking");
         given(answer)
+    }
+
+    /// The number, and a booking that no rule takes. Which one is shown is open.
+    pub fn gap(&mut self, words: &[u16], table: &[u16], witness: usize) -> (u16, Option<Vec<u16>>) {
+        match self.open(words, table.len() >= TABLE && witness >= WITNESS, table) {
+            Ok((sig, rules)) => (0, untaken(&sig, (*rules).as_ref().unwrap()).map(|v| v.words())),
+            Err(n) => (n, None),
+        }
     }
 
     pub fn run(&mut self, words: &[u16], tree: &[u16], booking: &[u16]) -> Answer {

@@ -1,5 +1,6 @@
 //! Each call made of the library and of the reference, with every lent word compared, and the words around what is lent.
-use crate::calls::{Answer, Model, WITNESS};
+use crate::calls::{sound, Answer, Model, WITNESS};
+use crate::gap::is_gap;
 use crate::pattern;
 use crate::signature::Signature;
 use crate::stepped;
@@ -178,6 +179,24 @@ impl Compare {
         got
     }
 
+    /// The booking that is shown, if there is one, or the number of the refusal.
+    pub fn gap(&mut self, sig: &[u16], table: &[u16], witness: &[u16]) -> Result<Option<Vec<u16>>, u16> {
+        let mut lent = Lent::of(witness);
+        let g = raw::gap(sig, table, lent.words());
+        let expected = self.model.gap(sig, table, witness.len());
+        same!("gap", "number", g.number, expected.0, sig, table, witness.len());
+        let some = g.length > 0;
+        same!("gap", "whether a booking is shown", some, expected.1.is_some(), sig, table, expected.1);
+        let shown = lent.after().get(..g.length).map(|b| b.to_vec());
+        if some {
+            let lawful = shown.as_ref().is_some_and(|b| untaken(sig, table, b));
+            same!("gap", "booking lawful and taken by no rule", lawful, true, sig, table, g, shown);
+        }
+        same!("gap", "rest of the witness buffer", &lent.after()[g.length..], &witness[g.length..], sig, table, g);
+        self.count("gap", g.number);
+        if g.number == 0 { Ok(shown.filter(|b| !b.is_empty())) } else { Err(g.number) }
+    }
+
     pub fn run(&mut self, sig: &[u16], tree: &[u16], booking: &[u16]) -> Answer {
         let got = form(raw::run(sig, tree, booking));
         let expected = self.model.run(sig, tree, booking);
@@ -273,7 +292,13 @@ fn both_take(sig: &[u16], pattern: &[u16], table: &[u16], rule: u16, booking: &[
     let Some(v) = sig.read_booking(booking) else {
         return false;
     };
-    let rules = crate::calls::sound(&sig, table).unwrap();
+    let rules = sound(&sig, table).unwrap();
     let held = rules.iter().find(|r| r.number == rule).unwrap();
     held.pattern.fits(&v) && pattern::read(&sig, pattern).unwrap().fits(&v)
+}
+
+/// What 02 says of the booking that the gap call shows.
+fn untaken(sig: &[u16], table: &[u16], booking: &[u16]) -> bool {
+    let sig = Signature::read(sig).unwrap();
+    is_gap(&sig, &sound(&sig, table).unwrap(), booking)
 }

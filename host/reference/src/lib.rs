@@ -2,6 +2,8 @@
 pub mod by_hand;
 pub mod calls;
 pub mod compare;
+pub mod gap;
+pub mod instance;
 pub mod json;
 pub mod pattern;
 pub mod random;

@@ -1,8 +1,10 @@
 //! The differential test: the library against the reference, by fixed seeds and by the vectors.
 //!
-//!     differential [--vectors FOLDER] [--records FOLDER] [--seed N] [--scale PERCENT]
+//!     differential [--vectors FOLDER] [--instances FOLDER] [--records FOLDER] [--seed N] [--scale PERCENT]
 use reference::calls::{sound, TABLE};
 use reference::compare::{Compare, States};
+use reference::gap::{counted, small_untaken};
+use reference::instance::Instance;
 use reference::json::Json;
 use reference::pattern::{self, admitted};
 use reference::random::*;
@@ -34,10 +36,13 @@ fn work() {
     if let Some(folder) = option("--vectors") {
         timed(&mut c, "vectors", |c| vectors(c, &folder));
     }
+    if let Some(folder) = option("--instances") {
+        timed(&mut c, "instances", |c| instances(c, &folder));
+    }
     if let Some(folder) = option("--records") {
         timed(&mut c, "records", |c| records(c, &folder));
     }
-    let tests: [(&str, usize, fn(&mut Compare, &mut Random)); 10] = [
+    let tests: [(&str, usize, fn(&mut Compare, &mut Random)); 12] = [
         ("signatures", 12000, signatures),
         ("bookings and parts", 12000, bookings),
         ("patterns into an empty table", 60000, patterns),
@@ -48,6 +53,8 @@ fn work() {
         ("changed trees", 2500, trees),
         ("limits", 1, limits),
         ("forged states", 20000, forged),
+        ("gaps of small tables", 2000, gaps),
+        ("gaps of parted kinds", 1500, parted),
     ];
     for (i, (name, times, test)) in tests.into_iter().enumerate() {
         timed(&mut c, name, |c| {
@@ -68,13 +75,14 @@ fn timed(c: &mut Compare, name: &str, f: impl FnOnce(&mut Compare)) {
 
 /// Each call's numbers: those that 01 lets it give, all of them reached.
 fn summary(c: &Compare, scale: usize) {
-    let known: [(&str, &[u16]); 11] = [
+    let known: [(&str, &[u16]); 12] = [
         ("empty", &[0, 2]),
         ("enter", &[0, 1, 2, 3, 4, 5, 7, 8, 9, 10, 11, 12, 18]),
         ("withdraw", &[0, 1, 2, 3, 4, 6]),
         ("set_default", &[0, 1, 2, 3]),
         ("compile", &[0, 1, 2, 3, 14]),
         ("decide", &[0, 1, 2, 3, 13]),
+        ("gap", &[0, 1, 2, 3]),
         ("run", &[0, 1, 13, 15]),
         ("part", &[0, 1, 13, 16]),
         ("check_begin", &[0, 1]),
@@ -110,6 +118,12 @@ fn plan(r: &mut Random) -> u16 {
     *r.pick(&[0, 1, 65535, any])
 }
 
+/// Words of a witness buffer, once in a while too few.
+fn witness(r: &mut Random) -> Vec<u16> {
+    let n = if r.once_in(20) { *r.pick(&[0, 4095]) } else { *r.pick(&[4096, 4097, 5000]) };
+    vec![r.next() as u16; n]
+}
+
 fn size(r: &mut Random) -> Size {
     *r.pick(&[Size::Small, Size::Medium, Size::Medium, Size::Large])
 }
@@ -134,6 +148,7 @@ fn signatures(c: &mut Compare, r: &mut Random) {
         c.enter(&words, 5, 6, &p, &mut table, 4096);
         c.decide(&words, &table, &b);
         c.compile(&words, &table, &vec![9; 600]).ok();
+        c.gap(&words, &table, &witness(r)).ok();
         c.set_default(&words, plan(r), &mut table);
         c.withdraw(&words, 5, &mut table);
     }
@@ -303,11 +318,43 @@ fn compiled(c: &mut Compare, r: &mut Random, words: &[u16], table: &[u16]) -> Op
     tree
 }
 
+/// The gap of a sound table: there is one where the tree has a default leaf.
+fn asked_gap(c: &mut Compare, r: &mut Random, words: &[u16], table: &[u16], tree: Option<&[u16]>) -> Option<Vec<u16>> {
+    let words_lent = *r.pick(&[4096, 4097, 5000]);
+    let witness: Vec<u16> = (0..words_lent).map(|i| (i * 7 + 40000) as u16).collect();
+    let shown = c.gap(words, table, &witness).unwrap();
+    if let Some(t) = tree {
+        assert_eq!(shown.is_some(), default_leaf(t), "{words:?} {table:?}");
+    }
+    if let Some(b) = &shown {
+        let direct = c.decide(words, table, b);
+        assert_eq!(direct, (0, 0, table[1], [65535; 16]));
+    }
+    shown
+}
+
+/// Whether a tree has a default leaf; its nodes stand one behind the other.
+fn default_leaf(tree: &[u16]) -> bool {
+    let mut at = 0;
+    while at < tree.len() {
+        let count = |i: usize| tree[at + i] as usize;
+        at += match tree[at] {
+            0 => return true,
+            1 => 4 + 2 * count(3),
+            2 => 3 + count(2),
+            3 => 1,
+            _ => 2 + 2 * count(1),
+        };
+    }
+    false
+}
+
 fn lists(c: &mut Compare, r: &mut Random) {
     let of = size(r);
     let (words, sig) = signature(r, of);
     let table = list(c, r, &words, &sig);
     let tree = compiled(c, r, &words, &table);
+    asked_gap(c, r, &words, &table, tree.as_deref());
     // another default from here on: the table's answers change with it where no rule takes a booking, the tree's do not
     let mut other = table.clone();
     assert_eq!(c.set_default(&words, plan(r), &mut other), 0);
@@ -350,6 +397,7 @@ fn full(c: &mut Compare, r: &mut Random) {
         }
     }
     let tree = compiled(c, r, &words, &table);
+    asked_gap(c, r, &words, &table, tree.as_deref());
     for _ in 0..20 {
         let b = asked(r, &sig, &table);
         let direct = c.decide(&words, &table, &b);
@@ -374,6 +422,7 @@ fn tables(c: &mut Compare, r: &mut Random) {
         c.decide(&words, &table, &b);
         if r.once_in(2) {
             c.compile(&words, &table, &vec![5; 3000]).ok();
+            c.gap(&words, &table, &witness(r)).ok();
             c.withdraw(&words, good[2], &mut table.clone());
             c.set_default(&words, plan(r), &mut table.clone());
             let p = rule_pattern(r, &sig);
@@ -384,6 +433,7 @@ fn tables(c: &mut Compare, r: &mut Random) {
             c.empty(&mut table.clone());
             c.decide(&words, &table, &b);
             c.compile(&words, &table, &[]).ok();
+            c.gap(&words, &table, &witness(r)).ok();
             c.withdraw(&words, 1, &mut table.clone());
             c.set_default(&words, plan(r), &mut table.clone());
             c.enter(&words, 1, 1, &[258], &mut table, 4096);
@@ -497,6 +547,71 @@ fn needed(c: &mut Compare, sig: &[u16], tree: &[u16], booking: &[u16]) -> usize 
         }
     }
     enough
+}
+
+/// The gaps of small tables against all bookings, where these are few, or against small ones.
+fn gaps(c: &mut Compare, r: &mut Random) {
+    let (words, sig) = signature(r, Size::Small);
+    let mut table = list(c, r, &words, &sig);
+    if r.once_in(2) {
+        rest(c, &words, &mut table);
+    }
+    let shown = asked_gap(c, r, &words, &table, None);
+    let rules = sound(&sig, &table).unwrap();
+    match counted(&sig, 0, 500, 12) {
+        Some(n) => {
+            let all = all_values(&sig, 0, 4096, n);
+            assert_eq!(all.len(), n);
+            let left = all.iter().any(|v| rules.iter().all(|x| x.pattern.fails(v)));
+            assert_eq!(shown.is_some(), left, "{words:?} {table:?}");
+        }
+        None => assert!(shown.is_some() || small_untaken(&sig, &rules, 6, 200).is_none(), "{words:?} {table:?}"),
+    }
+}
+
+/// One more rule for all that the others leave, if it may enter: their negation, without variables.
+fn rest(c: &mut Compare, words: &[u16], table: &mut Vec<u16>) {
+    let sig = Signature::read(words).unwrap();
+    let mut p = vec![260];
+    for rule in sound(&sig, table).unwrap() {
+        let fixed = rule.words.iter().map(|w| if (261..=276).contains(w) { 258 } else { *w });
+        p = [p, vec![257], fixed.collect()].concat();
+    }
+    p.push(259);
+    let free = (1..=999).find(|n| !numbers(table).contains(n)).unwrap();
+    c.enter(words, free, 1, &p, table, 4096);
+}
+
+/// The numbers of a sound table's rules.
+fn numbers(table: &[u16]) -> Vec<u16> {
+    let mut at = 2;
+    let mut all = vec![];
+    for _ in 0..table[0] {
+        all.push(table[at]);
+        at += 3 + table[at + 2] as usize;
+    }
+    all
+}
+
+/// Rules that part all bookings leave no gap; without one of them the gap is what that one took.
+fn parted(c: &mut Compare, r: &mut Random) {
+    let of = size(r);
+    let (words, sig) = signature(r, of);
+    let n = r.between(1, 40);
+    let pieces = pieces(r, &sig, n);
+    let mut table = emptied(c, r);
+    for (i, p) in pieces.iter().enumerate() {
+        assert_eq!(c.enter(&words, 1 + i as u16, 7, &p.words(), &mut table, 4096), 0, "{words:?} {pieces:?}");
+    }
+    let tree = compiled(c, r, &words, &table);
+    assert_eq!(asked_gap(c, r, &words, &table, tree.as_deref()), None);
+    for _ in 0..3 {
+        let i = r.below(pieces.len());
+        let mut less = table.clone();
+        c.withdraw(&words, 1 + i as u16, &mut less);
+        let shown = asked_gap(c, r, &words, &less, None).expect("a gap");
+        assert!(pieces[i].fits(&sig.read_booking(&shown).unwrap()), "{words:?} {less:?} {shown:?}");
+    }
 }
 
 /// States of a check that no begin and step made, or that were made under another signature, stepped some words.
@@ -904,6 +1019,9 @@ fn vector(c: &mut Compare, v: &Json, name: &str) {
     for d in v.get("run").list() {
         check(c.run(&sig, &d.get("tree").words(), &d.get("booking").words()), d.get("answer"), name);
     }
+    if v.has("records") {
+        v.get("records").list().iter().for_each(|r| record(c, r));
+    }
 }
 
 /// Calls made of a table as it stands; each must give its number.
@@ -920,6 +1038,35 @@ fn performed(c: &mut Compare, sig: &[u16], calls: &Json, numbers: &Json, table: 
             call => panic!("no call {call}"),
         };
         assert_eq!(got, number, "{name}");
+    }
+}
+
+/// Tables with their gap: sound, and a booking is shown where the file has one.
+fn instances(c: &mut Compare, folder: &str) {
+    let mut files: Vec<_> = std::fs::read_dir(folder).unwrap().map(|f| f.unwrap().path()).collect();
+    files.sort();
+    for f in &files {
+        instance(c, &Instance::read(&std::fs::read_to_string(f).unwrap()), &f.file_stem().unwrap().to_string_lossy());
+    }
+    println!("{} files in {folder}", files.len());
+}
+
+fn instance(c: &mut Compare, of: &Instance, name: &str) {
+    let sig = &of.signature;
+    let mut table = vec![9; TABLE];
+    c.empty(&mut table);
+    for (number, plan, pattern) in &of.rules {
+        assert_eq!(c.enter(sig, *number, *plan, pattern, &mut table, 4096), 0, "{name}");
+    }
+    let shown = c.gap(sig, &table, &[9; 4100]).unwrap();
+    assert_eq!(shown.is_some(), !of.gap.is_empty(), "{name}");
+    for b in shown.iter().chain([&of.gap]).filter(|b| !b.is_empty()) {
+        assert_eq!(c.decide(sig, &table, b), (0, 0, 1, [65535; 16]), "{name}");
+    }
+    let tree = c.compile(sig, &table, &[9; 32768]);
+    assert!(!name.starts_with("brief31") || tree == Err(14), "{name}");
+    if let Ok(t) = tree {
+        assert_eq!(shown.is_some(), default_leaf(&t), "{name}");
     }
 }
 
@@ -987,6 +1134,22 @@ fn record(c: &mut Compare, r: &Json) {
         // of the reference alone
         "program" => assert_eq!(printed(given.get("text").text().as_bytes()), out.get("printed").text(), "{r:?}"),
         "decide" => answer(c.decide(&sig, &words("table"), &words("booking"))),
+        "gap" => {
+            let table = words("table");
+            let length = out.get("length").number();
+            match c.gap(&sig, &table, &words("witness")) {
+                Ok(shown) => {
+                    number(0);
+                    assert_eq!(shown.is_some(), length > 0, "{r:?}");
+                }
+                Err(n) => number(n),
+            }
+            // the booking of the record is another that qualifies, or the same
+            if length > 0 {
+                let one = after("witness", vec![]);
+                assert_eq!(c.decide(&sig, &table, &one[..length]), (0, 0, table[1], [65535; 16]), "{r:?}");
+            }
+        }
         "run" => answer(c.run(&sig, &words("tree"), &words("booking"))),
         "compile" => {
             let space = words("space");

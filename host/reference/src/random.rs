@@ -279,6 +279,77 @@ fn leaf(r: &mut Random, sig: &Signature, kind: usize, side: Side, variables: &[u
     if plus { p } else { Not(Box::new(p)) }
 }
 
+/// Patterns of at most 64 words that part all bookings, about so many: an open place of one is split again and again, by its heads, by one
+/// head and the others, or by two ranges.
+pub fn pieces(r: &mut Random, sig: &Signature, n: usize) -> Vec<Pattern> {
+    let mut all = vec![Pattern::Wildcard];
+    for _ in 0..2 * n {
+        let i = r.below(all.len());
+        let places = open_places(sig, &all[i], 0);
+        if places.is_empty() || all.len() >= n {
+            continue;
+        }
+        let (place, kind) = r.pick(&places).clone();
+        let parts: Vec<Pattern> = split(r, sig, kind).iter().map(|p| put(&all[i], &place, p)).collect();
+        if parts.iter().all(|p| p.words().len() <= 64) && all.len() + parts.len() <= 64 {
+            all.splice(i..=i, parts);
+        }
+    }
+    // two as one rule
+    if all.len() > 1 && r.once_in(3) {
+        let (a, b) = (all.pop().unwrap(), all.remove(r.below(all.len())));
+        match a.words().len() + b.words().len() < 64 {
+            true => all.push(Pattern::Or(Box::new(a), Box::new(b))),
+            false => all.extend([a, b]),
+        }
+    }
+    all
+}
+
+/// The wildcards of a pattern by their paths, with their kinds.
+fn open_places(sig: &Signature, p: &Pattern, kind: usize) -> Vec<(Vec<usize>, usize)> {
+    match p {
+        Pattern::Wildcard => vec![(vec![], kind)],
+        Pattern::Head(c, parts) => {
+            let under = |(i, q): (usize, &Pattern)| {
+                let below = open_places(sig, q, sig.arguments(*c)[i]);
+                below.into_iter().map(move |(place, k)| ([vec![i], place].concat(), k))
+            };
+            parts.iter().enumerate().flat_map(under).collect()
+        }
+        _ => vec![],
+    }
+}
+
+/// A pattern with another at a place.
+fn put(p: &Pattern, place: &[usize], q: &Pattern) -> Pattern {
+    let (Some(i), Pattern::Head(c, parts)) = (place.first(), p) else {
+        return q.clone();
+    };
+    let mut parts = parts.clone();
+    parts[*i] = put(&parts[*i], &place[1..], q);
+    Pattern::Head(*c, parts)
+}
+
+/// Patterns that part a kind; each takes some value.
+fn split(r: &mut Random, sig: &Signature, kind: usize) -> Vec<Pattern> {
+    use Pattern::*;
+    if sig.is_number(kind) {
+        let cut = r.between(1, 99) as u16;
+        return match r.below(3) {
+            0 => vec![Range(0, cut), Range(cut + 1, 100)],
+            1 => vec![Not(Box::new(Range(cut, 100))), Range(cut, 100)],
+            _ => vec![Range(cut / 2, cut), Not(Box::new(Range(cut / 2, cut)))],
+        };
+    }
+    let heads: Vec<Pattern> = sig.heads(kind).map(|c| Head(c, vec![Wildcard; sig.arguments(c).len()])).collect();
+    if heads.len() == 1 || (heads.len() <= 6 && !r.once_in(4)) {
+        return heads;
+    }
+    let one = r.pick(&heads).clone();
+    vec![one.clone(), Not(Box::new(one))]
+}
+
 /// The words of a pattern for a rule, at most 64 more often than not.
 pub fn rule_pattern(r: &mut Random, sig: &Signature) -> Vec<u16> {
     let mut all: Vec<u8> = (0..16).collect();

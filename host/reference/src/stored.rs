@@ -28,6 +28,8 @@ pub enum Step {
     Change { index: u16, word: u16 },
     /// 9
     SetDefault { plan: u16 },
+    /// 10
+    Gap { witness: u16 },
 }
 use Step::*;
 
@@ -86,6 +88,7 @@ impl Step {
             6 => Show,
             7 => Change { index: w.one(), word: w.one() },
             9 => SetDefault { plan: w.one() },
+            10 => Gap { witness: w.one() },
             k => panic!("no step {k}"),
         }
     }
@@ -104,6 +107,7 @@ impl Step {
             Show => vec![6],
             Change { index, word } => vec![7, *index, *word],
             SetDefault { plan } => vec![9, *plan],
+            Gap { witness } => vec![10, *witness],
         }
     }
 
@@ -121,6 +125,7 @@ impl Step {
             Show => "show".into(),
             Change { index, word } => format!("change {index} {word}"),
             SetDefault { plan } => format!("default {plan}"),
+            Gap { witness } => format!("gap {witness}"),
         }
     }
 
@@ -169,6 +174,7 @@ impl Step {
             ["run", "booking"] => Run { tree: lists[0].clone(), booking: lists[1].clone() },
             ["show"] => Show,
             ["default"] => SetDefault { plan: one(0) },
+            ["gap"] => Gap { witness: one(0) },
             ["change"] => return lists[0][1..].iter().zip(one(0)..).map(|(w, index)| Change { index, word: *w }).collect(),
             _ => panic!("not understood: {line}"),
         };
@@ -238,7 +244,8 @@ fn step_of(call: &Json) -> Step {
     }
 }
 
-/// The steps of a list of calls: the calls, the table where the signature is lawful, compile, the bookings decided and the first eight runs.
+/// The steps of a list of calls: the calls, the table where the signature is lawful, compile, the bookings decided, the first eight runs,
+/// and the gap where the list has one.
 pub fn steps_of(v: &Json) -> Vec<Step> {
     let mut all = vec![Table { words: v.get("table_words").number() as u16, signature: v.get("sig").words() }];
     all.extend(v.get("calls").list().iter().map(step_of));
@@ -248,6 +255,10 @@ pub fn steps_of(v: &Json) -> Vec<Step> {
     all.push(Compile { space: v.get("space").number() as u16 });
     all.extend(v.get("decide").list().iter().map(|d| Decide { booking: d.get("booking").words() }));
     all.extend(v.get("run").list().iter().take(8).map(|d| Run { tree: d.get("tree").words(), booking: d.get("booking").words() }));
+    if v.has("records") {
+        let witness = |r: &Json| r.get("in").get("witness").packed().len() as u16;
+        all.extend(v.get("records").list().iter().map(|r| Gap { witness: witness(r) }));
+    }
     all
 }
 
@@ -258,7 +269,7 @@ pub fn steps_in(records: &[Json]) -> Vec<Step> {
     let mut lent: (Vec<u16>, Vec<u16>) = (vec![], vec![]);
     for r in records {
         let (call, given, out) = (r.get("call").text(), r.get("in"), r.get("out"));
-        if !["set_default", "list", "decide", "compile"].contains(&call) {
+        if !["set_default", "list", "decide", "compile", "gap"].contains(&call) {
             continue;
         }
         let (signature, table) = (given.get("sig").packed(), given.get("table").packed());
@@ -278,6 +289,7 @@ pub fn steps_in(records: &[Json]) -> Vec<Step> {
                 all.extend(given.get("calls").list().iter().map(step_of));
             }
             "decide" => all.push(Decide { booking: given.get("booking").packed() }),
+            "gap" => all.push(Gap { witness: given.get("witness").packed().len() as u16 }),
             _ => all.push(Compile { space: given.get("space").packed().len() as u16 }),
         }
         if !out.has("table") {
@@ -321,6 +333,9 @@ pub fn answer_line((number, rule, plan, places): Answer) -> String {
     format!("{number} {rule} {plan}{bound}\n")
 }
 
+/// The words that `calls` has for a witness buffer.
+const WITNESS_ROOM: u16 = 5000;
+
 /// The lines of `calls`.
 pub fn played(steps: &[Step]) -> String {
     let mut model = Model::default();
@@ -341,6 +356,7 @@ pub fn played(steps: &[Step]) -> String {
                 out += &format!("{n}\n");
             }
             Enter { in_full, number, plan, witness, pattern } => {
+                assert!(*witness <= WITNESS_ROOM);
                 let (n, rule, after) = model.enter(&sig, *number, *plan, pattern, &table, *witness as usize);
                 out += &n.to_string();
                 if n == 12 && *in_full {
@@ -365,6 +381,15 @@ pub fn played(steps: &[Step]) -> String {
                 out += &format!("{n} {length}{}\n", spaced(&words[..length]));
             }
             Decide { booking } => out += &answer_line(model.decide(&sig, &table, booking)),
+            // which booking is shown is open: of it the line of its decision
+            Gap { witness } => {
+                assert!(*witness <= WITNESS_ROOM);
+                let (n, shown) = model.gap(&sig, &table, *witness as usize);
+                out += &format!("{n}{}\n", if shown.is_some() { " shown" } else { "" });
+                if let Some(b) = shown {
+                    out += &answer_line(model.decide(&sig, &table, &b));
+                }
+            }
             Run { tree, booking } => out += &answer_line(model.run(&sig, tree, booking)),
             Show => {
                 let used = table.iter().rposition(|w| *w != 0).map_or(0, |i| i + 1);

@@ -88,6 +88,7 @@ fn wrapper() {
     on(stack::ENTER, || table.enter(number, 40, &chain)).unwrap();
     on(stack::ENTER, || table.enter(RuleNumber::new(8).unwrap(), 40, &chain)).unwrap_err();
     assert_eq!(on(stack::DECIDE, || table.decide(&chain)).unwrap().plan(), 40);
+    assert!(on(stack::GAP, || table.gap()).unwrap().is_some());
     let tree = on(stack::COMPILE, || table.compile()).unwrap();
     assert_eq!(on(stack::RUN, || tree.run(&chain)).unwrap().plan(), 40);
     on(stack::SET_DEFAULT, || table.set_default(2)).unwrap();
@@ -100,11 +101,12 @@ fn wrapper() {
     let signature = Signature::new(&deepest.signature).unwrap();
     let table = Table::from_words(&signature, &deepest.table(64)).unwrap();
     on(stack::COMPILE, || table.compile()).unwrap_err();
+    assert!(on(stack::GAP, || table.gap()).unwrap().is_some());
     println!("the wrapper's methods on the same stacks");
 }
 
 fn search(rounds: usize) {
-    for call in ["enter", "withdraw", "set_default", "decide", "compile"] {
+    for call in ["enter", "withdraw", "set_default", "decide", "gap", "compile"] {
         let (bytes, pattern) = deepest(call, rounds);
         println!("{call}: {bytes} with {pattern:?}");
     }

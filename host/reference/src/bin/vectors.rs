@@ -4,6 +4,7 @@
 //!     vectors show calls|runs|steps                           the data file of the repository as text
 //!     vectors answer calls|runs|steps|texts|parts|patterns    what the program must print
 //!     vectors text                                            what the text program prints for standard input
+use reference::instance::Instance;
 use reference::json::Json;
 use reference::stored::{booking_in, booking_text, booking_words, bookings_of, stepped};
 use reference::stored::{played, ran, run_in, run_text, run_words, runs_in, runs_of, steps_in, steps_of, to_bytes, to_words, Step};
@@ -25,13 +26,21 @@ fn vectors() -> Vec<Json> {
     all.filter(|v| v.has("calls")).collect()
 }
 
-/// A file of single calls: `steps` has those of `STEPPED`, `calls` and `runs` those of `DEFAULTS`.
+/// A file of single calls: `steps` has those of `STEPPED`, `calls` and `runs` those of `DEFAULTS`, `calls` those of `GAPS` too.
 fn records(name: &str) -> Json {
     Json::read(&read_to_string(at(&format!("host/vectors/{name}"))).unwrap())
 }
 
 const STEPPED: &str = "stepped-gate-4302.json";
 const DEFAULTS: &str = "default-gate-4303.json";
+const GAPS: &str = "gap-gate-4304.json";
+
+/// The tables of the folder `instances` that `calls` has.
+const INSTANCES: [&str; 2] = ["brief31", "stairs-24-cost"];
+
+fn instance(name: &&str) -> Instance {
+    Instance::read(&read_to_string(at(&format!("host/vectors/instances/{name}.txt"))).unwrap())
+}
 
 fn make(what: &str) -> Vec<u8> {
     let words: Vec<u16> = match what {
@@ -39,6 +48,8 @@ fn make(what: &str) -> Vec<u8> {
             let by_hand = read_to_string(at("host/vectors/calls.txt")).unwrap();
             let mut steps: Vec<Step> = by_hand.lines().flat_map(Step::read).collect();
             steps.extend(steps_in(records(DEFAULTS).get("records").list()));
+            steps.extend(steps_in(records(GAPS).get("records").list()));
+            steps.extend(INSTANCES.iter().flat_map(|name| instance(name).steps()));
             steps.extend(vectors().iter().flat_map(steps_of));
             steps.iter().flat_map(Step::words).collect()
         }
