@@ -6,7 +6,7 @@ use mathlib.Core.Option.{some}
 use mathlib.Core.Bool.{true, false}
 use Prim.Native.Nat.{ℕ, _+_, _-_, _≤_}
 use native.Mathlib.Omega.{arith}
-use lib.ListN.{length, take, drop, length-append, length-drop}
+use lib.ListN.{length, take, drop, length-drop}
 use lib.Seq.{drop-drop}
 use denote.Enum.Declared.{tagOf}
 use Rattle.signature.specs.Lists.{is-some}
@@ -39,10 +39,6 @@ use Rattle.answering.proofs.Program.{there, sig-line, unlawful, started
 
 pub as-printed : (text : List ℕ) {bytes : List ℕ} {r : ℕ} {out entry exit : List ℕ} → printed text ≡ bytes → out ≡ entry → Printed bytes r out exit → Printed (printed text) r entry exit
 as-printed text {r = r} {out = out} {exit = exit} e q h = subst (λ o. Printed (printed text) r o exit) q (subst (λ b. Printed b r out exit) (sym e) h)
-
--- the bytes that are printed are a part of the lent space
-pub printed-fits : {bytes : List ℕ} {r : ℕ} {entry exit : List ℕ} → Printed bytes r entry exit → r ≤ length exit
-printed-fits {bytes} {r} {entry} {exit} h = omega (arith, h .counted, ap length (h .written), length-append bytes (drop (length bytes) entry))
 
 rule-of-parts : ℕ → ℕ → List ℕ → Rule
 rule-of-parts n p ws = record { number = n; plan = p; pattern = ws }

@@ -2,6 +2,8 @@
 pub mod promises;
 
 use compiling::compile::compile;
+use counting::RULE_NUMBERS;
+use counting::tally;
 use deciding::decide::decide;
 use defaulting::set_default;
 use emptying::empty::empty;
@@ -21,6 +23,7 @@ ghost use Rattle.tree.specs.RunCall.{RunCall};
 ghost use Rattle.table.specs.Limits.{limits};
 ghost use Rattle.table.specs.Calls.{Empty, Enter, Withdraw, SetDefault, Compile, DecideCall};
 ghost use Rattle.table.specs.Gap.{GapCall};
+ghost use Rattle.log.specs.Log.{TallyCall};
 ghost use Rattle.bellgantlet.specs.Answers.{entered-of, host-answer, PartCall};
 
 // On 12 the rule that shares a booking and the length of the booking.
@@ -58,6 +61,14 @@ pub struct Part {
     pub number: u16,
     pub start: usize,
     pub length: usize,
+}
+
+// How often each rule stands in a log, by rule number, and how many entries there are.
+#[repr(C)]
+pub struct Tallied {
+    pub number: u16,
+    pub total: u16,
+    pub counts: [u16; RULE_NUMBERS],
 }
 
 #[no_mangle]
@@ -205,4 +216,17 @@ pub extern "C" fn bellgantlet_check_end(check: &[u16; STATE]) -> u16
     ensures { λ r. ⌜ r ≡ end-number (now (check .entry)) ⌝ }
 {
     end(check)
+}
+
+#[no_mangle]
+pub extern "C" fn bellgantlet_tally(log: &[u16]) -> Tallied
+    ensures { λ r. ⌜ TallyCall (now (log .entry)) (r .number) (r .total) (r .counts) ⌝ }
+{
+    let t = tally(log);
+    let counts = t.counts;
+    Tallied {
+        number: t.number,
+        total: t.total,
+        counts: counts,
+    }
 }

@@ -7,9 +7,10 @@ use Prim.Native.Nat.{ℕ, suc, _+_, _-_, _≤_}
 use native.Mathlib.Decide.{decLe}
 use native.Mathlib.Omega.{arith}
 use lib.Dec.{eqb}
-use lib.ListN.{length, drop, take}
+use lib.ListN.{length, drop, take, length-drop}
+use borrow.Author.Tests.{eq-eqb}
 use Rattle.signature.specs.Lists.{_>>=_, require, is-some, All, also}
-use Rattle.signature.proofs.Tests.{eqb-eq, bind-some, none≢some, true≢false, ltb-yes}
+use Rattle.signature.proofs.Tests.{eqb-eq, eqb-no, bind-some, none≢some, true≢false, ltb-yes}
 use Rattle.table.specs.Rule.{Rule}
 use Rattle.text.specs.Format.{fields, ended, after-key, key-rule, key-book}
 use Rattle.numbers.specs.Bytes.{bytes-before}
@@ -55,7 +56,7 @@ no-lines bs e f q = ap (λ fs. ended fs >>= f) (fields-last 10 bs (no-line bs e)
     go (x ∷ xs) = refl
 
 -- bytes that are not empty have no empty list of lines
-pub some-line : (b : ℕ) (bs : List ℕ) → lines (b ∷ bs) ≡ some [] → ⊥
+some-line : (b : ℕ) (bs : List ℕ) → lines (b ∷ bs) ≡ some [] → ⊥
 some-line b bs e = go (decLe (length (b ∷ bs)) (bytes-before 10 (b ∷ bs)))
   where
     go : Dec (length (b ∷ bs) ≤ bytes-before 10 (b ∷ bs)) → ⊥
@@ -109,3 +110,20 @@ lines-step bs l e f = ap (λ o. o >>= f) (lines-first bs l e) ∙ go (lines (dro
     go : (o : Option (List (List ℕ))) → ((o >>= λ ls. some (l ∷ ls)) >>= f) ≡ (o >>= λ ls. f (l ∷ ls))
     go none = refl
     go (some ls) = refl
+
+-- a line that stands alone: no line stands behind it
+module _ (bs l : List ℕ) (e : first-line bs ≡ some l) {A : Type 0} (f : List (List ℕ) → Option A) (alone : (m : List ℕ) (ls : List (List ℕ)) → f (l ∷ (m ∷ ls)) ≡ none) where
+  more-lines : (b : ℕ) (ys : List ℕ) → (o : Option (List (List ℕ))) → lines (b ∷ ys) ≡ o → (o >>= λ ls. f (l ∷ ls)) ≡ none
+  more-lines b ys none q = refl
+  more-lines b ys (some []) q = absurd (some-line b ys q)
+  more-lines b ys (some (m ∷ ls)) q = alone m ls
+
+  left : length (drop (length l + 1) bs) ≡ length bs - (length l + 1)
+  left = length-drop (length l + 1) bs
+
+  rest : (xs : List ℕ) → drop (length l + 1) bs ≡ xs → (lines xs >>= λ ls. f (l ∷ ls)) ≡ (require (eqb (length l + 1) (length bs)) >>= λ u. f (l ∷ []))
+  rest [] q = rw (eq-eqb (length l + 1) (length bs) (omega (arith, left, ap length q, line-was bs l e .1)))
+  rest (b ∷ ys) q = more-lines b ys (lines (b ∷ ys)) refl ∙ rw (eqb-no (length l + 1) (length bs) (λ z. omega (arith, left, ap length q)))
+
+  pub last-line : (lines bs >>= f) ≡ (require (eqb (length l + 1) (length bs)) >>= λ u. f (l ∷ []))
+  last-line = lines-step bs l e f ∙ rest (drop (length l + 1) bs) refl

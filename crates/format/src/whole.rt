@@ -1,9 +1,9 @@
 // The format over the whole text, checked before all else: refusal 17.
 use lines::line;
 use lines::line::CountLine;
+use lines::line::LIST_LIMIT;
 use lines::line::RuleLines;
 use numbers::bytes;
-use numbers::list::LIST_LIMIT;
 ghost use mathlib.Core.Path.{_≡_};
 ghost use Prim.Native.Nat.{_≤_};
 ghost use lib.ListN.{length};

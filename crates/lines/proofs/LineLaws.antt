@@ -50,7 +50,7 @@ module _ (key bs l : List ℕ) (e : ℕ) (line : first-line bs ≡ some l) where
   other-list q = rw (line, missing (after-key key l) q)
 
   module _ (starts : is-some (after-key key l) ≡ true) where
-    rest : after-key key l ≡ some (take (length l - length key) (drop (length key) l))
+    pub rest : after-key key l ≡ some (take (length l - length key) (drop (length key) l))
     rest = behind-key key l starts .1 ∙ ap some (sym (to-end l (length key)))
 
     pub the-number : number-line key bs ≡ (number (take (length l - length key) (drop (length key) l)) >>= λ n. some (n, length l + 1))

@@ -4,6 +4,7 @@ use mathlib.Core.List.{List}
 use mathlib.Core.Option.{Option, some, none}
 use mathlib.Core.Bool.{Bool, true, false, cond}
 use Prim.Native.Nat.{ℕ, _+_, _-_, _≤_, _<_}
+use native.Mathlib.Decide.{decLe}
 use native.Mathlib.Omega.{arith}
 use lib.ListN.{length, drop, take}
 use lib.Seq.{length-take-le}
@@ -21,6 +22,7 @@ use Rattle.numbers.specs.declared.list.Count.the-variants as count
 use Rattle.numbers.specs.declared.number.Word.{Word}
 use Rattle.numbers.specs.declared.number.Word.the-variants as word
 use Rattle.numbers.proofs.Digits.{word-none, word-some}
+use Rattle.numbers.proofs.Lists.{count-none, count-some}
 use Rattle.lines.proofs.LineLaws.{line-was, no-newline, newline, other-number, other-list, the-number, the-list, no-number-line, no-list-line}
 use Rattle.numbers.proofs.Spans.{before-most, behind-key}
 
@@ -30,14 +32,6 @@ NoList key t entry exit = (count-line.Broken ≡ count-line-of (list-line key t)
 
 no-list : (key t entry exit : List ℕ) → list-line key t ≡ none → NoList key t entry exit
 no-list key t entry exit e = (sym (ap count-line-of e), λ r f. none≢some (sym e ∙ f))
-
-count-none : (o : Option (List ℕ)) → count-of o ≡ count.Broken → o ≡ none
-count-none none e = refl
-count-none (some ns) e = absurd (let z : _≡_ {A = ℕ} 0 1 = cc in omega arith)
-
-count-some : (o : Option (List ℕ)) (n : ℕ) → count-of o ≡ count.Is n → (ns : List ℕ) × (o ≡ some ns) × (length ns ≡ n)
-count-some none n e = absurd (let z : _≡_ {A = ℕ} 0 1 = cc in omega arith)
-count-some (some ns) n e = (ns, refl, cc)
 
 -- where a line ends
 module _ (key t : List ℕ) (e : ℕ) (before : e ≡ bytes-before 10 t) where
@@ -98,6 +92,13 @@ module _ (key t : List ℕ) (e : ℕ) (end : e ≡ line-end key t) where
   pub the-line : (e ≡ length t → ⊥) → Line key t e
   unfolding line-end
   the-line n = a-line key t (first-line t) refl e end n
+
+  pub end-within : e ≤ length t
+  end-within = go (decLe e (length t))
+    where
+      go : Dec (e ≤ length t) → e ≤ length t
+      go (yes h) = h
+      go (no h) = let l : Line key t e = the-line (λ q. h (omega arith)) in omega (arith, l .short)
 
 module _ {key t : List ℕ} {e : ℕ} (h : Line key t e) where
   pub line-long : length (take e t) ≡ e

@@ -12,6 +12,8 @@ ghost use Rattle.text.specs.Limits.{list-limit};
 ghost use Rattle.lines.specs.Lines.{line-end, number-line, list-line, rule-lines};
 ghost use Rattle.lines.specs.Answers.{word-line-of, count-line-of, rule-of, LineFilled, RuleFilled};
 
+pub const LIST_LIMIT: usize = 4096;
+
 pub enum WordLine {
     Is { word: u16, used: usize },
     Broken,
@@ -34,7 +36,7 @@ pub enum RuleLines {
 }
 
 // Where the first line ends, if it begins with the key; else how many bytes there are.
-fn end_of(t: &[u8], key: &[u8]) -> usize
+pub fn end_of(t: &[u8], key: &[u8]) -> usize
     ensures { λ r. ⌜ r ≡ line-end (now (key .entry)) (now (t .entry)) ⌝ }
 {
     let e = bytes::span(t, NEWLINE);
@@ -76,7 +78,7 @@ pub fn list_line(t: &[u8], key: &[u8], out: &mut [u16]) -> CountLine
     }
     let l = &t[..end];
     let k = key.len();
-    let Count::Is(n) = list::list(&l[k..], out) else {
+    let Count::Is(n) = list::list(&l[k..], LIST_LIMIT, out) else {
         return CountLine::Broken;
     };
     CountLine::Is {

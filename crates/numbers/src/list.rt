@@ -1,4 +1,4 @@
-// Numbers with one space between.
+// Numbers with one space between, at most so many.
 use crate::bytes;
 use crate::bytes::SPACE;
 use crate::number;
@@ -6,11 +6,8 @@ use crate::number::Word;
 ghost use mathlib.Core.Path.{_≡_};
 ghost use Prim.Native.Nat.{_≤_};
 ghost use lib.ListN.{length};
-ghost use Rattle.text.specs.Format.{list as list-of};
-ghost use Rattle.text.specs.Limits.{list-limit};
+ghost use Rattle.text.specs.Format.{list-within};
 ghost use Rattle.numbers.specs.Lists.{count-of, Filled};
-
-pub const LIST_LIMIT: usize = 4096;
 
 // How many numbers.
 pub enum Count {
@@ -19,14 +16,14 @@ pub enum Count {
 }
 
 // The numbers stand first in out, the rest is untouched; of a list that is broken, out has any words.
-pub fn list(s: &[u8], out: &mut [u16]) -> Count
-    requires { ⌜ list-limit ≤ length (now out) ⌝ }
-    ensures { λ r. ⌜ (r ≡ count-of (list-of (now (s .entry)))) × Filled (list-of (now (s .entry))) (now (out .entry)) (now (out .exit)) ⌝ }
+pub fn list(s: &[u8], limit: usize, out: &mut [u16]) -> Count
+    requires { ⌜ limit ≤ length (now out) ⌝ }
+    ensures { λ r. ⌜ (r ≡ count-of (list-within limit (now (s .entry)))) × Filled (list-within limit (now (s .entry))) (now (out .entry)) (now (out .exit)) ⌝ }
 {
     let mut t = s;
     let mut n = 0;
     loop {
-        if n == LIST_LIMIT {
+        if n == limit {
             return Count::Broken;
         }
         let e = bytes::span(t, SPACE);

@@ -6,7 +6,7 @@ use Prim.Native.Nat.{ℕ, suc, _+_, _*_, _≤_}
 use native.Mathlib.Nat.{zero-add}
 use native.Mathlib.Omega.{arith}
 use lib.Dec.{eqb}
-use lib.ListN.{length, length-append}
+use lib.ListN.{length, drop, length-append}
 use Rattle.pattern.specs.Limits.{unbound-place, variable-count}
 use Rattle.text.specs.Format.{key-rule, key-plan}
 use Rattle.text.specs.Print.{spaced, pairs-text, decimal, print-refused, key-bind, key-refused}
@@ -67,6 +67,10 @@ pairs-most places = omega (arith, spaced-most (pairs-text 0 places), pairs-after
 -- what stands first is printed
 pub printed : {s o x : List ℕ} {r : ℕ} → Put s 0 r o x → Printed s r o x
 printed {s} {o} {x} {r} p = record { counted = omega (arith, p .behind); written = p .put ∙ rw (zero-add (length s)) }
+
+-- the bytes that are printed are a part of the lent space
+pub printed-fits : {bytes : List ℕ} {r : ℕ} {entry exit : List ℕ} → Printed bytes r entry exit → r ≤ length exit
+printed-fits {bytes} {r} {entry} {exit} h = omega (arith, h .counted, ap length (h .written), length-append bytes (drop (length bytes) entry))
 
 pub refused-is : (n : ℕ) {o x : List ℕ} {r : ℕ} → Put (number-line key-refused n) 0 r o x → Printed (print-refused n) r o x
 unfolding number-line

@@ -1,4 +1,4 @@
 // What the text program prints, as bytes in a lent space.
 mod pairs;
 pub mod print;
-mod put;
+pub mod put;

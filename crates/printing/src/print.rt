@@ -12,7 +12,7 @@ ghost use Rattle.printing.specs.Put.{Put};
 pub const PRINT_LIMIT: usize = 220;
 
 // A line of a key and a number.
-fn put_line(out: &mut [u8], at: usize, key: &[u8], n: u16) -> usize
+pub fn put_line(out: &mut [u8], at: usize, key: &[u8], n: u16) -> usize
     requires { ⌜ at + length (number-line (now key) n) ≤ length (now out) ⌝ }
     ensures { λ r. ⌜ Put (number-line (now (key .entry)) n) at r (now (out .entry)) (now (out .exit)) ⌝ }
 {

@@ -29,22 +29,27 @@ pub fn words(w: &[u16]) {
     }
 }
 
-fn binding(x: usize, place: u16) {
-    if place == UNBOUND {
+fn pair(i: usize, w: u16, none: u16) {
+    if w == none {
         return;
     }
-    spaced(x);
+    spaced(i);
     text(b":");
-    number(place as usize);
+    number(w as usize);
+}
+
+// Each word that is not none, behind its index.
+pub fn pairs(words: &[u16], none: u16) {
+    let mut i = 0;
+    while i < words.len() {
+        pair(i, words[i], none);
+        i += 1;
+    }
 }
 
 // The variables that are bound, each with its place.
 pub fn bindings(places: &[u16; VARIABLES]) {
-    let mut x = 0;
-    while x < VARIABLES {
-        binding(x, places[x]);
-        x += 1;
-    }
+    pairs(places, UNBOUND);
 }
 
 // What a run or a decision gave, as a line.

@@ -34,3 +34,5 @@ pub const PLACE_OUTSIDE: u16 = 16;
 pub const FORMAT_BROKEN: u16 = 17;
 
 pub const RANGE_WRONG: u16 = 18;
+
+pub const LOG_BEYOND: u16 = 19;

@@ -17,7 +17,7 @@ use Rattle.text.specs.Print.{digits, decimal, spaced}
 use Rattle.text.proofs.TextFacts.{number-decimal, decimal-number}
 
 -- bytes among which c does not stand
-abbrev Free : ℕ → List ℕ → Type 0
+abbrev pub Free : ℕ → List ℕ → Type 0
 Free c bs = All (λ b. eqb b c ≡ false) bs
 
 free-append : (c : ℕ) {xs ys : List ℕ} → Free c xs → Free c ys → Free c (xs ++ ys)
@@ -53,7 +53,7 @@ some-field c (b ∷ bs) = go (eqb b c) refl (some-field c bs)
     go false q (f, fs, e) = (b ∷ f, fs, rw (q, e))
 
 -- spaces
-fields-spaced : (f : List ℕ) (fs : List (List ℕ)) → All (Free 32) (f ∷ fs) → fields 32 (spaced (f ∷ fs)) ≡ f ∷ fs
+pub fields-spaced : (f : List ℕ) (fs : List (List ℕ)) → All (Free 32) (f ∷ fs) → fields 32 (spaced (f ∷ fs)) ≡ f ∷ fs
 fields-spaced f [] (also x h hs) = fields-plain 32 h
 fields-spaced f (g ∷ gs) (also x h hs) = fields-sep 32 (spaced (g ∷ gs)) h ∙ ap (λ z. f ∷ z) (fields-spaced g gs hs)
 
@@ -61,7 +61,7 @@ spaced-push : (b : ℕ) (f : List ℕ) (fs : List (List ℕ)) → spaced (push b
 spaced-push b f [] = refl
 spaced-push b f (g ∷ gs) = refl
 
-spaced-fields : (bs : List ℕ) → spaced (fields 32 bs) ≡ bs
+pub spaced-fields : (bs : List ℕ) → spaced (fields 32 bs) ≡ bs
 spaced-fields [] = refl
 spaced-fields (b ∷ bs) = go (eqb b 32) refl (some-field 32 bs) (spaced-fields bs)
   where
@@ -70,7 +70,7 @@ spaced-fields (b ∷ bs) = go (eqb b 32) refl (some-field 32 bs) (spaced-fields 
     go false q (f, fs, e) h = rw (q, e) (spaced-push b f fs ∙ ap (λ x. b ∷ x) (ap spaced (sym e) ∙ h))
 
 -- newlines
-ended-unlines : (ls : List (List ℕ)) → All (Free 10) ls → ended (fields 10 (unlines ls)) ≡ some ls
+pub ended-unlines : (ls : List (List ℕ)) → All (Free 10) ls → ended (fields 10 (unlines ls)) ≡ some ls
 ended-unlines [] none-left = refl
 ended-unlines (l ∷ ls) (also x h hs) = ap ended (fields-sep 10 (unlines ls) h) ∙ go (some-field 10 (unlines ls)) (ended-unlines ls hs)
   where
@@ -80,7 +80,7 @@ ended-unlines (l ∷ ls) (also x h hs) = ap ended (fields-sep 10 (unlines ls) h)
 ended-some : (f g : List ℕ) (gs ls : List (List ℕ)) → ended (f ∷ (g ∷ gs)) ≡ some ls → (ms : List (List ℕ)) × (ended (g ∷ gs) ≡ some ms) × (f ∷ ms ≡ ls)
 ended-some f g gs ls e = let (ms, e₁, e₂) = bind-some (ended (g ∷ gs)) _ ls e in (ms, e₁, some-inj (f ∷ ms) ls e₂)
 
-unlines-ended : (bs : List ℕ) (ls : List (List ℕ)) → ended (fields 10 bs) ≡ some ls → bs ≡ unlines ls
+pub unlines-ended : (bs : List ℕ) (ls : List (List ℕ)) → ended (fields 10 bs) ≡ some ls → bs ≡ unlines ls
 unlines-ended [] ls e = ap unlines (some-inj [] ls e)
 unlines-ended (b ∷ bs) ls e = go (eqb b 10) refl (some-field 10 bs) (unlines-ended bs)
   where
@@ -101,7 +101,7 @@ unlines-ended (b ∷ bs) ls e = go (eqb b 10) refl (some-field 10 bs) (unlines-e
         pushed f fs z (λ ms k. h ms (ap ended w ∙ k))
 
 -- lists of numbers
-free-map : (c : ℕ) (ns : List ℕ) → c < 48 → All (Free c) (map decimal ns)
+pub free-map : (c : ℕ) (ns : List ℕ) → c < 48 → All (Free c) (map decimal ns)
 free-map c [] l = none-left
 free-map c (n ∷ ns) l = also (decimal n) (free-decimal c n l) (free-map c ns l)
 
@@ -110,11 +110,11 @@ free-spaced c [] e none-left = none-left
 free-spaced c (f ∷ []) e (also x h hs) = h
 free-spaced c (f ∷ (g ∷ gs)) e (also x h hs) = free-append c h (also 32 e (free-spaced c (g ∷ gs) e hs))
 
-numbers-decimal : {ns : List ℕ} → All (λ n. n ≤ last-word) ns → numbers (map decimal ns) ≡ some ns
+pub numbers-decimal : {ns : List ℕ} → All (λ n. n ≤ last-word) ns → numbers (map decimal ns) ≡ some ns
 numbers-decimal none-left = refl
 numbers-decimal (also n l h) = rw (number-decimal n l, numbers-decimal h)
 
-decimal-numbers : (fs : List (List ℕ)) (ns : List ℕ) → numbers fs ≡ some ns → (fs ≡ map decimal ns) × All (λ n. n ≤ last-word) ns
+pub decimal-numbers : (fs : List (List ℕ)) (ns : List ℕ) → numbers fs ≡ some ns → (fs ≡ map decimal ns) × All (λ n. n ≤ last-word) ns
 decimal-numbers [] ns e = subst (λ z. ([] ≡ map decimal z) × All (λ n. n ≤ last-word) z) (some-inj [] ns e) (refl, none-left)
 decimal-numbers (f ∷ fs) ns e =
     let (n, e₁, f₁) = bind-some (number f) _ ns e in
@@ -143,11 +143,11 @@ list-was bs ns e =
     counted (m ∷ ms) f fs w = omega arith
 
 -- keys
-key-read : (ks bs : List ℕ) → after-key ks (ks ++ bs) ≡ some bs
+pub key-read : (ks bs : List ℕ) → after-key ks (ks ++ bs) ≡ some bs
 key-read [] bs = refl
 key-read (k ∷ ks) bs = rw (eqb-self k) (key-read ks bs)
 
-key-was : (ks bs rest : List ℕ) → after-key ks bs ≡ some rest → bs ≡ ks ++ rest
+pub key-was : (ks bs rest : List ℕ) → after-key ks bs ≡ some rest → bs ≡ ks ++ rest
 key-was [] bs rest e = some-inj bs rest e
 key-was (k ∷ ks) [] rest e = none≢some e
 key-was (k ∷ ks) (b ∷ bs) rest e =
@@ -203,7 +203,7 @@ rest-was (l ∷ (m ∷ (k ∷ ls))) r e =
     subst (Rest (l ∷ (m ∷ (k ∷ ls)))) (some-inj (record { number = n; plan = p; pattern = ws } ∷ s .0, s .1) r f₄) (ap₂ (λ x xs. x ∷ xs) a (ap₂ (λ x xs. x ∷ xs) b (ap₂ (λ x xs. x ∷ xs) c d)), also (record { number = n; plan = p; pattern = ws }) (record { number-ok = ha; plan-ok = hb; pattern-ok = hc }) hr, hl)
 
 -- no newline within a line
-free-key-list : (ks ns : List ℕ) → Free 10 ks → Free 10 (ks ++ list-bytes ns)
+pub free-key-list : (ks ns : List ℕ) → Free 10 ks → Free 10 (ks ++ list-bytes ns)
 free-key-list ks ns h = free-append 10 h (free-spaced 10 (map decimal ns) refl (free-map 10 ns (omega arith)))
 
 free-rules : (rs : List Rule) {ls : List (List ℕ)} → All (Free 10) ls → All (Free 10) (rules-lines rs ls)

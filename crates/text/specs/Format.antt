@@ -74,12 +74,16 @@ numbers (f ∷ fs) = do
   ns ← numbers fs
   some (n ∷ ns)
 
--- "one space between, 1 to 4,096 a list"
-abbrev pub list : List ℕ → Option (List ℕ)
-list bs = do
+-- numbers, "one space between", at most so many
+abbrev pub list-within : ℕ → List ℕ → Option (List ℕ)
+list-within limit bs = do
   ns ← numbers (fields 32 bs)
-  _ ← require (leb (length ns) list-limit)
+  _ ← require (leb (length ns) limit)
   some ns
+
+-- "1 to 4,096 a list"
+abbrev pub list : List ℕ → Option (List ℕ)
+list bs = list-within list-limit bs
 
 -- "The key at the line's start must be exactly the next one due": what stands behind it
 abbrev pub after-key : List ℕ → List ℕ → Option (List ℕ)

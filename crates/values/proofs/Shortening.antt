@@ -36,7 +36,7 @@ use Rattle.sets.specs.Set.{set-of}
 use Rattle.rowlist.proofs.Kinded.{known-head, within-kind}
 use Rattle.overlap.specs.Least.{GivenPlace}
 use Rattle.witness.proofs.Behind.{_behind_, count, count-behind, goods-behind, count-goods, words-behind}
-use Rattle.witness.proofs.Filling.{within-all, kind-here, seen, room-from}
+use Rattle.witness.proofs.Filling.{within-all, kind-here, seen, room-from, Now, Front}
 use Rattle.views.specs.View.{height, heights}
 use Rattle.values.specs.Shortest.{GivenRow, Taken, ShortestOf, LeastWritten}
 use Rattle.values.specs.declared.shortest.Outcome.{Outcome}
@@ -77,16 +77,6 @@ pub record Mid {t row o₀ : List ℕ} (g : GivenRow t row o₀) (i n left : ℕ
   pub finish : (us : Values) → Valued (Low (g .known .sig)) ks todo us → (v : Value) × Low (g .known .sig) (g .kind) (g .r) v × (code v ≡ done ++ codes us)
   pub least : (v : Value) → OfKind (g .known .sig) (g .kind) v → row-fits (g .r) v ≡ true → (us : Values) × Valued (Fitting (g .known .sig)) ks todo us × (n + sizes us ≤ size v)
 
-abbrev pub Now : {t row o₀ : List ℕ} → GivenRow t row o₀ → ℕ → ℕ → ℕ → List ℕ → Type 0
-Now g i n left o = (ks : List ℕ) × (todo : Rows) × Mid g i n left o ks todo
-
--- the cell in front
-pub record Front {t row o₀ : List ℕ} (g : GivenRow t row o₀) (i n : ℕ) (o : List ℕ) : Type 0 where
-  pub see : i + 3 ≤ length row
-  pub whole : length o ≡ length o₀
-  pub room : n + place-words ≤ length o
-  pub place : (c : Cell) → c ≡ cell-at row i → kind-tag ≤ c .tag → GivenPlace t (c .tag - kind-tag) (number-of (c .allowed)) (from o n)
-
 -- as many words as rows, at least
 count-words : {sig : Signature} (K : Kinds) {ks : List ℕ} {todo : Rows} → Goods sig ks todo → count todo ≤ length (all-words (all-cells K todo ks))
 count-words K goods-nil = omega arith
@@ -119,7 +109,7 @@ module _ {t : List ℕ} (g : Known t) (k d : ℕ) (cs : List ℕ) (h : All (λ c
       shortest (con c vs) F = omega (arith, W .least c (F .fits), head-least g k c vs (F .kinded))
 
 module _ {t row o₀ : List ℕ} (g : GivenRow t row o₀) where
-  pub start : Now g 0 0 1 o₀
+  pub start : Now (Mid g 0 0 1 o₀)
   start = (
     g .kind ∷ [],
     rcons (g .r) rnil,
@@ -147,7 +137,7 @@ module _ {t row o₀ : List ℕ} (g : GivenRow t row o₀) where
 
     -- a constructor that is named
     named-turn : (k c : ℕ) (xs ks js : List ℕ) (rs todo : Rows) (w m : ℕ) (ys : List ℕ) → n ≤ booking-limit → n ≤ length o → arguments-at (g .known .sig) k c ≡ some js → Goods (g .known .sig) js rs → Goods (g .known .sig) ks todo
-        → Mid g i n left o (k ∷ ks) (rcons (named xs c rs) todo) → w ≡ length js → m ≡ 1 → ys ≡ c ∷ drop 1 (from o n) → length ys ≡ length (from o n) → Now g (i + 3) (n + m) (left - 1 + w) (back o n ys)
+        → Mid g i n left o (k ∷ ks) (rcons (named xs c rs) todo) → w ≡ length js → m ≡ 1 → ys ≡ c ∷ drop 1 (from o n) → length ys ≡ length (from o n) → Now (Mid g (i + 3) (n + m) (left - 1 + w) (back o n ys))
     named-turn k c xs ks js rs todo w m ys nl nw e gs G M ew em ey el =
         let K = kinds-of (g .known .sig) in
         let T = three-at row i _ _ _ _ (M .code-is) in (
@@ -181,7 +171,7 @@ module _ {t row o₀ : List ℕ} (g : GivenRow t row o₀) where
     -- a place that is not
     free-turn : (k : ℕ) (xs cs ks : List ℕ) (todo : Rows) (w m : ℕ) (v : Value) (ys : List ℕ) → n ≤ booking-limit → n ≤ length o → Goods (g .known .sig) ks todo
         → Mid g i n left o (k ∷ ks) (rcons (free xs cs) todo) → Low (g .known .sig) k (free xs cs) v → ((u : Value) → Fitting (g .known .sig) k (free xs cs) u → m ≤ size u)
-        → w ≡ 0 → m ≡ size v → m ≤ place-words → ys ≡ code v ++ drop m (from o n) → length ys ≡ length (from o n) → Now g (i + 3) (n + m) (left - 1 + w) (back o n ys)
+        → w ≡ 0 → m ≡ size v → m ≤ place-words → ys ≡ code v ++ drop m (from o n) → length ys ≡ length (from o n) → Now (Mid g (i + 3) (n + m) (left - 1 + w) (back o n ys))
     free-turn k xs cs ks todo w m v ys nl nw G M h s ew em ml ey el =
         let T = three-at row i _ _ _ _ (M .code-is) in (
           ks,
@@ -211,7 +201,7 @@ module _ {t row o₀ : List ℕ} (g : GivenRow t row o₀) where
     room-here : {ks : List ℕ} {todo : Rows} → Mid g i n left o ks todo → n ≤ booking-limit → n + place-words ≤ length o
     room-here M l = omega (arith, M .whole, g .room, l)
 
-    front-at : {ks : List ℕ} {todo : Rows} → Goods (g .known .sig) ks todo → Mid g i n left o ks todo → 0 < left → n ≤ booking-limit → Front g i n o
+    front-at : {ks : List ℕ} {todo : Rows} → Goods (g .known .sig) ks todo → Mid g i n left o ks todo → 0 < left → n ≤ booking-limit → Front t row o₀ i n o
     front-at goods-nil M h nl = absurd (omega (arith, M .left-is))
     front-at (goods-cons (good-named {c = c} l e gs) G) M h nl =
         let T = three-at row i _ _ _ _ (M .code-is) in
@@ -223,7 +213,7 @@ module _ {t row o₀ : List ℕ} (g : GivenRow t row o₀) where
 
     turn-at : {ks : List ℕ} {todo : Rows} (x : Cell) (w m : ℕ) (ys : List ℕ) → Goods (g .known .sig) ks todo → Mid g i n left o ks todo → 0 < left → n ≤ booking-limit → x ≡ cell-at row i → w ≡ opens-of t (x .tag)
         → (x .tag < kind-tag → (m ≡ 1) × (ys ≡ x .tag ∷ drop 1 (from o n)))
-        → (kind-tag ≤ x .tag → (q : GivenPlace t (x .tag - kind-tag) (number-of (x .allowed)) (from o n)) → LeastWritten q m ys) → length ys ≡ length (from o n) → Now g (i + 3) (n + m) (left - 1 + w) (back o n ys)
+        → (kind-tag ≤ x .tag → (q : GivenPlace t (x .tag - kind-tag) (number-of (x .allowed)) (from o n)) → LeastWritten q m ys) → length ys ≡ length (from o n) → Now (Mid g (i + 3) (n + m) (left - 1 + w) (back o n ys))
     turn-at x w m ys goods-nil M h nl ex ew N U el = absurd (omega (arith, M .left-is))
     turn-at x w m ys (goods-cons {k = k} {ks = ks} {rs = todo} (good-named {c = c} {xs = xs} {js = js} {rs = rs} l e gs) G) M h nl ex ew N U el =
         let z : x .tag ≡ c = seen row i x c _ _ _ (omega (arith, l)) (M .code-is) ex .0 in
@@ -238,24 +228,24 @@ module _ {t row o₀ : List ℕ} (g : GivenRow t row o₀) where
         let (v, hv, em, ml, ey, sh) = free-taken (g .known) k d cs a _ _ m xs (from o n) ys kk (s .1) (room-from o n room) (U z (free-given (g .known) k d cs a _ _ (from o n) kk (s .1) (room-from o n room))) in
         free-turn k xs (d ∷ cs) ks todo w m v ys nl (omega (arith, room)) G M hv sh (ew ∙ ap (opens-of t) (s .0) ∙ rw (le-ltb (kind-tag + k) kind-tag (omega arith))) em ml ey el
 
-    pub front : Now g i n left o → 0 < left → n ≤ booking-limit → Front g i n o
+    pub front : Now (Mid g i n left o) → 0 < left → n ≤ booking-limit → Front t row o₀ i n o
     front m h nl = front-at (m .2 .good) (m .2) h nl
 
     -- all that the loop needs to go on
-    pub few : Now g i n left o → (length o ≡ length o₀) × (n ≤ booking-limit + place-words) × (left ≤ length row)
+    pub few : Now (Mid g i n left o) → (length o ≡ length o₀) × (n ≤ booking-limit + place-words) × (left ≤ length row)
     few (ks, todo, M) = (M .whole, M .small, omega (arith, M .left-is, count-words (kinds-of (g .known .sig)) (M .good), simp length-append at (ap length (M .code-is)), length-drop i row))
 
-    pub turn : (x : Cell) (w m : ℕ) (ys : List ℕ) → Now g i n left o → 0 < left → n ≤ booking-limit → x ≡ cell-at row i → w ≡ opens-of t (x .tag)
+    pub turn : (x : Cell) (w m : ℕ) (ys : List ℕ) → Now (Mid g i n left o) → 0 < left → n ≤ booking-limit → x ≡ cell-at row i → w ≡ opens-of t (x .tag)
         → (x .tag < kind-tag → (m ≡ 1) × (ys ≡ x .tag ∷ drop 1 (from o n)))
-        → (kind-tag ≤ x .tag → (q : GivenPlace t (x .tag - kind-tag) (number-of (x .allowed)) (from o n)) → LeastWritten q m ys) → length ys ≡ length (from o n) → Now g (i + 3) (n + m) (left - 1 + w) (back o n ys)
+        → (kind-tag ≤ x .tag → (q : GivenPlace t (x .tag - kind-tag) (number-of (x .allowed)) (from o n)) → LeastWritten q m ys) → length ys ≡ length (from o n) → Now (Mid g (i + 3) (n + m) (left - 1 + w) (back o n ys))
     turn x w m ys N h nl ex ew A B el = turn-at x w m ys (N .2 .good) (N .2) h nl ex ew A B el
 
     -- each value that the row takes has at least n words
-    at-least : Now g i n left o → (v : Value) → OfKind (g .known .sig) (g .kind) v → row-fits (g .r) v ≡ true → n ≤ size v
+    at-least : Now (Mid g i n left o) → (v : Value) → OfKind (g .known .sig) (g .kind) v → row-fits (g .r) v ≡ true → n ≤ size v
     at-least (ks, todo, M) v h f = let (us, F, s) = M .least v h f in omega (arith, s)
 
     -- it is too long, or it is whole
-    pub long : Now g i n left o → booking-limit < n → ShortestOf g TooLong o
+    pub long : Now (Mid g i n left o) → booking-limit < n → ShortestOf g TooLong o
     long m l = record { found = λ k e. absurd (omega (arith, ap which e)); shortest = λ k e. absurd (omega (arith, ap which e)); too-long = λ e v h f. omega (arith, l, at-least m v h f) }
 
     end-at : {ks : List ℕ} {todo : Rows} → Goods (g .known .sig) ks todo → Mid g i n left o ks todo → left ≡ 0 → n ≤ booking-limit → ShortestOf g (Found n) o
@@ -269,5 +259,5 @@ module _ {t row o₀ : List ℕ} (g : GivenRow t row o₀) where
             let s : n ≡ size v = M .written .0 ∙ ap length (sym d) ∙ length-code v in
             (v, record { kinded = h .fitting .kinded; fits = h .fitting .fits; few = omega (arith, s, l); deep = h .deep }, sym q ∙ s, ap (λ (x : ℕ). take x o) (sym q) ∙ M .written .1 ∙ sym d)
 
-    pub end : Now g i n left o → left ≡ 0 → n ≤ booking-limit → ShortestOf g (Found n) o
+    pub end : Now (Mid g i n left o) → left ≡ 0 → n ≤ booking-limit → ShortestOf g (Found n) o
     end m e l = end-at (m .2 .good) (m .2) e l

@@ -88,11 +88,12 @@ pub record Mid {t row o₀ : List ℕ} (g : GivenRow t row o₀) (i n left : ℕ
   pub room : n + place-words * places-count todo ≤ length o₀
   pub finish : (us : Values) → Takens (g .known .sig) ks todo us → (v : Value) × Taken (g .known .sig) (g .kind) (g .r) v × (code v ≡ done ++ codes us)
 
-abbrev pub Now : {t row o₀ : List ℕ} → GivenRow t row o₀ → ℕ → ℕ → ℕ → List ℕ → Type 0
-Now g i n left o = (ks : List ℕ) × (todo : Rows) × Mid g i n left o ks todo
+-- the same of some rows and kinds
+abbrev pub Now : (List ℕ → Rows → Type 0) → Type 0
+Now At = (ks : List ℕ) × (todo : Rows) × At ks todo
 
 -- the cell in front
-pub record Front {t row o₀ : List ℕ} (g : GivenRow t row o₀) (i n : ℕ) (o : List ℕ) : Type 0 where
+pub record Front (t row o₀ : List ℕ) (i n : ℕ) (o : List ℕ) : Type 0 where
   pub see : i + 3 ≤ length row
   pub whole : length o ≡ length o₀
   pub room : n + place-words ≤ length o
@@ -108,7 +109,7 @@ pub room-from : (o : List ℕ) (n : ℕ) → n + place-words ≤ length o → pl
 room-from o n h = rw (from-is o n) (omega (arith, length-drop n o))
 
 module _ {t row o₀ : List ℕ} (g : GivenRow t row o₀) where
-  pub start : Now g 0 0 1 o₀
+  pub start : Now (Mid g 0 0 1 o₀)
   start = (
     g .kind ∷ [],
     rcons (g .r) rnil,
@@ -139,12 +140,12 @@ module _ {t row o₀ : List ℕ} (g : GivenRow t row o₀) where
         record { value = v; taken = h; count = sym (m .size) ∙ ap length (sym d) ∙ length-code v; list = m .list ∙ ap (λ (l : List ℕ). l ++ drop n o₀) (sym d) }
     end-at (goods-cons a b) m e = absurd (omega (arith, m .left-is))
 
-    pub end : Now g i n left o → left ≡ 0 → Filled g n o
+    pub end : Now (Mid g i n left o) → left ≡ 0 → Filled g n o
     end m e = end-at (m .2 .good) (m .2) e
 
     -- a constructor that is named
     named-turn : (k c : ℕ) (xs ks js : List ℕ) (rs todo : Rows) (w m : ℕ) (ys : List ℕ) → arguments-at (g .known .sig) k c ≡ some js → Goods (g .known .sig) js rs → Goods (g .known .sig) ks todo
-        → Mid g i n left o (k ∷ ks) (rcons (named xs c rs) todo) → w ≡ length js → m ≡ 1 → ys ≡ c ∷ drop 1 (from o n) → Now g (i + 3) (n + m) (left - 1 + w) (back o n ys)
+        → Mid g i n left o (k ∷ ks) (rcons (named xs c rs) todo) → w ≡ length js → m ≡ 1 → ys ≡ c ∷ drop 1 (from o n) → Now (Mid g (i + 3) (n + m) (left - 1 + w) (back o n ys))
     named-turn k c xs ks js rs todo w m ys e gs G M ew em ey =
         let K = kinds-of (g .known .sig) in
         let T = three-at row i _ _ _ _ (M .code-is) in
@@ -170,7 +171,7 @@ module _ {t row o₀ : List ℕ} (g : GivenRow t row o₀) where
 
     -- a place that is not
     free-turn : (k : ℕ) (xs cs ks : List ℕ) (todo : Rows) (w m : ℕ) (v : Value) (ys : List ℕ) → Goods (g .known .sig) ks todo
-        → Mid g i n left o (k ∷ ks) (rcons (free xs cs) todo) → Taken (g .known .sig) k (free xs cs) v → w ≡ 0 → m ≡ size v → ys ≡ code v ++ drop m (from o n) → Now g (i + 3) (n + m) (left - 1 + w) (back o n ys)
+        → Mid g i n left o (k ∷ ks) (rcons (free xs cs) todo) → Taken (g .known .sig) k (free xs cs) v → w ≡ 0 → m ≡ size v → ys ≡ code v ++ drop m (from o n) → Now (Mid g (i + 3) (n + m) (left - 1 + w) (back o n ys))
     free-turn k xs cs ks todo w m v ys G M h ew em ey =
         let T = three-at row i _ _ _ _ (M .code-is) in (
           ks,
@@ -193,7 +194,7 @@ module _ {t row o₀ : List ℕ} (g : GivenRow t row o₀) where
     tag-small : {k : ℕ} → k < g .known .decoded .n → kind-tag + k < tag-limit
     tag-small l = omega (arith, l, kinds-same (g .known), words-of (g .known) .few-kinds)
 
-    front-at : {ks : List ℕ} {todo : Rows} → Goods (g .known .sig) ks todo → Mid g i n left o ks todo → 0 < left → Front g i n o
+    front-at : {ks : List ℕ} {todo : Rows} → Goods (g .known .sig) ks todo → Mid g i n left o ks todo → 0 < left → Front t row o₀ i n o
     front-at goods-nil M h = absurd (omega (arith, M .left-is))
     front-at (goods-cons {k = k} (good-named {c = c} {js = js} l e gs) G) M h =
         let T = three-at row i _ _ _ _ (M .code-is) in
@@ -207,7 +208,7 @@ module _ {t row o₀ : List ℕ} (g : GivenRow t row o₀) where
 
     turn-at : {ks : List ℕ} {todo : Rows} (x : Cell) (w m : ℕ) (ys : List ℕ) → Goods (g .known .sig) ks todo → Mid g i n left o ks todo → 0 < left → x ≡ cell-at row i → w ≡ opens-of t (x .tag)
         → (x .tag < kind-tag → (m ≡ 1) × (ys ≡ x .tag ∷ drop 1 (from o n)))
-        → (kind-tag ≤ x .tag → (q : GivenPlace t (x .tag - kind-tag) (number-of (x .allowed)) (from o n)) → ValueWritten q m ys) → Now g (i + 3) (n + m) (left - 1 + w) (back o n ys)
+        → (kind-tag ≤ x .tag → (q : GivenPlace t (x .tag - kind-tag) (number-of (x .allowed)) (from o n)) → ValueWritten q m ys) → Now (Mid g (i + 3) (n + m) (left - 1 + w) (back o n ys))
     turn-at x w m ys goods-nil M h ex ew N U = absurd (omega (arith, M .left-is))
     turn-at x w m ys (goods-cons {k = k} {ks = ks} {rs = todo} (good-named {c = c} {xs = xs} {js = js} {rs = rs} l e gs) G) M h ex ew N U =
         let z : x .tag ≡ c = seen row i x c _ _ _ (omega (arith, l)) (M .code-is) ex .0 in
@@ -222,14 +223,14 @@ module _ {t row o₀ : List ℕ} (g : GivenRow t row o₀) where
         let (v, hv, em, ey) = free-taken (g .known) k d cs a _ _ m xs (from o n) ys kk (s .1) (room-from o n room) (U z (free-given (g .known) k d cs a _ _ (from o n) kk (s .1) (room-from o n room))) in
         free-turn k xs (d ∷ cs) ks todo w m v ys G M hv (ew ∙ ap (opens-of t) (s .0) ∙ rw (le-ltb (kind-tag + k) kind-tag (omega arith))) em ey
 
-    pub front : Now g i n left o → 0 < left → Front g i n o
+    pub front : Now (Mid g i n left o) → 0 < left → Front t row o₀ i n o
     front m h = front-at (m .2 .good) (m .2) h
 
     -- all that the loop needs to go on
-    pub few : Now g i n left o → (length o ≡ length o₀) × (n + left ≤ length o₀)
+    pub few : Now (Mid g i n left o) → (length o ≡ length o₀) × (n + left ≤ length o₀)
     few m = (whole-at (m .0) (m .1) (m .2), omega (arith, m .2 .room, m .2 .left-is, count-places (m .1)))
 
-    pub turn : (x : Cell) (w m : ℕ) (ys : List ℕ) → Now g i n left o → 0 < left → x ≡ cell-at row i → w ≡ opens-of t (x .tag)
+    pub turn : (x : Cell) (w m : ℕ) (ys : List ℕ) → Now (Mid g i n left o) → 0 < left → x ≡ cell-at row i → w ≡ opens-of t (x .tag)
         → (x .tag < kind-tag → (m ≡ 1) × (ys ≡ x .tag ∷ drop 1 (from o n)))
-        → (kind-tag ≤ x .tag → (q : GivenPlace t (x .tag - kind-tag) (number-of (x .allowed)) (from o n)) → ValueWritten q m ys) → Now g (i + 3) (n + m) (left - 1 + w) (back o n ys)
+        → (kind-tag ≤ x .tag → (q : GivenPlace t (x .tag - kind-tag) (number-of (x .allowed)) (from o n)) → ValueWritten q m ys) → Now (Mid g (i + 3) (n + m) (left - 1 + w) (back o n ys))
     turn x w m ys M h ex ew N U = turn-at x w m ys (M .2 .good) (M .2) h ex ew N U

@@ -2,7 +2,7 @@
 use mathlib.Core.Path.{sym}
 use lib.Seq.{length-take-le}
 use borrow.Author.Needs.{needs}
-use Rattle.answering.proofs.Steps.{printed-fits}
+use Rattle.printing.proofs.PrintLaws.{printed-fits}
 use Rattle.charge.proofs.main.Statement.{statement}
 use Rattle.charge.proofs.main.Tie as tie
 

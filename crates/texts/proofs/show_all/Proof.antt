@@ -10,10 +10,10 @@ use Rattle.texts.proofs.show_all.Statement.{statement}
 use Rattle.texts.proofs.show_all.Tie as tie
 
 abbrev Inv-loop : tie.InvT-loop
-Inv-loop names rest₀ rest = length rest ≤ length names
+Inv-loop names log rest₀ rest = length rest ≤ length names
 
 abbrev μ-loop : tie.MeasureT-loop
-μ-loop names rest₀ rest = length rest
+μ-loop names log rest₀ rest = length rest
 
 pub show-all-spec : {M : Type 1} → statement M
 show-all-spec =

@@ -6,8 +6,7 @@ use native.Mathlib.Omega.{arith}
 use lib.ListN.{length, length-set, take}
 use lib.Seq.{length-take-le}
 use borrow.Author.Needs.{needs}
-use Rattle.text.specs.Format.{number}
-use Rattle.text.specs.Limits.{list-limit}
+use Rattle.text.specs.Format.{number, list-within}
 use Rattle.numbers.proofs.Digits.{word-none, word-some}
 use Rattle.numbers.proofs.Lists.{Reading, reading-start, no-list, too-many, no-number, number-read, list-read}
 use Rattle.numbers.proofs.Spans.{before-most}
@@ -15,10 +14,10 @@ use Rattle.numbers.proofs.list.list.Statement.{statement}
 use Rattle.numbers.proofs.list.list.Tie as tie
 
 abbrev Inv-loop : tie.InvT-loop
-Inv-loop s out₀ t₀ n₀ out t n = (n ≤ list-limit) × (list-limit ≤ length out) × (length out ≡ length out₀) × Reading s t out₀ out n × (length t ≤ length s)
+Inv-loop s limit out₀ t₀ n₀ out t n = (n ≤ limit) × (limit ≤ length out) × (length out ≡ length out₀) × Reading limit s t out₀ out n × (length t ≤ length s)
 
 abbrev μ-loop : tie.MeasureT-loop
-μ-loop s out₀ t₀ n₀ out t n = length t
+μ-loop s limit out₀ t₀ n₀ out t n = length t
 
 -- the number that was read
 read : (c : tie.After-known-told Inv-loop μ-loop) → number (take (c .before .before .before .before .before .span .result) (c .before .before .before .before .before .before .before .loop .t .now)) ≡ some (c .before .v .given .0 .0)
@@ -33,16 +32,16 @@ list-spec =
     (tie.spec
     Inv-loop
     μ-loop
-    (λ c. (omega arith, c .before .before .pre, refl, reading-start (c .before .before .args .s .now) (c .before .before .args .out .now), omega arith))
+    (λ c. (omega arith, c .before .before .pre, refl, reading-start (c .before .before .args .limit) (c .before .before .args .s .now) (c .before .before .args .out .now), omega arith))
     (λ c. c .before .loop .inv .2)
-    (λ c. let l = c .before .loop in no-list (c .before .before .before .before .args .s .now) _ _ (too-many (l .inv .3) (l .inv .1) (c .if1 .taken)))
+    (λ c. let l = c .before .loop in no-list (list-within (c .before .before .before .before .args .limit) (c .before .before .before .before .args .s .now)) _ _ (too-many (l .inv .3) (l .inv .1) (omega (arith, c .if1 .taken, l .inv .0))))
     (λ c κs. search needs)
     (λ c. sym (length-take-le (c .before .span .result) (c .before .before .before .loop .t .now) (fits c)))
     (λ c κs. search needs)
     (λ c. search needs)
     (λ c. search needs)
     (λ c. c .before .before .before .before .before .before .loop .inv .2)
-    (λ c. let l = c .before .before .before .before .before .before .loop in no-list (c .before .before .before .before .before .before .before .before .before .args .s .now) _ _ (no-number (l .inv .3) (l .inv .1) (l .inv .0) (c .before .before .before .before .span .result) (c .before .before .before .before .span .ensures) (word-none _ (sym (c .before .before .number .ensures) ∙ c .enum-told .given .1))))
+    (λ c. let l = c .before .before .before .before .before .before .loop in no-list (list-within (c .before .before .before .before .before .before .before .before .before .args .limit) (c .before .before .before .before .before .before .before .before .before .args .s .now)) _ _ (no-number (l .inv .3) (l .inv .1) (l .inv .0) (c .before .before .before .before .span .result) (c .before .before .before .before .span .ensures) (word-none _ (sym (c .before .before .number .ensures) ∙ c .enum-told .given .1))))
     (λ c. omega (arith, c .before .before .before .before .before .before .before .loop .inv))
     (λ c. omega (arith, c .before .before .before .before .before .before .before .loop .inv))
     (λ c. omega (arith, c .before .before .before .before .before .before .before .loop .inv))

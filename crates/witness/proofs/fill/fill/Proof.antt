@@ -5,12 +5,12 @@ use native.Mathlib.Omega.{arith}
 use lib.ListN.{length, length-take, length-drop}
 use Rattle.cell.proofs.Walk.{back}
 use Rattle.witness.specs.Fill.{GivenRow}
-use Rattle.witness.proofs.Filling.{Now, Front, start, end, front, few, turn}
+use Rattle.witness.proofs.Filling.{Mid, Now, Front, start, end, front, few, turn}
 use Rattle.witness.proofs.fill.fill.Statement.{statement}
 use Rattle.witness.proofs.fill.fill.Tie as tie
 
 abbrev Inv-loop : tie.InvT-loop
-Inv-loop t row out₀ i₀ n₀ left₀ out i n left = (length out ≡ length out₀) × ((g : GivenRow t row out₀) → Now g i n left out)
+Inv-loop t row out₀ i₀ n₀ left₀ out i n left = (length out ≡ length out₀) × ((g : GivenRow t row out₀) → Now (Mid g i n left out))
 
 abbrev μ-loop : tie.MeasureT-loop
 μ-loop t row out₀ i₀ n₀ left₀ out i n left = length row - i
@@ -19,14 +19,14 @@ abbrev entry : tie.At-loop Inv-loop μ-loop → tie.Start Inv-loop μ-loop
 entry c = c .before .before .before .before
 
 -- the cell in front
-in-front : (c : tie.In-loop Inv-loop μ-loop) → let l = c .before .loop in Front (entry (c .before) .pre) (l .i) (l .n) (l .out)
+in-front : (c : tie.In-loop Inv-loop μ-loop) → let l = c .before .loop in let e = entry (c .before) in Front (e .args .t .now) (e .args .row .now) (e .args .out .now) (l .i) (l .n) (l .out)
 in-front c = let l = c .before .loop in let g = entry (c .before) .pre in front g (l .i) (l .n) (l .left) (l .out) (l .inv .1 g) (c .loop-test .taken)
 
 abbrev in-turn : tie.After-slice-known2 Inv-loop μ-loop → tie.In-loop Inv-loop μ-loop
 in-turn c = c .before .before .before .before .before .before
 
 turned : (c : tie.After-slice-known2 Inv-loop μ-loop) → let l = in-turn c .before .loop in let e = entry (in-turn c .before) in let p = c .before .before .place in
-    (g : GivenRow (e .args .t .now) (e .args .row .now) (e .args .out .now)) → Now g (l .i + 3) (l .n + p .result) (l .left - 1 + c .before .before .before .before .opens .result) (back (l .out) (l .n) (p .last .1 .1 .1 .0))
+    (g : GivenRow (e .args .t .now) (e .args .row .now) (e .args .out .now)) → Now (Mid g (l .i + 3) (l .n + p .result) (l .left - 1 + c .before .before .before .before .opens .result) (back (l .out) (l .n) (p .last .1 .1 .1 .0)))
 turned c g =
     let i = in-turn c in
     let l = i .before .loop in

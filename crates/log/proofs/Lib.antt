@@ -1,0 +1,9 @@
+pub mod Often
+pub mod Sums
+pub mod Rules
+pub mod Length
+pub mod Order
+pub mod LogText
+pub mod Refusals
+pub mod Cases
+pub mod Laws
