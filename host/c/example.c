@@ -54,10 +54,26 @@ static void arrive(const uint16_t *words, size_t n)
     printf(", end %u\n", bellgantlet_check_end(&check));
 }
 
+/* The day's tally, as dispatch prints it. */
+static void tally(const uint16_t *log, size_t n)
+{
+    bellgantlet_tallied t = bellgantlet_tally(log, n);
+    printf("tally of %zu: %u. %s\n", n, t.number, bellgantlet_refusal_text(t.number));
+    if (t.number != BELLGANTLET_DONE)
+        return;
+    for (int rule = 0; rule < BELLGANTLET_RULE_NUMBERS; rule++)
+        if (t.counts[rule] != 0)
+            printf("rule=%d count=%u\n", rule, t.counts[rule]);
+    printf("total=%u\n", t.total);
+}
+
 int main(void)
 {
     static const uint16_t seven[] = {0, 1, 261}, nine[] = {0, 260, 1, 5}, other[] = {0, 258, 4}, left[] = {0, 1, 5};
     static const uint16_t bookings[][3] = {{0, 1, 5}, {0, 2, 5}, {0, 3, 4}, {0, 1, 1}};
+    static uint16_t log[BELLGANTLET_LOG + 1];
+    size_t logged = 0;
+    bellgantlet_answer a;
     bellgantlet_tree t;
     bellgantlet_part_at p;
     bellgantlet_shown s;
@@ -74,7 +90,10 @@ int main(void)
     t = bellgantlet_compile(signature, N(signature), table, N(table), space, N(space));
     printf("compile: %u, %zu\n", t.number, t.length);
     for (size_t i = 0; i < N(bookings); i++) {
-        show("run", bellgantlet_run(signature, N(signature), space, t.length, bookings[i], 3));
+        a = bellgantlet_run(signature, N(signature), space, t.length, bookings[i], 3);
+        show("run", a);
+        if (a.number == BELLGANTLET_DONE)
+            log[logged++] = a.rule;
         show("decide", bellgantlet_decide(signature, N(signature), table, N(table), bookings[i], 3));
     }
     printf("set default 2: %u\n", bellgantlet_set_default(signature, N(signature), 2, table, N(table)));
@@ -98,5 +117,11 @@ int main(void)
     arrive(bookings[0], 3);
     arrive(bookings[0], 2);
     arrive(bookings[3], 3);
+    log[logged++] = 9;
+    tally(log, logged);
+    tally(log, 0);
+    tally(log, N(log));
+    log[logged++] = 1000;
+    tally(log, logged);
     return 0;
 }

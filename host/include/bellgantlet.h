@@ -26,8 +26,8 @@
 extern "C" {
 #endif
 
-#define BELLGANTLET_VERSION "0.6.0"
-#define BELLGANTLET_VERSION_NUMBER 600  /* 10,000 times the first number, 100 times the second, the third */
+#define BELLGANTLET_VERSION "0.7.0"
+#define BELLGANTLET_VERSION_NUMBER 700  /* 10,000 times the first number, 100 times the second, the third */
 
 enum {
     BELLGANTLET_SIGNATURE = 1533,   /* the most words of a lawful signature: 255 constructors with four arguments, one without */
@@ -38,6 +38,8 @@ enum {
     BELLGANTLET_PATTERN = 64,       /* the most words of a pattern */
     BELLGANTLET_CHECK_WORDS = 835,  /* the words of a check */
     BELLGANTLET_LAST_RULE = 999,    /* rules are numbered from 1 */
+    BELLGANTLET_RULE_NUMBERS = 1000, /* these, and the default as rule 0 */
+    BELLGANTLET_LOG = 4096,         /* the most entries of a log */
     BELLGANTLET_VARIABLES = 16,
     BELLGANTLET_LEVEL = 1000,       /* the word of level 0 at a number kind; of level n it is n more */
     BELLGANTLET_LAST_LEVEL = 100,
@@ -58,6 +60,7 @@ enum {
     BELLGANTLET_STACK_CHECK_BEGIN = 8192,
     BELLGANTLET_STACK_CHECK_STEP = 4096,
     BELLGANTLET_STACK_CHECK_END = 4096,
+    BELLGANTLET_STACK_TALLY = 8192,
     BELLGANTLET_STACK_ANY = 2228224     /* the most of all calls */
 };
 
@@ -80,7 +83,8 @@ enum {
     BELLGANTLET_TREE_TOO_LARGE = 14,
     BELLGANTLET_TREE_BROKEN = 15,
     BELLGANTLET_PLACE_OUTSIDE = 16,
-    BELLGANTLET_RANGE_WRONG = 18    /* in checking order directly after 7 */
+    BELLGANTLET_RANGE_WRONG = 18,   /* in checking order directly after 7 */
+    BELLGANTLET_LOG_BEYOND = 19
 };
 
 /* What a number means, for a planner. */
@@ -105,6 +109,7 @@ static inline const char *bellgantlet_refusal_text(uint16_t number)
     case BELLGANTLET_TREE_BROKEN: return "The tree is broken.";
     case BELLGANTLET_PLACE_OUTSIDE: return "The place is not below the booking's length.";
     case BELLGANTLET_RANGE_WRONG: return "The low of a range exceeds its high, or its high exceeds 100.";
+    case BELLGANTLET_LOG_BEYOND: return "A log entry is above 999, or the log has over 4,096 entries.";
     default: return "The call is refused.";
     }
 }
@@ -143,6 +148,14 @@ typedef struct {
     size_t start;
     size_t length;
 } bellgantlet_part_at;
+
+/* What tally answers: how often each rule stands in the log, by its number, the default as rule 0; and how many entries there
+ * are, which is the sum of the counts. On a refusal all are 0. */
+typedef struct {
+    uint16_t number;
+    uint16_t total;
+    uint16_t counts[BELLGANTLET_RULE_NUMBERS];
+} bellgantlet_tallied;
 
 /* What a check of a booking keeps between two of its words, by index:
  *   0           the number: 0, or 1 or 13 once it is certain
@@ -234,6 +247,10 @@ uint16_t bellgantlet_check_step(
 /* The number of the words read so far, as part and run give it: also 13 where values are still due, and where no word was
  * read. It may be asked after any step. Refusals: 1, 13. */
 uint16_t bellgantlet_check_end(const bellgantlet_check *check);
+
+/* Counts how often each rule stands in a log, such as that of a day: an entry is the rule of an answer, 0 where no rule took the
+ * booking. The log may be empty, and its rules need not be held anywhere: no table is read. Refusals: 19. */
+bellgantlet_tallied bellgantlet_tally(const uint16_t *log, size_t log_length);
 
 #ifdef __cplusplus
 }

@@ -10,9 +10,11 @@ mod entered;
 pub mod raw;
 mod refusal;
 pub mod stack;
+mod tally;
 
 pub use entered::NotEntered;
 pub use refusal::Refusal;
+pub use tally::{tally, Tally};
 use std::fmt;
 use std::num::NonZeroU16;
 use std::sync::Arc;
@@ -35,6 +37,10 @@ pub const PATTERN: usize = 64;
 pub const CHECK_WORDS: usize = 835;
 /// Rules are numbered from 1 to this.
 pub const LAST_RULE: u16 = 999;
+/// Rules 1 to 999, and the default as rule 0.
+pub const RULE_NUMBERS: usize = 1000;
+/// The most entries of a log.
+pub const LOG: usize = 4096;
 /// Variables are numbered from 0.
 pub const VARIABLES: usize = 16;
 /// The word of level 0 at a number kind; of level n it is n more.
@@ -324,6 +330,11 @@ impl Answer {
         match self {
             Answer::Default { plan } | Answer::Rule { plan, .. } => *plan,
         }
+    }
+
+    /// The entry of a log, for [`tally`]: the rule's number, 0 for the default.
+    pub fn log_entry(&self) -> u16 {
+        self.rule().map_or(0, RuleNumber::get)
     }
 }
 

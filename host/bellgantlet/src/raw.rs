@@ -1,5 +1,5 @@
 //! The calls as they are, over slices and numbers. Every one is defined on every input.
-use crate::CHECK_WORDS;
+use crate::{CHECK_WORDS, RULE_NUMBERS};
 
 /// On 12 the lowest rule that shares a booking and the booking's length; else 0 and 0.
 #[repr(C)]
@@ -44,6 +44,15 @@ pub struct Part {
     pub number: u16,
     pub start: usize,
     pub length: usize,
+}
+
+/// How often each rule stands in a log, by its number, the default as rule 0; and how many entries there are. All 0 on a refusal.
+#[repr(C)]
+#[derive(Clone, Debug, PartialEq, Eq)]
+pub struct Tallied {
+    pub number: u16,
+    pub total: u16,
+    pub counts: [u16; RULE_NUMBERS],
 }
 
 /// What a check of a booking keeps between two of its words; the header has what stands where.
@@ -113,6 +122,7 @@ mod link {
         pub fn bellgantlet_check_begin(signature: *const u16, signature_n: usize, check: *mut Check) -> u16;
         pub fn bellgantlet_check_step(signature: *const u16, signature_n: usize, check: *mut Check, word: u16) -> u16;
         pub fn bellgantlet_check_end(check: *const Check) -> u16;
+        pub fn bellgantlet_tally(log: *const u16, log_n: usize) -> Tallied;
     }
 }
 
@@ -184,4 +194,8 @@ pub fn check_step(signature: &[u16], check: &mut Check, word: u16) -> u16 {
 
 pub fn check_end(check: &Check) -> u16 {
     unsafe { link::bellgantlet_check_end(check) }
+}
+
+pub fn tally(log: &[u16]) -> Tallied {
+    unsafe { link::bellgantlet_tally(log.as_ptr(), log.len()) }
 }

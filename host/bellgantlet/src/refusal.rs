@@ -2,7 +2,7 @@ use std::fmt;
 
 macro_rules! refusals {
     ($($name:ident = $number:literal: $sentence:literal,)*) => {
-        /// Why a call was refused, by 01's numbers.
+        /// Why a call was refused, by the numbers of 01 and 02.
         #[derive(Clone, Copy, Debug, PartialEq, Eq, PartialOrd, Ord, Hash)]
         #[non_exhaustive]
         pub enum Refusal {
@@ -51,6 +51,7 @@ refusals! {
     TreeBroken = 15: "The tree is broken.",
     PlaceOutside = 16: "The place is not below the booking's length.",
     RangeWrong = 18: "The low of a range exceeds its high, or its high exceeds 100.",
+    LogBeyond = 19: "A log entry is above 999, or the log has over 4,096 entries.",
 }
 
 impl fmt::Display for Refusal {

@@ -41,7 +41,8 @@ fn pointer(structs: &Structs, sort: &str, of: &str) -> String {
 /// The length of an array as a number.
 fn numbered(of: &str) -> String {
     let check = CHECK_WORDS.to_string();
-    of.replace("VARIABLES", &VARIABLES.to_string()).replace("CHECK_WORDS", &check).replace("STATE", &check)
+    let of = of.replace("VARIABLES", &VARIABLES.to_string()).replace("RULE_NUMBERS", &RULE_NUMBERS.to_string());
+    of.replace("CHECK_WORDS", &check).replace("STATE", &check)
 }
 
 // ---- the header
@@ -68,7 +69,7 @@ fn c_named(structs: &Structs, text: &str) -> Named {
     let (of, name) = (c_type(structs, text[..from].trim()), &text[from..]);
     match name.split_once("[BELLGANTLET_") {
         Some((name, length)) => named(name, &numbered(&format!("[{of}; {length}"))),
-        None => named(&name.replace("_words", "_n"), &of),
+        None => named(&name.replace("_words", "_n").replace("_length", "_n"), &of),
     }
 }
 
@@ -144,7 +145,7 @@ fn functions(text: &str, mark: &str, end: &str, structs: &Structs) -> Calls {
 #[test]
 fn the_same_calls() {
     let header = of_header();
-    assert_eq!(header.len(), 12);
+    assert_eq!(header.len(), 13);
     let (link, _) = between(RAW, "extern \"C\" {", "\n    }");
     assert_eq!(functions(link, "pub fn ", ";", &structs(RAW)), header);
     assert_eq!(functions(EXPORTED, "pub extern \"C\" fn ", "\n", &structs(EXPORTED)), header);
@@ -179,6 +180,8 @@ fn the_same_constants() {
         ("PATTERN", PATTERN),
         ("CHECK_WORDS", CHECK_WORDS),
         ("LAST_RULE", LAST_RULE as usize),
+        ("RULE_NUMBERS", RULE_NUMBERS),
+        ("LOG", LOG),
         ("VARIABLES", VARIABLES),
         ("LEVEL", LEVEL as usize),
         ("LAST_LEVEL", LAST_LEVEL as usize),
@@ -195,6 +198,7 @@ fn the_same_constants() {
         ("STACK_CHECK_BEGIN", stack::CHECK_BEGIN),
         ("STACK_CHECK_STEP", stack::CHECK_STEP),
         ("STACK_CHECK_END", stack::CHECK_END),
+        ("STACK_TALLY", stack::TALLY),
         ("STACK_ANY", stack::ANY),
         ("DONE", 0),
     ];
@@ -237,6 +241,7 @@ fn the_readme_has_the_stacks() {
         ("check_begin", stack::CHECK_BEGIN),
         ("check_step", stack::CHECK_STEP),
         ("check_end", stack::CHECK_END),
+        ("tally", stack::TALLY),
     ];
     for (call, bytes) in calls {
         assert!(README.contains(&format!("| {call} | {} | `BELLGANTLET_STACK_", written(bytes))), "{call}");

@@ -36,7 +36,7 @@ fn with_stack(f: fn()) {
 #[test]
 fn refusals_have_their_numbers() {
     // 17 is of texts alone
-    let numbers: Vec<u16> = (1..=16).chain([18]).collect();
+    let numbers: Vec<u16> = (1..=16).chain([18, 19]).collect();
     assert_eq!(Refusal::ALL.iter().map(|r| r.number()).collect::<Vec<_>>(), numbers);
     for r in Refusal::ALL {
         assert!(r.to_string().ends_with(&format!("({})", r.number())));
@@ -351,6 +351,58 @@ fn word_by_word_at_the_limits() {
         assert_eq!(checker.finish().is_ok(), wrong.is_none());
     }
     assert_eq!(std::mem::size_of::<raw::Check>(), 2 * CHECK_WORDS);
+}
+
+/// A log made of answers, and its tally.
+#[test]
+fn the_tally_of_answers() {
+    with_stack(the_tally_of_answers_here);
+}
+
+fn the_tally_of_answers_here() {
+    let table = table();
+    let bookings = [[0, 2, 5], [0, 3, 4], [0, 1, 5], [0, 3, 5], [0, 1, 4]];
+    let answers: Vec<Answer> = bookings.iter().map(|b| table.decide(b).unwrap()).collect();
+    let log: Vec<u16> = answers.iter().map(Answer::log_entry).collect();
+    assert_eq!(log, [9, 0, 7, 9, 7]);
+    let tally = tally(&log).unwrap();
+    assert_eq!((tally.total(), tally.count(None), tally.count(Some(rule(7))), tally.count(Some(rule(8)))), (5, 1, 2, 0));
+    assert_eq!(tally.iter().collect::<Vec<_>>(), [(None, 1), (Some(rule(7)), 2), (Some(rule(9)), 2)]);
+    assert_eq!(tally.to_string(), "rule=0 count=1\nrule=7 count=2\nrule=9 count=2\ntotal=5");
+    for answer in &answers {
+        assert!(tally.count(answer.rule()) > 0);
+    }
+}
+
+/// The empty log, all rules, logs of 4,096 entries and of one more, and entries above 999.
+#[test]
+fn tallies_at_the_limits() {
+    let none = tally(&[]).unwrap();
+    assert_eq!((none.total(), none.iter().count(), none.to_string()), (0, 0, "total=0".into()));
+    let all: Vec<u16> = (0..=LAST_RULE).rev().collect();
+    let each = tally(&all).unwrap();
+    assert_eq!((all.len(), each.total(), each.iter().count()), (RULE_NUMBERS, RULE_NUMBERS, RULE_NUMBERS));
+    assert!(each.iter().zip(0..).all(|((r, count), n)| count == 1 && r.map_or(0, RuleNumber::get) == n));
+    let most = [all.repeat(4), vec![LAST_RULE; 96]].concat();
+    let full = tally(&most).unwrap();
+    assert_eq!((full.total(), full.count(Some(rule(LAST_RULE))), full.count(None)), (LOG, 100, 4));
+    assert_eq!(full.iter().map(|(_, count)| count).sum::<usize>(), LOG);
+    assert_eq!(tally(&[0; LOG]).unwrap().count(None), LOG);
+    for n in [LOG + 1, 65535, 65536, 65537, 65536 + LOG] {
+        assert_eq!(tally(&vec![7; n]), Err(Refusal::LogBeyond));
+    }
+    for above in [1000, 1001, 1024, 65535] {
+        assert_eq!(tally(&[above]), Err(Refusal::LogBeyond));
+        for at in [0, LOG / 2, LOG - 1] {
+            let mut log = most.clone();
+            log[at] = above;
+            assert_eq!(tally(&log), Err(Refusal::LogBeyond));
+        }
+    }
+    // on a refusal all but the number are 0
+    let refused = raw::Tallied { number: 19, total: 0, counts: [0; RULE_NUMBERS] };
+    assert_eq!((raw::tally(&[7, 7, 1000]), raw::tally(&[7; LOG + 1])), (refused.clone(), refused));
+    assert_eq!(std::mem::size_of::<raw::Tallied>(), 2 * (2 + RULE_NUMBERS));
 }
 
 /// `?` where a refusal is due, and where any error is.

@@ -2,7 +2,7 @@
 use bellgantlet::{raw, stack, TABLE, TREE, WITNESS};
 
 /// The names of the calls and what each is documented to take of the stack.
-pub const CALLS: [(&str, usize); 12] = [
+pub const CALLS: [(&str, usize); 13] = [
     ("part", stack::PART),
     ("run", stack::RUN),
     ("empty", stack::EMPTY),
@@ -15,6 +15,7 @@ pub const CALLS: [(&str, usize); 12] = [
     ("check_begin", stack::CHECK_BEGIN),
     ("check_step", stack::CHECK_STEP),
     ("check_end", stack::CHECK_END),
+    ("tally", stack::TALLY),
 ];
 
 #[derive(Clone, Default)]
@@ -30,6 +31,7 @@ pub struct Lent {
     pub witness: Vec<u16>,
     pub check: raw::Check,
     pub word: u16,
+    pub log: Vec<u16>,
 }
 
 impl Lent {
@@ -57,9 +59,16 @@ impl Lent {
             "check_begin" => raw::check_begin(&l.signature, &mut l.check),
             "check_step" => raw::check_step(&l.signature, &mut l.check, l.word),
             "check_end" => raw::check_end(&l.check),
+            "tally" => tally(&l.log),
             _ => panic!("no call {call}"),
         }
     }
+}
+
+/// By itself, since what it is handed back would stand in the frame of every call.
+#[inline(never)]
+fn tally(log: &[u16]) -> u16 {
+    raw::tally(log).number
 }
 
 /// Inputs of one kind, each for one call.

@@ -282,3 +282,9 @@ pub fn long_deep() -> Case {
     assert_eq!(booking.len(), 4096);
     Case { name: "3 constructors, 4,096 words, 255 deep", bookings: vec![booking], ..long() }
 }
+
+/// Logs that are measured: a short one, and full ones, of one rule and of all, in an order that does not rise.
+pub fn logs() -> Vec<(&'static str, Vec<u16>)> {
+    let mixed = |n: usize| (0..n).map(|i| (i * 617 % 1000) as u16).collect();
+    vec![("10 entries", mixed(10)), ("4,096 entries, one rule", vec![7; 4096]), ("4,096 entries, all rules", mixed(4096))]
+}

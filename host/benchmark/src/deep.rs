@@ -1,6 +1,6 @@
 //! Where the calls go deepest: patterns of 64 words that nest in every way, entered and held; and words that are not lawful.
 use crate::calls::{Lent, Row};
-use crate::cases::{cases, least, long_deep, long_grid, long_wide, stairs, with_levels, Case};
+use crate::cases::{cases, least, logs, long_deep, long_grid, long_wide, stairs, with_levels, Case};
 use crate::instances::instances;
 use bellgantlet::{raw, TABLE, TREE, WITNESS};
 
@@ -23,6 +23,7 @@ pub fn rows() -> Vec<Row> {
     all.push(of_instances());
     all.push(not_lawful());
     all.push(arriving());
+    all.push(of_logs());
     all
 }
 
@@ -214,4 +215,11 @@ fn arriving() -> Row {
     longest.extend([3, 0]);
     inputs.extend(stepped(&longest, &[vec![0], vec![192; 254], vec![255; 255 * 3 + 1]].concat()));
     Row { name: "word by word", inputs }
+}
+
+/// The logs that are measured, the empty one, and those that are refused at their first entry, at their last and by their length.
+fn of_logs() -> Row {
+    let mut all: Vec<Vec<u16>> = logs().into_iter().map(|(_, log)| log).collect();
+    all.extend([vec![], vec![1000], [vec![7; 4095], vec![65535]].concat(), vec![7; 4097], vec![7; 65536]]);
+    Row { name: "logs", inputs: all.into_iter().map(|log| ("tally", Lent { log, ..Lent::default() })).collect() }
 }

@@ -1,7 +1,7 @@
 //! The calls side by side with the prototype, with a first-match list of the same rules, and a run with one pass over the
 //! booking. Times are the least of many rounds, in which the parties take turns.
 use bellgantlet::raw;
-use benchmark::cases::{cases, least, long, long_deep, long_grid, long_wide, stairs, with_levels, Case};
+use benchmark::cases::{cases, least, logs, long, long_deep, long_grid, long_wide, stairs, with_levels, Case};
 use benchmark::first_match;
 use benchmark::instances::instances;
 use std::hint::black_box;
@@ -79,6 +79,9 @@ fn times(rounds: usize) {
     }
     for c in &all {
         compile(c, rounds);
+    }
+    for (name, log) in &logs() {
+        tally(name, log, rounds);
     }
     for c in &with_levels() {
         alone(c, rounds);
@@ -293,6 +296,17 @@ fn compile(c: &Case, rounds: usize) {
         ("prototype", Box::new(|| { black_box(prototype::compile::compile(sig, &table, &mut s2)); })),
     ];
     line("compile", &name, &mut parties, rounds);
+}
+
+fn tally(name: &str, log: &[u16], rounds: usize) {
+    let (a, p) = (raw::tally(log), prototype::tally::tally(log));
+    assert!(a.number == 0 && (a.number, a.total, a.counts) == (p.refusal, p.total, p.counts));
+    let mut parties: Vec<Party> = vec![
+        ("library", Box::new(|| { black_box(raw::tally(black_box(log))); })),
+        ("prototype", Box::new(|| { black_box(prototype::tally::tally(black_box(log))); })),
+        ("sum", Box::new(|| { black_box(black_box(log).iter().map(|w| *w as u64).sum::<u64>()); })),
+    ];
+    line("tally", name, &mut parties, rounds);
 }
 
 /// The calls on a table that only the library knows.

@@ -17,6 +17,8 @@ struct Depot {
     /// The names of each rule's variables: of the rules in the table, and of those in the tree.
     variables: Variables,
     compiled_variables: Variables,
+    /// The rules of the day's answers, 0 for the default.
+    log: Vec<u16>,
 }
 
 /// Bytes of stack for the thread itself.
@@ -30,7 +32,8 @@ impl Depot {
     fn new(names: Names) -> Result<Depot, Refusal> {
         let table = Table::new(&names.signature()?);
         let tree = table.compile()?;
-        Ok(Depot { names, table, tree, change: 0, compiled: 0, variables: Variables::new(), compiled_variables: Variables::new() })
+        let (variables, compiled_variables) = (Variables::new(), Variables::new());
+        Ok(Depot { names, table, tree, change: 0, compiled: 0, variables, compiled_variables, log: vec![] })
     }
 
     fn enter(&mut self, planner: &str, number: u16, plan: u16, text: &str) {
@@ -102,12 +105,14 @@ impl Depot {
         }
     }
 
-    fn answer(&self, text: &str) {
+    fn answer(&mut self, text: &str) {
         let words = match self.names.booking(text) {
             Ok(w) => w,
             Err(e) => return println!("{text}: not understood: {e}"),
         };
-        match self.tree.run(&words) {
+        let answer = self.tree.run(&words);
+        self.log.extend(answer.iter().map(Answer::log_entry));
+        match answer {
             Err(r) => println!("{text}: {r}"),
             Ok(Answer::Default { plan }) => println!("{text}: no rule, the default plan {plan}"),
             Ok(Answer::Rule { number, plan, places }) => {
@@ -123,12 +128,12 @@ impl Depot {
             }
         }
         if self.compiled == self.change {
-            assert_eq!(self.tree.run(&words), self.table.decide(&words));
+            assert_eq!(answer, self.table.decide(&words));
         }
     }
 
     /// A booking that arrives in pieces: checked word by word, answered when it is whole, and given up at the first wrong word.
-    fn receive(&self, pieces: &[&[u16]]) {
+    fn receive(&mut self, pieces: &[&[u16]]) {
         let mut checker = Checker::new(self.table.signature());
         for piece in pieces {
             println!("    {piece:?} arrives");
@@ -140,6 +145,14 @@ impl Depot {
             (None, Ok(())) => self.answer(&self.names.show(&pieces.concat())),
             (None, Err(_)) => println!("it is not whole"),
             (Some(at), _) => println!("wrong at index {at}, the word {}: no more is awaited", pieces.concat()[at]),
+        }
+    }
+
+    /// The day's tally; the next day begins with an empty log.
+    fn close(&mut self) {
+        match tally(&std::mem::take(&mut self.log)) {
+            Ok(tally) => println!("-- closing time, bookings per rule:\n{tally}"),
+            Err(r) => println!("-- closing time, no tally: {r}"),
         }
     }
 }
@@ -216,6 +229,7 @@ fn main() -> Result<(), Refusal> {
     depot.receive(&[&[0, 2, 5], &[9], &[15, 16, 14, 1060]]);
     depot.receive(&[&[0, 4, 18], &[12, 1050]]);
     depot.receive(&[&[0, 4, 7, 12]]);
+    depot.close();
 
     println!("-- rules in force:");
     for (number, plan, pattern) in depot.table.rules() {

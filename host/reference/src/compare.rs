@@ -4,6 +4,7 @@ use crate::gap::is_gap;
 use crate::pattern;
 use crate::signature::Signature;
 use crate::stepped;
+use crate::tally::{tally, Tallied};
 use bellgantlet::raw;
 use std::collections::BTreeMap;
 
@@ -215,6 +216,15 @@ impl Compare {
         self.count("part", p.number);
         self.stepped_too(sig, booking);
         p.number
+    }
+
+    pub fn tally(&mut self, log: &[u16]) -> Tallied {
+        let t = raw::tally(log);
+        let lines = t.counts.iter().zip(0..).filter(|(count, _)| **count != 0).map(|(count, rule)| (rule, *count));
+        let got = (t.number, lines.collect(), t.total);
+        same!("tally", "number, counts and total", got, tally(log), log);
+        self.count("tally", t.number);
+        got
     }
 
     /// The states before the first word, whatever the words were before.

@@ -38,6 +38,11 @@ impl Json {
         t
     }
 
+    /// A text as bytes, one for each character.
+    pub fn bytes(&self) -> Vec<u8> {
+        self.text().chars().map(|c| u8::try_from(c).expect("a byte")).collect()
+    }
+
     pub fn truth(&self) -> bool {
         let Json::Truth(t) = self else { panic!("no truth") };
         *t
@@ -93,8 +98,7 @@ fn one(rest: &mut &[u8]) -> Json {
         }
         b'"' => {
             let n = rest[1..].iter().position(|b| *b == b'"').unwrap();
-            // of the escapes they have the newline's alone
-            let t = std::str::from_utf8(&rest[1..1 + n]).unwrap().replace("\\n", "\n");
+            let t = unescaped(std::str::from_utf8(&rest[1..1 + n]).unwrap());
             *rest = &rest[n + 2..];
             Json::Text(t)
         }
@@ -110,4 +114,26 @@ fn one(rest: &mut &[u8]) -> Json {
             Json::Number(v)
         }
     }
+}
+
+/// The escapes that the vectors have: no quote, no backslash.
+fn unescaped(text: &str) -> String {
+    let mut parts = text.split('\\');
+    let mut out = parts.next().unwrap().to_string();
+    for part in parts {
+        let (escape, mut behind) = part.split_at(1);
+        out.push(match escape {
+            "n" => '\n',
+            "r" => '\r',
+            "t" => '\t',
+            "u" => {
+                let (digits, rest) = behind.split_at(4);
+                behind = rest;
+                char::from_u32(u32::from_str_radix(digits, 16).unwrap()).unwrap()
+            }
+            _ => panic!("no escape {escape}"),
+        });
+        out += behind;
+    }
+    out
 }

@@ -1,4 +1,4 @@
-//! An independent implementation of document 01: trees on the heap, the relations as recursive functions, everything by its definition.
+//! An independent implementation of documents 01 and 02: trees on the heap, the relations as recursive functions, everything by its definition.
 pub mod by_hand;
 pub mod calls;
 pub mod compare;
@@ -11,5 +11,6 @@ pub mod rows;
 pub mod signature;
 pub mod stepped;
 pub mod stored;
+pub mod tally;
 pub mod text;
 pub mod tree;

@@ -11,7 +11,7 @@ use reference::random::*;
 use reference::rows::{rows_of, shared_value, Side};
 use reference::signature::{all_values, Signature};
 use reference::stepped::step;
-use reference::text::printed;
+use reference::{tally, text};
 use std::time::Instant;
 
 const T: [u16; 15] = [6, 0, 2, 1, 2, 1, 0, 1, 0, 1, 0, 2, 0, 2, 0];
@@ -42,7 +42,7 @@ fn work() {
     if let Some(folder) = option("--records") {
         timed(&mut c, "records", |c| records(c, &folder));
     }
-    let tests: [(&str, usize, fn(&mut Compare, &mut Random)); 12] = [
+    let tests: [(&str, usize, fn(&mut Compare, &mut Random)); 13] = [
         ("signatures", 12000, signatures),
         ("bookings and parts", 12000, bookings),
         ("patterns into an empty table", 60000, patterns),
@@ -55,6 +55,7 @@ fn work() {
         ("forged states", 20000, forged),
         ("gaps of small tables", 2000, gaps),
         ("gaps of parted kinds", 1500, parted),
+        ("logs", 6000, logs),
     ];
     for (i, (name, times, test)) in tests.into_iter().enumerate() {
         timed(&mut c, name, |c| {
@@ -75,7 +76,7 @@ fn timed(c: &mut Compare, name: &str, f: impl FnOnce(&mut Compare)) {
 
 /// Each call's numbers: those that 01 lets it give, all of them reached.
 fn summary(c: &Compare, scale: usize) {
-    let known: [(&str, &[u16]); 12] = [
+    let known: [(&str, &[u16]); 13] = [
         ("empty", &[0, 2]),
         ("enter", &[0, 1, 2, 3, 4, 5, 7, 8, 9, 10, 11, 12, 18]),
         ("withdraw", &[0, 1, 2, 3, 4, 6]),
@@ -88,6 +89,7 @@ fn summary(c: &Compare, scale: usize) {
         ("check_begin", &[0, 1]),
         ("check_step", &[0, 1, 13]),
         ("check_end", &[0, 1, 13]),
+        ("tally", &[0, 19]),
     ];
     for (call, numbers) in known {
         let of = |n: &u16| c.given.get(&(call, *n)).copied().unwrap_or(0);
@@ -668,7 +670,36 @@ fn likely(r: &mut Random, sig: &[u16], state: &[u16]) -> u16 {
     word
 }
 
-/// Bookings of 4,095 to 4,097 words and 255 to 257 deep, tables and patterns at their limits, Case T.
+/// Logs of a few rules, of one, of all; of any length; some with an entry above 999.
+fn logs(c: &mut Compare, r: &mut Random) {
+    let n = match r.below(8) {
+        0 | 1 => r.below(12),
+        2 => r.below(300),
+        3 | 4 => r.between(4090, 4100),
+        5 => r.below(4097),
+        6 => r.between(4097, 20000),
+        // where a length of 16 bits would begin again
+        _ => 65536 + r.below(4100),
+    };
+    let rules: Vec<u16> = match r.below(5) {
+        0 => (0..1000).collect(),
+        1 => vec![0, 1, 998, 999],
+        2 => vec![r.below(1000) as u16],
+        _ => (0..r.between(2, 60)).map(|_| r.below(1000) as u16).collect(),
+    };
+    // each of them once, as far as there is room, then any
+    let mut log: Vec<u16> = (0..n).map(|i| if i < rules.len() { rules[i] } else { *r.pick(&rules) }).collect();
+    for i in (1..n.min(4097)).rev() {
+        log.swap(i, r.below(i + 1));
+    }
+    if n > 0 && r.once_in(4) {
+        let (at, above) = (r.below(n), r.between(1000, 65535) as u16);
+        log[*r.pick(&[0, n - 1, at])] = *r.pick(&[1000, 1001, 1023, 1024, 65535, above]);
+    }
+    c.tally(&log);
+}
+
+/// Bookings of 4,095 to 4,097 words and 255 to 257 deep, tables and patterns at their limits, logs at theirs, Case T.
 fn limits(c: &mut Compare, r: &mut Random) {
     // kind 0: 0 (one argument), 1 (two), 2 (none)
     let sig = [3, 0, 1, 0, 0, 2, 0, 0, 0, 0];
@@ -749,6 +780,7 @@ fn limits(c: &mut Compare, r: &mut Random) {
     stepped_at_limits(c);
     signatures_at_limits(c);
     tables_at_limits(c);
+    logs_at_limits(c);
     case_t(c);
     let _ = r;
 }
@@ -938,6 +970,29 @@ fn tables_at_limits(c: &mut Compare) {
         c.set_default(&wide, 7, &mut table.clone());
         c.compile(&wide, &table, &[0; 3000]).ok();
         c.enter(&wide, 997, 1, &[259], &mut table.clone(), 4096);
+    }
+}
+
+/// Logs of one entry again and again, of each rule so often, and with one entry above 999.
+fn logs_at_limits(c: &mut Compare) {
+    for n in [0, 1, 2, 4095, 4096, 4097, 65535, 65536, 65537, 65536 + 4096] {
+        for entry in [0, 1, 998, 999, 1000, 1001, 65535] {
+            c.tally(&vec![entry; n]);
+        }
+    }
+    for last in 997..1003 {
+        c.tally(&(0..=last).collect::<Vec<u16>>());
+    }
+    let each: Vec<u16> = (0..1000).rev().collect();
+    for n in 4095..4098 {
+        let mut log = each.repeat(5);
+        log.truncate(n);
+        c.tally(&log);
+        for at in [0, 1, n / 2, n - 2, n - 1] {
+            for entry in [999, 1000, 65535] {
+                c.tally(&[&log[..at], &[entry], &log[at + 1..]].concat());
+            }
+        }
     }
 }
 
@@ -1132,7 +1187,14 @@ fn record(c: &mut Compare, r: &Json) {
             decided(c, &table, "after");
         }
         // of the reference alone
-        "program" => assert_eq!(printed(given.get("text").text().as_bytes()), out.get("printed").text(), "{r:?}"),
+        "program" => assert_eq!(text::printed(&given.get("text").bytes()), out.get("printed").text(), "{r:?}"),
+        "tally_program" => assert_eq!(tally::printed(&given.get("text").bytes()), out.get("printed").text(), "{r:?}"),
+        "tally" => {
+            let (got, lines, total) = c.tally(&words("log"));
+            number(got);
+            let flat: Vec<u16> = lines.iter().flat_map(|(rule, count)| [*rule, *count]).collect();
+            assert_eq!((flat, total as usize), (out.get("lines").words(), out.get("total").number()), "{r:?}");
+        }
         "decide" => answer(c.decide(&sig, &words("table"), &words("booking"))),
         "gap" => {
             let table = words("table");

@@ -1,11 +1,12 @@
-//! The test data of the gate's programs `calls`, `runs` and `steps`: words of 16 bits, the lower byte first. Here as text, as words,
-//! and with the lines that the programs must print.
+//! The test data of the gate's programs `calls`, `runs`, `steps` and `logs`: words of 16 bits, the lower byte first. Here as text,
+//! as words, and with the lines that the programs must print.
 use crate::calls::{Answer, Model, EMPTIED, TABLE};
 use crate::json::Json;
 use crate::pattern::admitted;
 use crate::rows::{rows_of, shared_value, Side};
 use crate::signature::Signature;
 use crate::stepped::through;
+use crate::tally::tally;
 
 /// A step of `calls`, each with its number in the file.
 #[derive(Clone, Debug, PartialEq)]
@@ -224,6 +225,24 @@ pub fn booking_text((s, b): &Booking) -> String {
     format!("signature{} booking{}", spaced(s), spaced(b))
 }
 
+/// The logs of `logs`.
+pub fn logs_of(words: &[u16]) -> Vec<Vec<u16>> {
+    let mut w = Words(words);
+    let mut all = vec![];
+    while !w.0.is_empty() {
+        all.push(w.list());
+    }
+    all
+}
+
+pub fn log_words(log: &[u16]) -> Vec<u16> {
+    [&[log.len() as u16], log].concat()
+}
+
+pub fn log_text(log: &[u16]) -> String {
+    format!("log{}", spaced(log))
+}
+
 // ---- from the vectors
 
 /// An entry, a withdrawal or a default set, as a list has it.
@@ -324,6 +343,11 @@ pub fn run_in(r: &Json) -> Option<Run3> {
 /// The booking of a record.
 pub fn booking_in(r: &Json) -> Booking {
     (r.get("in").get("sig").packed(), r.get("in").get("booking").packed())
+}
+
+/// The log of a record.
+pub fn log_in(r: &Json) -> Vec<u16> {
+    r.get("in").get("log").packed()
 }
 
 // ---- what the programs print
@@ -431,4 +455,16 @@ pub fn stepped(booking: &Booking, record: &Json) -> String {
     assert!((0..=b.len()).all(|n| numbers[n] == whole(&b[..n])), "{record:?}");
     let lawful = numbers.iter().position(|n| *n == 0).unwrap_or(0);
     format!("{last} {read} {lawful}\n")
+}
+
+/// The line of `logs` for a log, which must have what its record has: the number, the total, and each rule in the log with its count.
+pub fn tallied(log: &[u16], record: &Json) -> String {
+    assert_eq!(log, log_in(record), "the data file has another log than the vectors");
+    let (number, lines, total) = tally(log);
+    let out = record.get("out");
+    let flat: Vec<u16> = lines.iter().flat_map(|(rule, count)| [*rule, *count]).collect();
+    let expected = (out.get("number").number(), out.get("total").number(), out.get("lines").words());
+    assert_eq!((number as usize, total as usize, flat), expected, "{record:?}");
+    let counts: String = lines.iter().map(|(rule, count)| format!(" {rule}:{count}")).collect();
+    format!("{number} {total}{counts}\n")
 }

@@ -30,7 +30,7 @@ pub fn printed(bytes: &[u8]) -> String {
     answered(model.decide(&text.signature, &table, &text.booking))
 }
 
-fn refused(n: u16) -> String {
+pub(crate) fn refused(n: u16) -> String {
     format!("refused={n}\n")
 }
 
@@ -75,7 +75,7 @@ fn one(line: &[u8], key: &[u8]) -> Option<u16> {
 }
 
 /// 1 to 5 digits, no leading zero, at most 65,535.
-fn number(digits: &[u8]) -> Option<u16> {
+pub(crate) fn number(digits: &[u8]) -> Option<u16> {
     let plain = (1..=5).contains(&digits.len()) && digits.iter().all(|d| d.is_ascii_digit());
     if !plain || (digits[0] == b'0' && digits.len() > 1) {
         return None;

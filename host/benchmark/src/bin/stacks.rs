@@ -4,7 +4,7 @@
 //!     stacks check    each call at all these inputs on a thread of just the documented stack: one that is too small ends the program.
 //!                     Where a thread cannot be so small, the call's peak is held to what is documented
 //!     stacks search N the deepest of N random nests for each call, to find inputs that are worse
-use bellgantlet::{stack, Checker, RuleNumber, Signature, Table};
+use bellgantlet::{stack, tally, Answer, Checker, RuleNumber, Signature, Table};
 use benchmark::calls::CALLS;
 use benchmark::cases::cases;
 use benchmark::deep::rows;
@@ -97,6 +97,8 @@ fn wrapper() {
     let mut checker = on(stack::CHECK_BEGIN, || Checker::new(&signature));
     on(stack::CHECK_STEP, || chain.iter().try_for_each(|w| checker.push(*w))).unwrap();
     on(stack::CHECK_END, || checker.finish()).unwrap();
+    let log = vec![tree.run(&chain).as_ref().map(Answer::log_entry).unwrap(); 4096];
+    assert_eq!(on(stack::TALLY, || tally(&log)).unwrap().count(Some(number)), 4096);
     let deepest = cases().pop().unwrap();
     let signature = Signature::new(&deepest.signature).unwrap();
     let table = Table::from_words(&signature, &deepest.table(64)).unwrap();

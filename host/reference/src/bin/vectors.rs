@@ -1,14 +1,16 @@
 //! The gate's test data and stored outputs, made again by the reference; host/vectors/README.md says how they hang together.
 //!
-//!     vectors make calls|runs|steps                           the data file, to standard output
-//!     vectors show calls|runs|steps                           the data file of the repository as text
-//!     vectors answer calls|runs|steps|texts|parts|patterns    what the program must print
-//!     vectors text                                            what the text program prints for standard input
+//!     vectors make calls|runs|steps|logs                          the data file, to standard output
+//!     vectors show calls|runs|steps|logs                          the data file of the repository as text
+//!     vectors answer calls|runs|steps|texts|logs|parts|patterns   what the program must print
+//!     vectors text                                                what the text program prints for standard input
+//!     vectors tally                                               what the program tally prints for standard input
 use reference::instance::Instance;
 use reference::json::Json;
 use reference::stored::{booking_in, booking_text, booking_words, bookings_of, stepped};
+use reference::stored::{log_in, log_text, log_words, logs_of, tallied};
 use reference::stored::{played, ran, run_in, run_text, run_words, runs_in, runs_of, steps_in, steps_of, to_bytes, to_words, Step};
-use reference::{by_hand, text};
+use reference::{by_hand, tally, text};
 use std::fs::{read, read_dir, read_to_string};
 use std::io::{Read, Write};
 
@@ -26,7 +28,8 @@ fn vectors() -> Vec<Json> {
     all.filter(|v| v.has("calls")).collect()
 }
 
-/// A file of single calls: `steps` has those of `STEPPED`, `calls` and `runs` those of `DEFAULTS`, `calls` those of `GAPS` too.
+/// A file of single calls: `steps` has those of `STEPPED`, `calls` and `runs` those of `DEFAULTS`, `calls` those of `GAPS` too,
+/// `logs` those of `TALLIES`.
 fn records(name: &str) -> Json {
     Json::read(&read_to_string(at(&format!("host/vectors/{name}"))).unwrap())
 }
@@ -34,6 +37,7 @@ fn records(name: &str) -> Json {
 const STEPPED: &str = "stepped-gate-4302.json";
 const DEFAULTS: &str = "default-gate-4303.json";
 const GAPS: &str = "gap-gate-4304.json";
+const TALLIES: &str = "tally-gate-4305.json";
 
 /// The tables of the folder `instances` that `calls` has.
 const INSTANCES: [&str; 2] = ["brief31", "stairs-24-cost"];
@@ -59,7 +63,8 @@ fn make(what: &str) -> Vec<u8> {
             runs.iter().flat_map(run_words).collect()
         }
         "steps" => records(STEPPED).get("records").list().iter().flat_map(|r| booking_words(&booking_in(r))).collect(),
-        _ => panic!("calls, runs or steps"),
+        "logs" => records(TALLIES).get("records").list().iter().flat_map(|r| log_words(&log_in(r))).collect(),
+        _ => panic!("calls, runs, steps or logs"),
     };
     to_bytes(&words)
 }
@@ -73,9 +78,17 @@ fn show(what: &str) -> String {
         "calls" => Step::lines(&Step::all(&data(what))),
         "runs" => runs_of(&data(what)).iter().map(run_text).collect(),
         "steps" => bookings_of(&data(what)).iter().map(booking_text).collect(),
-        _ => panic!("calls, runs or steps"),
+        "logs" => logs_of(&data(what)).iter().map(|log| log_text(log)).collect(),
+        _ => panic!("calls, runs, steps or logs"),
     };
     lines.iter().map(|l| format!("{l}\n")).collect()
+}
+
+/// Each file that a list of `texts` names, and what is printed of it.
+fn texts(list: &str, printed: fn(&[u8]) -> String) -> String {
+    let folder = at("crates/texts/data");
+    let line = |name: &str| format!("{name}\n{}", printed(&read(format!("{folder}/{name}")).unwrap()));
+    read_to_string(format!("{folder}/{list}")).unwrap().lines().map(line).collect()
 }
 
 fn answer(what: &str) -> String {
@@ -88,15 +101,23 @@ fn answer(what: &str) -> String {
             assert_eq!(bookings.len(), records.len(), "the data file has other bookings than the vectors");
             bookings.iter().zip(records).map(|(b, r)| stepped(b, r)).collect()
         }
-        "texts" => {
-            let names = read_to_string(at("crates/texts/data/list.txt")).unwrap();
-            let line = |n: &str| format!("{n}\n{}", text::printed(&read(at(&format!("crates/texts/data/{n}"))).unwrap()));
-            names.lines().map(line).collect()
+        "texts" => texts("list.txt", text::printed) + &texts("logs.txt", tally::printed),
+        "logs" => {
+            let (logs, records) = (logs_of(&data(what)), records(TALLIES));
+            let records = records.get("records").list();
+            assert_eq!(logs.len(), records.len(), "the data file has other logs than the vectors");
+            logs.iter().zip(records).map(|(log, r)| tallied(log, r)).collect()
         }
         "parts" => by_hand::part_lines(),
         "patterns" => by_hand::pattern_lines(),
-        _ => panic!("calls, runs, steps, texts, parts or patterns"),
+        _ => panic!("calls, runs, steps, texts, logs, parts or patterns"),
     }
+}
+
+fn input() -> Vec<u8> {
+    let mut bytes = vec![];
+    std::io::stdin().read_to_end(&mut bytes).unwrap();
+    bytes
 }
 
 fn work() {
@@ -106,12 +127,9 @@ fn work() {
         ["make", what] => make(what),
         ["show", what] => show(what).into(),
         ["answer", what] => answer(what).into(),
-        ["text"] => {
-            let mut bytes = vec![];
-            std::io::stdin().read_to_end(&mut bytes).unwrap();
-            text::printed(&bytes).into()
-        }
-        _ => panic!("vectors make|show|answer WHAT, or vectors text"),
+        ["text"] => text::printed(&input()).into(),
+        ["tally"] => tally::printed(&input()).into(),
+        _ => panic!("vectors make|show|answer WHAT, vectors text, or vectors tally"),
     };
     // a reader may stop early
     std::io::stdout().write_all(&out).ok();
