@@ -10,9 +10,14 @@ use Rattle.signature.specs.Part.{part-call, part-signature}
 use Rattle.signature.specs.Read.{read-signature}
 use Rattle.signature.specs.Signature.{Signature}
 use Rattle.table.specs.Demand1.{FirstOf, Under, Broken, part-refusals}
-use Rattle.bellgantlet.specs.SingleWalk.{stepped-number, check-refusals, SingleWalk}
+use Rattle.bellgantlet.specs.SingleWalk.{stepped-number, check-refusals, FirstChecked, all-answered, turned-down, broken-tree, next-checked, SingleWalk}
 use Rattle.stepping.proofs.Laws.{laws}
 use Rattle.table.proofs.Demand1Facts.{demand-1}
+use Rattle.charges.specs.Charge.{Charge}
+use Rattle.charges.specs.Laws.{FirstRun, none-refused, refused-here, refused-later}
+use Rattle.charges.proofs.Laws as charges-laws
+use Rattle.tree.specs.Answer.{Answer}
+use Rattle.tree.specs.RunCall.{RunCall}
 
 -- no words are no booking
 no-words : (ss bs : List ℕ) → length bs ≤ 0 → part-call ss bs 0 .0 ≡ 16 → ⊥
@@ -56,10 +61,28 @@ module _ {U B : Type 0} (n : ℕ) where
   between m (inr (h, inr (c, inr (d, inr (b, e))))) (inr (k, inl (x, f))) = absurd (b x)
   between m (inr (h, inr (c, inr (d, inr (b, e))))) (inr (k, inr (x, f))) = inl (e ∙ sym f)
 
+walked : (ss tree bs : List ℕ) (number : ℕ) (a : Answer) → RunCall ss tree bs number a → (number ≡ stepped-number ss bs) ⊎ ((stepped-number ss bs ≡ 0) × (number ≡ 15))
+walked ss tree bs number a c = behind (stepped-number ss bs) (Under ss (λ sig. Broken sig tree bs)) 15 number (demand-1 .run ss tree bs number a c .0) (refusals ss bs)
+
+-- a list of bookings, by their single runs
+checked : (ss tree : List ℕ) {cs : List Charge} {n : ℕ} → FirstRun ss tree cs n → FirstChecked ss cs n
+checked ss tree none-refused = all-answered
+checked ss tree (refused-here {c = c} {cs = cs} {n = n} {a = a} r f) = go (walked ss tree (c .booking) n a r)
+  where
+    go : (n ≡ stepped-number ss (c .booking)) ⊎ ((stepped-number ss (c .booking) ≡ 0) × (n ≡ 15)) → FirstChecked ss (c ∷ cs) n
+    go (inl e) = turned-down e f
+    go (inr (z, e)) = subst (FirstChecked ss (c ∷ cs)) (sym e) (broken-tree z)
+checked ss tree (refused-later {c = c} {a = a} r rs) = next-checked (go (walked ss tree (c .booking) 0 a r)) (checked ss tree rs)
+  where
+    go : (0 ≡ stepped-number ss (c .booking)) ⊎ ((stepped-number ss (c .booking) ≡ 0) × (_≡_ {A = ℕ} 0 15)) → stepped-number ss (c .booking) ≡ 0
+    go (inl e) = sym e
+    go (inr (z, e)) = z
+
 pub single-walk : SingleWalk
 single-walk = record {
   refusals = refusals;
   part = λ ss bs place. behind (stepped-number ss bs) (length bs ≤ place) 16 (part-call ss bs place .0) (demand-1 .part ss bs place .0) (refusals ss bs);
-  run = λ ss tree bs number a c. behind (stepped-number ss bs) (Under ss (λ sig. Broken sig tree bs)) 15 number (demand-1 .run ss tree bs number a c .0) (refusals ss bs);
+  run = walked;
   decide = λ ss table bs number a c. between (stepped-number ss bs) number (demand-1 .decide ss table bs number a c .0) (refusals ss bs);
+  replan = λ ss tree before sig cs s w number changed after h. checked ss tree (charges-laws.laws .runs ss tree before sig cs s w number changed after h);
 }

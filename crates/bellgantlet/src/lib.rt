@@ -11,6 +11,7 @@ use entering::enter::enter;
 use entry::sound::Entry;
 use gap::gap;
 use pattern::limits::VARIABLES;
+use replanning::replan;
 use run::run;
 use signature::refusals::SHARED;
 use stepping::begin::begin;
@@ -24,6 +25,7 @@ ghost use Rattle.table.specs.Limits.{limits};
 ghost use Rattle.table.specs.Calls.{Empty, Enter, Withdraw, SetDefault, Compile, DecideCall};
 ghost use Rattle.table.specs.Gap.{GapCall};
 ghost use Rattle.log.specs.Log.{TallyCall};
+ghost use Rattle.charges.specs.Replan.{ReplanCall};
 ghost use Rattle.bellgantlet.specs.Answers.{entered-of, host-answer, PartCall};
 
 // On 12 the rule that shares a booking and the length of the booking.
@@ -69,6 +71,13 @@ pub struct Tallied {
     pub number: u16,
     pub total: u16,
     pub counts: [u16; RULE_NUMBERS],
+}
+
+// How many plans of open charges changed.
+#[repr(C)]
+pub struct Replanned {
+    pub number: u16,
+    pub changed: u16,
 }
 
 #[no_mangle]
@@ -228,5 +237,20 @@ pub extern "C" fn bellgantlet_tally(log: &[u16]) -> Tallied
         number: t.number,
         total: t.total,
         counts: counts,
+    }
+}
+
+#[no_mangle]
+pub extern "C" fn bellgantlet_replan(
+    signature: &[u16],
+    tree: &[u16],
+    charges: &mut [u16],
+) -> Replanned
+    ensures { λ r. ⌜ ReplanCall (now (signature .entry)) (now (tree .entry)) (now (charges .entry)) (r .number) (r .changed) (now (charges .exit)) ⌝ }
+{
+    let r = replan(signature, tree, charges);
+    Replanned {
+        number: r.number,
+        changed: r.changed,
     }
 }

@@ -36,3 +36,5 @@ pub const FORMAT_BROKEN: u16 = 17;
 pub const RANGE_WRONG: u16 = 18;
 
 pub const LOG_BEYOND: u16 = 19;
+
+pub const CHARGES_MALFORMED: u16 = 20;

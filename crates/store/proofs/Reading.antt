@@ -1,15 +1,17 @@
 -- The layout of a table, read rule by rule.
-use mathlib.Core.Path.{_≡_, refl, ap, ap₂, _∙_}
+use mathlib.Core.Path.{_≡_, refl, sym, ap, ap₂, _∙_}
 use mathlib.Core.List.{List, [], _∷_}
 use mathlib.Core.Option.{Option, none, some}
 use mathlib.Core.Bool.{Bool, true, false, _&&_}
 use Prim.Native.Nat.{ℕ, zero, suc, _+_, _-_, _≤_, _<_}
+use native.Mathlib.Numerals.{add-one}
 use native.Mathlib.Omega.{arith}
 use lib.Dec.{eqb, ltb, leb}
 use lib.ListN.{length, getD, take, drop, length-drop, drop-of-length-le}
-use lib.Seq.{length-take-le, drop-cons, getD-take, drop-drop}
-use Rattle.signature.specs.Lists.{all, require, split, is-some, _>>=_}
+use lib.Seq.{length-take-le, take-nil, drop-cons, getD-take, drop-drop}
+use Rattle.signature.specs.Lists.{all, require, is-some, _>>=_}
 use Rattle.signature.proofs.ListFacts.{split-none, split-some}
+use Rattle.signature.proofs.Members.{some-when}
 use Rattle.signature.proofs.Booleans.{and-false}
 use Rattle.signature.proofs.Tests.{eqb-no, ltb-yes, ltb-no, leb-yes, leb-no}
 use Rattle.tree.specs.Limits.{last-number}
@@ -22,10 +24,6 @@ use Rattle.store.specs.Laid.{laid}
 is-some-on : {A B : Type 0} (o : Option A) (f : A → B) → is-some (o >>= λ a. some (f a)) ≡ is-some o
 is-some-on none f = refl
 is-some-on (some a) f = refl
-
-is-required : {A : Type 0} (b : Bool) (a : A) → is-some (require b >>= λ u. some a) ≡ b
-is-required true a = refl
-is-required false a = refl
 
 -- one rule
 
@@ -52,7 +50,29 @@ module _ (n m a b l : ℕ) (ws : List ℕ) where
   one-more : m < a → a ≤ last-number → l ≤ length ws → is-some (read-rules (suc n) m (a ∷ (b ∷ (l ∷ ws)))) ≡ is-some (read-rules n a (drop l ws))
   one-more h k f = rw (ltb-yes m a h, leb-yes a last-number k, split-some l ws f) (is-some-on (read-rules n a (drop l ws)) _)
 
+-- zeros, one word after the other
+module _ (ws : List ℕ) (i : ℕ) where
+  pub zero-not : i < length ws → 0 < getD ws i 0 → all (λ w. eqb w 0) (drop i ws) ≡ false
+  zero-not l h = ap (all (λ w. eqb w 0)) (drop-cons ws i 0 l) ∙ rw (eqb-no (getD ws i 0) 0 (λ e. omega arith))
+
+  pub zero-on : i < length ws → getD ws i 0 ≤ 0 → all (λ w. eqb w 0) (drop i ws) ≡ all (λ w. eqb w 0) (drop (i + 1) ws)
+  zero-on l h =
+      let z : getD ws i 0 ≡ 0 = omega arith in
+      ap (all (λ w. eqb w 0)) (drop-cons ws i 0 l) ∙ rw (z, add-one i)
+
+  pub zero-end : length ws ≤ i → all (λ w. eqb w 0) (drop i ws) ≡ true
+  zero-end l = ap (all (λ w. eqb w 0)) (drop-of-length-le ws l)
+
 -- the words of a table
+drop-take : (m n : ℕ) (ws : List ℕ) → drop m (take n ws) ≡ take (n - m) (drop m ws)
+drop-take zero zero ws = refl
+drop-take zero (suc n) ws = let z : suc n - 0 ≡ suc n = omega arith in rw z
+drop-take (suc m) zero ws = let z : 0 - suc m ≡ 0 = omega arith in rw z
+drop-take (suc m) (suc n) [] = let z : suc n - suc m ≡ n - m = omega arith in rw (z, take-nil {A = ℕ} (n - m))
+drop-take (suc m) (suc n) (w ∷ ws) = let z : suc n - suc m ≡ n - m = omega arith in rw z (drop-take m n ws)
+
+pub part-from : (t : List ℕ) (at : ℕ) → take (table-length limits - at) (drop at t) ≡ from t at
+part-from t at = sym (drop-take at (table-length limits) t)
 
 module _ (t : List ℕ) (long : table-length limits ≤ length t) where
   from-length : (at : ℕ) → length (from t at) ≡ table-length limits - at
@@ -68,20 +88,6 @@ module _ (t : List ℕ) (long : table-length limits ≤ length t) where
       let two : at + 1 + 1 ≡ at + 2 = omega arith in
       let three : at + 2 + 1 ≡ at + 3 = omega arith in
       from-cons at (omega arith) ∙ ap (λ (x : List ℕ). getD t at 0 ∷ x) (from-cons (at + 1) (omega arith) ∙ ap (λ (x : List ℕ). getD t (at + 1) 0 ∷ x) (ap (from t) two ∙ from-cons (at + 2) (omega arith) ∙ ap (λ (n : ℕ). getD t (at + 2) 0 ∷ from t n) three))
-
-  -- zeros up to the end
-  pub zero-not : (at : ℕ) → at < (table-length limits) → 0 < getD t at 0 → all (λ w. eqb w 0) (from t at) ≡ false
-  zero-not at l h = ap (all (λ w. eqb w 0)) (from-cons at l) ∙ (rw (eqb-no (getD t at 0) 0 (λ e. omega arith)))
-
-  pub zero-on : (at : ℕ) → at < (table-length limits) → getD t at 0 ≤ 0 → all (λ w. eqb w 0) (from t at) ≡ all (λ w. eqb w 0) (from t (at + 1))
-  zero-on at l h =
-      let z : getD t at 0 ≡ 0 = omega arith in
-      ap (all (λ w. eqb w 0)) (from-cons at l) ∙ (rw z)
-
-  pub zero-end : (at : ℕ) → table-length limits ≤ at → all (λ w. eqb w 0) (from t at) ≡ true
-  zero-end at l =
-      let n : length (take (table-length limits) t) ≤ at = omega (arith, length-take-le (table-length limits) t long) in
-      ap (all (λ w. eqb w 0)) (drop-of-length-le (take (table-length limits) t) n)
 
   -- the rule at an index
   module _ (at m n : ℕ) where
@@ -128,4 +134,4 @@ laid-broken t n i m at l e f =
 pub laid-end : (t : List ℕ) (n i m at : ℕ) → n ≤ i → is-some (laid limits t) ≡ is-some (read-rules (n - i) m (from t at)) → is-some (laid limits t) ≡ all (λ w. eqb w 0) (from t at)
 laid-end t n i m at l e =
     let z : n - i ≡ 0 = omega arith in
-    e ∙ ap (λ (j : ℕ). is-some (read-rules j m (from t at))) z ∙ is-required (all (λ w. eqb w 0) (from t at)) []
+    e ∙ ap (λ (j : ℕ). is-some (read-rules j m (from t at))) z ∙ some-when (all (λ w. eqb w 0) (from t at)) []

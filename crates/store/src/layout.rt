@@ -7,7 +7,7 @@ ghost use lib.ListN.{length};
 ghost use lib.Dec.{eqb};
 ghost use Rattle.signature.specs.Lists.{all, is-some};
 ghost use Rattle.table.specs.Limits.{limits, table-length};
-ghost use Rattle.store.specs.Head.{HeadAt, from};
+ghost use Rattle.store.specs.Head.{HeadAt};
 ghost use Rattle.store.specs.Laid.{laid};
 
 // The rules that a table may hold; where its default plan and its first rule stand; the words before a rule's pattern: number, plan, pattern length.
@@ -58,14 +58,13 @@ fn rule_from(table: &[u16], at: usize, last: u16) -> Head
     Head::At(number, from + len)
 }
 
-// Whether zeros stand from an index up to the table's end.
-fn zeros(table: &[u16], at: usize) -> bool
-    requires { ⌜ (table-length limits ≤ length (now table)) × (at ≤ table-length limits) ⌝ }
-    ensures { λ r. ⌜ r ≡ all (λ w. eqb w 0) (from (now (table .entry)) at) ⌝ }
+// Whether every word is 0.
+pub fn zeros(w: &[u16]) -> bool
+    ensures { λ r. ⌜ r ≡ all (λ x. eqb x 0) (now (w .entry)) ⌝ }
 {
-    let mut i = at;
-    while i < TABLE {
-        if table[i] > 0 {
+    let mut i = 0;
+    while i < w.len() {
+        if w[i] > 0 {
             return false;
         }
         i += 1;
@@ -93,5 +92,5 @@ pub fn layout(table: &[u16]) -> bool
         at = end;
         i += 1;
     }
-    zeros(table, at)
+    zeros(&table[at..TABLE])
 }

@@ -1,14 +1,15 @@
 -- `store::layout::layout` meets its contract. Assumes nothing.
-use mathlib.Core.Path.{_≡_, subst, sym, _∙_}
+use mathlib.Core.Path.{_≡_, subst, sym, ap, _∙_}
 use Prim.Native.Nat.{_-_, _≤_}
 use native.Mathlib.Omega.{arith}
+use lib.Dec.{eqb}
 use borrow.Author.Needs.{needs}
-use Rattle.signature.specs.Lists.{is-some}
+use Rattle.signature.specs.Lists.{all, is-some}
 use Rattle.table.specs.Limits.{limits, table-length}
 use Rattle.table.specs.Sound.{read-rules}
 use Rattle.store.specs.Head.{HeadAt, from}
 use Rattle.store.specs.Laid.{laid}
-use Rattle.store.proofs.Reading.{laid-over, laid-start, laid-on, laid-broken, laid-end}
+use Rattle.store.proofs.Reading.{laid-over, laid-start, laid-on, laid-broken, laid-end, part-from}
 use Rattle.store.proofs.layout.layout.Statement.{statement}
 use Rattle.store.proofs.layout.layout.Tie as tie
 
@@ -39,5 +40,9 @@ layout-spec =
     (λ c. let l = c .before .before .before .before .before in let t = entry l .args .table .now in
     let q = subst (HeadAt t (l .loop .at) (l .loop .last)) (c .before .number .given .1) (c .before .before .before .rule-from .ensures) in
     (q .1, laid-on t _ (l .loop .i) (l .loop .last) (c .before .number .given .0 .0) (l .loop .at) (c .before .number .given .0 .1 .0) (c .before .before .before .before .loop-test .taken) (l .loop .inv .1) (q .2)))
-    (λ c κs. let l = c .before in (entry l .pre, l .loop .inv .0))
-    (λ c. let l = c .before .before in sym (laid-end (entry l .args .table .now) _ (l .loop .i) (l .loop .last) (l .loop .at) (c .before .loop-test .left) (l .loop .inv .1) ∙ sym (c .zeros .ensures))))
+    (λ c. omega arith)
+    (λ c. c .before .loop .inv .0)
+    (λ c. search needs)
+    (λ c. search needs)
+    (λ c κs. search needs)
+    (λ c. let l = c .before .before .before in let t = entry l .args .table .now in c .zeros .ensures ∙ ap (all (λ w. eqb w 0)) (part-from t (l .loop .at)) ∙ sym (laid-end t _ (l .loop .i) (l .loop .last) (l .loop .at) (c .before .before .loop-test .left) (l .loop .inv .1))))

@@ -1,0 +1,5 @@
+pub mod Limits
+pub mod Charge
+pub mod Replan
+pub mod Laws
+pub mod Cases
