@@ -1,6 +1,7 @@
 /* A host in C: Case T of 01, every call once, and what was refused. Prints nothing but what it was answered. */
 #include "bellgantlet.h"
 #include <stdio.h>
+#include <string.h>
 
 #define N(a) (sizeof(a) / sizeof((a)[0]))
 
@@ -67,12 +68,26 @@ static void tally(const uint16_t *log, size_t n)
     printf("total=%u\n", t.total);
 }
 
+/* Open charges answered again by the tree in the space, and their records. */
+static void replan(uint16_t *charges, size_t n, size_t tree)
+{
+    bellgantlet_replanned r = bellgantlet_replan(signature, N(signature), space, tree, charges, n);
+    printf("replan: %u, %u changed. %s\n", r.number, r.changed, bellgantlet_refusal_text(r.number));
+    for (size_t at = 0; at + BELLGANTLET_CHARGE <= n; at += BELLGANTLET_CHARGE) {
+        printf("rule %u, plan %u, booking", charges[at], charges[at + 1]);
+        for (size_t i = 0; i < charges[at + 2] && i < BELLGANTLET_CHARGE_BOOKING; i++)
+            printf(" %u", charges[at + 3 + i]);
+        printf("\n");
+    }
+}
+
 int main(void)
 {
     static const uint16_t seven[] = {0, 1, 261}, nine[] = {0, 260, 1, 5}, other[] = {0, 258, 4}, left[] = {0, 1, 5};
     static const uint16_t bookings[][3] = {{0, 1, 5}, {0, 2, 5}, {0, 3, 4}, {0, 1, 1}};
     static uint16_t log[BELLGANTLET_LOG + 1];
-    size_t logged = 0;
+    static uint16_t charges[BELLGANTLET_CHARGES * BELLGANTLET_CHARGE];
+    size_t logged = 0, plugged = 0;
     bellgantlet_answer a;
     bellgantlet_tree t;
     bellgantlet_part_at p;
@@ -92,8 +107,12 @@ int main(void)
     for (size_t i = 0; i < N(bookings); i++) {
         a = bellgantlet_run(signature, N(signature), space, t.length, bookings[i], 3);
         show("run", a);
-        if (a.number == BELLGANTLET_DONE)
+        if (a.number == BELLGANTLET_DONE) {
+            uint16_t record[BELLGANTLET_CHARGE] = {a.rule, a.plan, 3, bookings[i][0], bookings[i][1], bookings[i][2]};
+            memcpy(charges + plugged, record, sizeof record);
+            plugged += BELLGANTLET_CHARGE;
             log[logged++] = a.rule;
+        }
         show("decide", bellgantlet_decide(signature, N(signature), table, N(table), bookings[i], 3));
     }
     printf("set default 2: %u\n", bellgantlet_set_default(signature, N(signature), 2, table, N(table)));
@@ -123,5 +142,13 @@ int main(void)
     tally(log, N(log));
     log[logged++] = 1000;
     tally(log, logged);
+    /* the rules and the default are others than those that the open charges were answered by */
+    t = bellgantlet_compile(signature, N(signature), table, N(table), space, N(space));
+    replan(charges, plugged, t.length);
+    replan(charges, plugged, t.length);
+    replan(charges, 0, 0);
+    replan(charges, BELLGANTLET_CHARGE, 0);
+    charges[2] = 2;
+    replan(charges, plugged, t.length);
     return 0;
 }

@@ -3,7 +3,7 @@
  * Link target/staticlib/libbellgantlet.a, which `rt staticlib bellgantlet` writes (x86-64 Linux).
  *
  * Words are 16 bits. A slice is a pointer and a number of words; the pointer is not null, also where the number is 0.
- * What a call writes (table, witness, space, check) must not overlap anything else that the same call is lent. No call
+ * What a call writes (table, witness, space, check, charges) must not overlap anything else that the same call is lent. No call
  * keeps a pointer, allocates, or fails otherwise than by its number; each is defined on every content of what it is lent.
  * A call may run at the same time as any other that does not write what it is lent.
  *
@@ -26,8 +26,8 @@
 extern "C" {
 #endif
 
-#define BELLGANTLET_VERSION "0.7.0"
-#define BELLGANTLET_VERSION_NUMBER 700  /* 10,000 times the first number, 100 times the second, the third */
+#define BELLGANTLET_VERSION "0.8.0"
+#define BELLGANTLET_VERSION_NUMBER 800  /* 10,000 times the first number, 100 times the second, the third */
 
 enum {
     BELLGANTLET_SIGNATURE = 1533,   /* the most words of a lawful signature: 255 constructors with four arguments, one without */
@@ -40,6 +40,9 @@ enum {
     BELLGANTLET_LAST_RULE = 999,    /* rules are numbered from 1 */
     BELLGANTLET_RULE_NUMBERS = 1000, /* these, and the default as rule 0 */
     BELLGANTLET_LOG = 4096,         /* the most entries of a log */
+    BELLGANTLET_CHARGES = 48,       /* the most records of a list of open charges */
+    BELLGANTLET_CHARGE = 64,        /* the words of a record: rule, plan, booking length, booking, zeros */
+    BELLGANTLET_CHARGE_BOOKING = 61, /* the most words of a booking in a record */
     BELLGANTLET_VARIABLES = 16,
     BELLGANTLET_LEVEL = 1000,       /* the word of level 0 at a number kind; of level n it is n more */
     BELLGANTLET_LAST_LEVEL = 100,
@@ -61,6 +64,7 @@ enum {
     BELLGANTLET_STACK_CHECK_STEP = 4096,
     BELLGANTLET_STACK_CHECK_END = 4096,
     BELLGANTLET_STACK_TALLY = 8192,
+    BELLGANTLET_STACK_REPLAN = 16384,
     BELLGANTLET_STACK_ANY = 2228224     /* the most of all calls */
 };
 
@@ -84,7 +88,8 @@ enum {
     BELLGANTLET_TREE_BROKEN = 15,
     BELLGANTLET_PLACE_OUTSIDE = 16,
     BELLGANTLET_RANGE_WRONG = 18,   /* in checking order directly after 7 */
-    BELLGANTLET_LOG_BEYOND = 19
+    BELLGANTLET_LOG_BEYOND = 19,
+    BELLGANTLET_CHARGES_MALFORMED = 20
 };
 
 /* What a number means, for a planner. */
@@ -110,6 +115,7 @@ static inline const char *bellgantlet_refusal_text(uint16_t number)
     case BELLGANTLET_PLACE_OUTSIDE: return "The place is not below the booking's length.";
     case BELLGANTLET_RANGE_WRONG: return "The low of a range exceeds its high, or its high exceeds 100.";
     case BELLGANTLET_LOG_BEYOND: return "A log entry is above 999, or the log has over 4,096 entries.";
+    case BELLGANTLET_CHARGES_MALFORMED: return "The list of open charges has over 48 records, a part of one, a booking length outside 1 to 61, or a word not zero behind it.";
     default: return "The call is refused.";
     }
 }
@@ -156,6 +162,12 @@ typedef struct {
     uint16_t total;
     uint16_t counts[BELLGANTLET_RULE_NUMBERS];
 } bellgantlet_tallied;
+
+/* What replan answers: of how many open charges the plan changed, 0 on a refusal. */
+typedef struct {
+    uint16_t number;
+    uint16_t changed;
+} bellgantlet_replanned;
 
 /* What a check of a booking keeps between two of its words, by index:
  *   0           the number: 0, or 1 or 13 once it is certain
@@ -251,6 +263,17 @@ uint16_t bellgantlet_check_end(const bellgantlet_check *check);
 /* Counts how often each rule stands in a log, such as that of a day: an entry is the rule of an answer, 0 where no rule took the
  * booking. The log may be empty, and its rules need not be held anywhere: no table is read. Refusals: 19. */
 bellgantlet_tallied bellgantlet_tally(const uint16_t *log, size_t log_length);
+
+/* Answers the bookings of all open charges again, over a new tree: rule and plan of each record become those that run gives for
+ * its booking, 0 and the tree's default plan where no rule takes it, and every other word stays. A record has 64 words: rule,
+ * plan, the booking's length from 1 to 61, the booking, zeros. What stood for rule and plan before does not matter; a charge
+ * whose rule changes and whose plan does not is written and not counted. The list may be empty. On a refusal every word stays.
+ * Refusals: 1; 20 where the list has over 48 records, a part of one, or a record of another form; then record by record 13 and
+ * 15, so that 15 of one comes before 13 of the next. */
+bellgantlet_replanned bellgantlet_replan(
+    const uint16_t *signature, size_t signature_words,
+    const uint16_t *tree, size_t tree_words,
+    uint16_t *charges, size_t charges_words);
 
 #ifdef __cplusplus
 }

@@ -1,17 +1,20 @@
 //! Which charging plan does a booking get? A safe wrapper of the proved library.
 //!
 //! A [`Signature`] is checked once; a [`Table`] is always sound under its signature; a [`Tree`] keeps the signature that it
-//! was compiled under. So of the refusals of 01 a call can give only those that its arguments can still cause.
+//! was compiled under; [`OpenCharges`] are never malformed. So of the refusals of 01 and 02 a call can give only those that its
+//! arguments can still cause.
 //!
 //! The calls take what they need of the caller's stack, up to [`stack::ENTER`] and its like: a thread that calls is
 //! started with that much, and with what the thread itself needs.
 
+mod charges;
 mod entered;
 pub mod raw;
 mod refusal;
 pub mod stack;
 mod tally;
 
+pub use charges::{Charge, NotPluggedIn, OpenCharges};
 pub use entered::NotEntered;
 pub use refusal::Refusal;
 pub use tally::{tally, Tally};
@@ -41,6 +44,12 @@ pub const LAST_RULE: u16 = 999;
 pub const RULE_NUMBERS: usize = 1000;
 /// The most entries of a log.
 pub const LOG: usize = 4096;
+/// The most records of a list of open charges.
+pub const CHARGES: usize = 48;
+/// Words of a record: rule, plan, booking length, booking, zeros.
+pub const CHARGE: usize = 64;
+/// The most words of a booking in a record.
+pub const CHARGE_BOOKING: usize = 61;
 /// Variables are numbered from 0.
 pub const VARIABLES: usize = 16;
 /// The word of level 0 at a number kind; of level n it is n more.
@@ -295,6 +304,17 @@ impl Tree {
     /// with [`Refusal::BookingUnlawful`] alone.
     pub fn run(&self, booking: &[u16]) -> Result<Answer, Refusal> {
         Answer::of(raw::run(&self.signature.0, &self.words, booking))
+    }
+
+    /// The bookings of all open charges answered again, as [`Tree::run`] answers each: rule and plan of a charge become the new
+    /// ones, its booking stays. Gives how many plans changed. Where one booking is refused, as `run` refuses it, all charges are as
+    /// they were. Takes up to [`stack::REPLAN`] bytes.
+    pub fn replan(&self, charges: &mut OpenCharges) -> Result<usize, Refusal> {
+        let r = raw::replan(&self.signature.0, &self.words, charges.words_mut());
+        match r.number {
+            0 => Ok(r.changed.into()),
+            n => Err(Refusal::of(n)),
+        }
     }
 }
 

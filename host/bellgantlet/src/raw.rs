@@ -55,6 +55,14 @@ pub struct Tallied {
     pub counts: [u16; RULE_NUMBERS],
 }
 
+/// Of how many open charges the plan changed, 0 on a refusal.
+#[repr(C)]
+#[derive(Clone, Copy, Debug, PartialEq, Eq)]
+pub struct Replanned {
+    pub number: u16,
+    pub changed: u16,
+}
+
 /// What a check of a booking keeps between two of its words; the header has what stands where.
 #[repr(C)]
 #[derive(Clone, Debug, PartialEq, Eq)]
@@ -123,6 +131,14 @@ mod link {
         pub fn bellgantlet_check_step(signature: *const u16, signature_n: usize, check: *mut Check, word: u16) -> u16;
         pub fn bellgantlet_check_end(check: *const Check) -> u16;
         pub fn bellgantlet_tally(log: *const u16, log_n: usize) -> Tallied;
+        pub fn bellgantlet_replan(
+            signature: *const u16,
+            signature_n: usize,
+            tree: *const u16,
+            tree_n: usize,
+            charges: *mut u16,
+            charges_n: usize,
+        ) -> Replanned;
     }
 }
 
@@ -198,4 +214,10 @@ pub fn check_end(check: &Check) -> u16 {
 
 pub fn tally(log: &[u16]) -> Tallied {
     unsafe { link::bellgantlet_tally(log.as_ptr(), log.len()) }
+}
+
+pub fn replan(signature: &[u16], tree: &[u16], charges: &mut [u16]) -> Replanned {
+    unsafe {
+        link::bellgantlet_replan(signature.as_ptr(), signature.len(), tree.as_ptr(), tree.len(), charges.as_mut_ptr(), charges.len())
+    }
 }

@@ -52,6 +52,7 @@ refusals! {
     PlaceOutside = 16: "The place is not below the booking's length.",
     RangeWrong = 18: "The low of a range exceeds its high, or its high exceeds 100.",
     LogBeyond = 19: "A log entry is above 999, or the log has over 4,096 entries.",
+    ChargesMalformed = 20: "The list of open charges has over 48 records, a part of one, a booking length outside 1 to 61, or a word not zero behind it.",
 }
 
 impl fmt::Display for Refusal {

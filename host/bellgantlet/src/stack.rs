@@ -16,5 +16,6 @@ pub const CHECK_BEGIN: usize = 8 << 10;
 pub const CHECK_STEP: usize = 4 << 10;
 pub const CHECK_END: usize = 4 << 10;
 pub const TALLY: usize = 8 << 10;
+pub const REPLAN: usize = 16 << 10;
 /// The most of all calls.
 pub const ANY: usize = COMPILE;

@@ -145,7 +145,7 @@ fn functions(text: &str, mark: &str, end: &str, structs: &Structs) -> Calls {
 #[test]
 fn the_same_calls() {
     let header = of_header();
-    assert_eq!(header.len(), 13);
+    assert_eq!(header.len(), 14);
     let (link, _) = between(RAW, "extern \"C\" {", "\n    }");
     assert_eq!(functions(link, "pub fn ", ";", &structs(RAW)), header);
     assert_eq!(functions(EXPORTED, "pub extern \"C\" fn ", "\n", &structs(EXPORTED)), header);
@@ -182,6 +182,9 @@ fn the_same_constants() {
         ("LAST_RULE", LAST_RULE as usize),
         ("RULE_NUMBERS", RULE_NUMBERS),
         ("LOG", LOG),
+        ("CHARGES", CHARGES),
+        ("CHARGE", CHARGE),
+        ("CHARGE_BOOKING", CHARGE_BOOKING),
         ("VARIABLES", VARIABLES),
         ("LEVEL", LEVEL as usize),
         ("LAST_LEVEL", LAST_LEVEL as usize),
@@ -199,6 +202,7 @@ fn the_same_constants() {
         ("STACK_CHECK_STEP", stack::CHECK_STEP),
         ("STACK_CHECK_END", stack::CHECK_END),
         ("STACK_TALLY", stack::TALLY),
+        ("STACK_REPLAN", stack::REPLAN),
         ("STACK_ANY", stack::ANY),
         ("DONE", 0),
     ];
@@ -242,6 +246,7 @@ fn the_readme_has_the_stacks() {
         ("check_step", stack::CHECK_STEP),
         ("check_end", stack::CHECK_END),
         ("tally", stack::TALLY),
+        ("replan", stack::REPLAN),
     ];
     for (call, bytes) in calls {
         assert!(README.contains(&format!("| {call} | {} | `BELLGANTLET_STACK_", written(bytes))), "{call}");

@@ -36,7 +36,7 @@ fn with_stack(f: fn()) {
 #[test]
 fn refusals_have_their_numbers() {
     // 17 is of texts alone
-    let numbers: Vec<u16> = (1..=16).chain([18, 19]).collect();
+    let numbers: Vec<u16> = (1..=16).chain([18, 19, 20]).collect();
     assert_eq!(Refusal::ALL.iter().map(|r| r.number()).collect::<Vec<_>>(), numbers);
     for r in Refusal::ALL {
         assert!(r.to_string().ends_with(&format!("({})", r.number())));
@@ -403,6 +403,149 @@ fn tallies_at_the_limits() {
     let refused = raw::Tallied { number: 19, total: 0, counts: [0; RULE_NUMBERS] };
     assert_eq!((raw::tally(&[7, 7, 1000]), raw::tally(&[7; LOG + 1])), (refused.clone(), refused));
     assert_eq!(std::mem::size_of::<raw::Tallied>(), 2 * (2 + RULE_NUMBERS));
+}
+
+/// Buses on the plug, while a rule is withdrawn and another entered.
+#[test]
+fn open_charges() {
+    with_stack(open_charges_here);
+}
+
+/// What a charge has: its rule, 0 for none, its plan and its booking.
+fn seen(charges: &OpenCharges) -> Vec<(u16, u16, Vec<u16>)> {
+    charges.iter().map(|c| (c.rule().map_or(0, RuleNumber::get), c.plan(), c.booking().to_vec())).collect()
+}
+
+fn open_charges_here() {
+    let mut table = table();
+    let tree = table.compile().unwrap();
+    let mut charges = OpenCharges::new();
+    for b in [[0, 1, 5], [0, 2, 5], [0, 3, 4], [0, 3, 5]] {
+        charges.plug_in(&tree.run(&b).unwrap(), &b).unwrap();
+    }
+    let bookings = |b: [(u16, u16, [u16; 3]); 4]| b.map(|(rule, plan, words)| (rule, plan, words.to_vec())).to_vec();
+    assert_eq!(seen(&charges), bookings([(7, 40, [0, 1, 5]), (9, 41, [0, 2, 5]), (0, 1, [0, 3, 4]), (9, 41, [0, 3, 5])]));
+    assert_eq!((charges.len(), charges.is_empty(), charges.words().len()), (4, false, 4 * CHARGE));
+    assert_eq!(charges.get(0).unwrap().to_string(), "rule 7, plan 40");
+    assert_eq!(charges.get(2).unwrap().to_string(), "no rule, plan 1");
+    assert_eq!(charges.get(4), None);
+    // by the tree that answered them nothing changes
+    let before = charges.clone();
+    assert_eq!(tree.replan(&mut charges), Ok(0));
+    assert_eq!(charges, before);
+    // rule 9 goes; rule 5 takes some of its bookings, with its plan; 0 3 4 gets a rule and keeps its plan
+    table.withdraw(rule(9)).unwrap();
+    table.enter(rule(5), 41, &[0, 2, 258]).unwrap();
+    table.enter(rule(6), 1, &[0, 3, 4]).unwrap();
+    let new = table.compile().unwrap();
+    assert_eq!(new.replan(&mut charges), Ok(1));
+    assert_eq!(seen(&charges), bookings([(7, 40, [0, 1, 5]), (5, 41, [0, 2, 5]), (6, 1, [0, 3, 4]), (0, 1, [0, 3, 5])]));
+    for c in charges.iter() {
+        let answer = new.run(c.booking()).unwrap();
+        assert_eq!((answer.rule(), answer.plan()), (c.rule(), c.plan()));
+    }
+    assert_eq!(new.replan(&mut charges), Ok(0));
+    // another default plan
+    table.set_default(65535).unwrap();
+    assert_eq!(table.compile().unwrap().replan(&mut charges), Ok(1));
+    assert_eq!(charges.get(3).unwrap().plan(), 65535);
+    // stored, and read again
+    assert_eq!(OpenCharges::from_words(charges.words()).as_ref(), Ok(&charges));
+    // a bus leaves, and those behind it move up
+    assert!(charges.unplug(1) && !charges.unplug(3));
+    assert_eq!(seen(&charges).iter().map(|c| c.0).collect::<Vec<_>>(), [7, 6, 0]);
+    assert!(charges.unplug(2) && charges.unplug(0) && charges.unplug(0) && !charges.unplug(0));
+    assert_eq!((&charges, charges.is_empty()), (&OpenCharges::new(), true));
+    assert_eq!(new.replan(&mut charges), Ok(0));
+}
+
+/// One bad record leaves all charges as they were: an unlawful booking, or a tree that is broken for it.
+#[test]
+fn one_bad_charge() {
+    with_stack(one_bad_charge_here);
+}
+
+fn one_bad_charge_here() {
+    let tree = table().compile().unwrap();
+    let answer = tree.run(&[0, 3, 4]).unwrap();
+    let mut words = tree.words().to_vec();
+    // the leaf of rule 7 has no rule
+    words[12] = 0;
+    let broken = Tree::from_words(table().signature(), &words);
+    let none = Tree::from_words(table().signature(), &[]);
+    let (fine, of_seven, cut) = ([0, 2, 5].as_slice(), [0, 1, 5].as_slice(), [0, 1].as_slice());
+    let cases = [
+        (&tree, vec![fine, cut, fine], Refusal::BookingUnlawful),
+        (&broken, vec![fine, of_seven], Refusal::TreeBroken),
+        (&broken, vec![fine, of_seven, cut], Refusal::TreeBroken),
+        (&broken, vec![fine, cut, of_seven], Refusal::BookingUnlawful),
+        (&none, vec![fine], Refusal::TreeBroken),
+    ];
+    for (tree, bookings, refusal) in cases {
+        let mut charges = OpenCharges::new();
+        bookings.iter().for_each(|b| charges.plug_in(&answer, b).unwrap());
+        let before = charges.clone();
+        assert_eq!(tree.replan(&mut charges), Err(refusal));
+        assert_eq!(charges, before);
+    }
+    assert_eq!(none.replan(&mut OpenCharges::new()), Ok(0));
+    // the first charge alone: its rule and plan are the new ones
+    let mut charges = OpenCharges::new();
+    charges.plug_in(&answer, fine).unwrap();
+    assert_eq!(broken.replan(&mut charges), Ok(1));
+    assert_eq!(seen(&charges), [(9, 41, fine.to_vec())]);
+}
+
+/// 48 charges and no more; bookings of 1 to 61 words; and lists that are read back, malformed ones too.
+#[test]
+fn open_charges_at_the_limits() {
+    let answer = Answer::Default { plan: 1 };
+    let mut charges = OpenCharges::new();
+    assert_eq!(charges.plug_in(&answer, &[]), Err(NotPluggedIn::NoBooking));
+    assert_eq!(charges.plug_in(&answer, &[7; 62]), Err(NotPluggedIn::BookingTooLong));
+    assert_eq!(charges.plug_in(&answer, &[7; 65539]), Err(NotPluggedIn::BookingTooLong));
+    assert_eq!(charges, OpenCharges::new());
+    for n in 0..CHARGES {
+        // a booking of each of many lengths, the longest among them
+        charges.plug_in(&answer, &vec![7; CHARGE_BOOKING - n]).unwrap();
+    }
+    charges.unplug(47);
+    charges.plug_in(&answer, &[8]).unwrap();
+    let full = charges.clone();
+    assert_eq!(charges.plug_in(&answer, &[7]), Err(NotPluggedIn::Full));
+    assert_eq!(charges.plug_in(&answer, &[]), Err(NotPluggedIn::NoBooking));
+    assert_eq!((charges.len(), &charges, charges.words().len()), (CHARGES, &full, CHARGES * CHARGE));
+    assert_eq!(charges.iter().map(|c| c.booking().len()).sum::<usize>(), (15..=61).sum::<usize>() + 1);
+    assert_eq!(OpenCharges::from_words(full.words()), Ok(full.clone()));
+    for e in [NotPluggedIn::NoBooking, NotPluggedIn::BookingTooLong, NotPluggedIn::Full] {
+        assert_eq!((e.refusal(), Refusal::from(e)), (Refusal::ChargesMalformed, Refusal::ChargesMalformed));
+    }
+    assert_eq!(NotPluggedIn::Full.to_string(), "48 charges are open.");
+
+    let malformed = |words: &[u16]| assert_eq!(OpenCharges::from_words(words), Err(Refusal::ChargesMalformed));
+    assert_eq!(OpenCharges::from_words(&[]), Ok(OpenCharges::new()));
+    malformed(&[full.words(), &full.words()[..CHARGE]].concat());
+    malformed(&full.words().repeat(22));
+    let one = &full.words()[..CHARGE];
+    let short = &full.words()[47 * CHARGE..];
+    (1..CHARGE).for_each(|n| malformed(&one[..n]));
+    malformed(&[one, &[0]].concat());
+    for length in [0, 62, 63, 64, 65535] {
+        malformed(&[&short[..2], &[length], &short[3..]].concat());
+    }
+    for at in 4..CHARGE {
+        let mut words = [one, short].concat();
+        words[CHARGE + at] = 1;
+        malformed(&words);
+    }
+    // any rule and plan; a word that is no rule's number is none
+    let odd = OpenCharges::from_words(&[&[1000, 65535], &short[2..]].concat()).unwrap();
+    assert_eq!(seen(&odd), [(0, 65535, vec![8])]);
+    assert_eq!(odd.words()[0], 1000);
+    // on a refusal all but the number is 0
+    let refused = |words: &[u16]| raw::replan(&T, &[0, 1], &mut words.to_vec());
+    assert_eq!((refused(&[7]), refused(short)), (raw::Replanned { number: 20, changed: 0 }, raw::Replanned { number: 13, changed: 0 }));
+    assert_eq!(std::mem::size_of::<raw::Replanned>(), 4);
 }
 
 /// `?` where a refusal is due, and where any error is.

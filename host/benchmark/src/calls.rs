@@ -2,7 +2,7 @@
 use bellgantlet::{raw, stack, TABLE, TREE, WITNESS};
 
 /// The names of the calls and what each is documented to take of the stack.
-pub const CALLS: [(&str, usize); 13] = [
+pub const CALLS: [(&str, usize); 14] = [
     ("part", stack::PART),
     ("run", stack::RUN),
     ("empty", stack::EMPTY),
@@ -16,6 +16,7 @@ pub const CALLS: [(&str, usize); 13] = [
     ("check_step", stack::CHECK_STEP),
     ("check_end", stack::CHECK_END),
     ("tally", stack::TALLY),
+    ("replan", stack::REPLAN),
 ];
 
 #[derive(Clone, Default)]
@@ -32,6 +33,7 @@ pub struct Lent {
     pub check: raw::Check,
     pub word: u16,
     pub log: Vec<u16>,
+    pub charges: Vec<u16>,
 }
 
 impl Lent {
@@ -60,6 +62,7 @@ impl Lent {
             "check_step" => raw::check_step(&l.signature, &mut l.check, l.word),
             "check_end" => raw::check_end(&l.check),
             "tally" => tally(&l.log),
+            "replan" => raw::replan(&l.signature, &l.tree, &mut l.charges).number,
             _ => panic!("no call {call}"),
         }
     }

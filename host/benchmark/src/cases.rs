@@ -1,4 +1,6 @@
 //! The tables that are measured.
+use reference::charges::{list_of, RECORDS, ROOM};
+
 pub struct Case {
     pub name: &'static str,
     pub signature: Vec<u16>,
@@ -242,9 +244,9 @@ pub fn long_grid() -> Case {
     Case { name: "20 constructors, 4,096 words", bookings: vec![booking], ..grid("", 1) }
 }
 
-/// 256 constructors of four kinds, by turns without arguments, with one and with two of the next kinds; a booking of 4,096 words
-/// that has all of them.
-pub fn long_wide() -> Case {
+/// 256 constructors of four kinds, by turns without arguments, with one and with two of the next kinds; bookings that have many of
+/// them.
+fn wide(name: &'static str, bookings: usize, words: usize) -> Case {
     let mut signature = vec![256];
     for c in 0..256u16 {
         let kind = c / 64;
@@ -270,9 +272,26 @@ pub fn long_wide() -> Case {
             }
         }
     }
-    let mut booking = vec![];
-    value(0, 4096, &mut head, &mut booking);
-    Case { name: "256 constructors, 4,096 words", signature, rules: vec![(1, 1, vec![258])], bookings: vec![booking] }
+    let mut booking = || {
+        let mut out = vec![];
+        value(0, words, &mut head, &mut out);
+        out
+    };
+    Case { name, signature, rules: vec![(1, 1, vec![258])], bookings: (0..bookings).map(|_| booking()).collect() }
+}
+
+/// A booking of 4,096 words that has all 256 constructors.
+pub fn long_wide() -> Case {
+    wide("256 constructors, 4,096 words", 1, 4096)
+}
+
+/// Rules that are one chain of so many words each, of two letters and an end; a booking for each.
+pub fn letters(name: &'static str, rules: u16, words: usize) -> Case {
+    let chain = |i: u16| [(0..words - 1).map(|j| if j < 6 { i >> j & 1 } else { 0 }).collect(), vec![2]].concat();
+    let bookings = (0..rules).map(chain).collect();
+    let rules = (0..rules).map(|i| (1 + i, i, chain(i))).collect();
+    // 0 and 1 have one argument, 2 has none
+    Case { name, signature: vec![3, 0, 1, 0, 0, 1, 0, 0, 0], rules, bookings }
 }
 
 /// A booking of 4,096 words that begins with 254 nested ones: each has a value due until the words behind it are read.
@@ -287,4 +306,15 @@ pub fn long_deep() -> Case {
 pub fn logs() -> Vec<(&'static str, Vec<u16>)> {
     let mixed = |n: usize| (0..n).map(|i| (i * 617 % 1000) as u16).collect();
     vec![("10 entries", mixed(10)), ("4,096 entries, one rule", vec![7; 4096]), ("4,096 entries, all rules", mixed(4096))]
+}
+
+/// Tables under which open charges are answered again: with short bookings, and with bookings of 61 words.
+pub fn plugged() -> Vec<Case> {
+    vec![grid("64 rules", 64), letters("48 chains", 48, ROOM), wide("256 constructors", RECORDS, ROOM)]
+}
+
+/// The list of open charges with these bookings, as far as they fit; none was answered before.
+pub fn charges<'a>(bookings: impl IntoIterator<Item = &'a Vec<u16>>) -> Vec<u16> {
+    let fit = bookings.into_iter().filter(|b| b.len() <= ROOM).take(RECORDS);
+    list_of(&fit.map(|b| (0, 0, b.clone())).collect::<Vec<_>>())
 }

@@ -1,13 +1,11 @@
 //! Where the calls go deepest: patterns of 64 words that nest in every way, entered and held; and words that are not lawful.
 use crate::calls::{Lent, Row};
-use crate::cases::{cases, least, logs, long_deep, long_grid, long_wide, stairs, with_levels, Case};
+use crate::cases::{cases, charges, least, letters, logs, long_deep, long_grid, long_wide, plugged, stairs, with_levels, Case};
 use crate::instances::instances;
-use bellgantlet::{raw, TABLE, TREE, WITNESS};
+use bellgantlet::{raw, CHARGE, CHARGES, TABLE, TREE, WITNESS};
 
 /// One kind: 0 has no argument, 1 one, 2 two, 3 four.
 pub const ONE_KIND: [u16; 16] = [4, 0, 0, 0, 1, 0, 0, 2, 0, 0, 0, 4, 0, 0, 0, 0];
-/// 0 and 1 have one argument, 2 has none.
-const TWO_LETTERS: [u16; 9] = [3, 0, 1, 0, 0, 1, 0, 0, 0];
 
 pub fn rows() -> Vec<Row> {
     let mut all: Vec<Row> = cases().iter().chain(&with_levels()).map(of_case).collect();
@@ -17,13 +15,14 @@ pub fn rows() -> Vec<Row> {
     all.push(of_patterns("nested and, or", connectives()));
     all.push(of_patterns("nested wide", wide()));
     all.push(of_patterns("variables under or", variables()));
-    all.push(of_case(&letters()));
+    all.push(of_case(&long_letters()));
     all.push(of_case(&stairs()));
     all.push(of_case(&nested_stairs()));
     all.push(of_instances());
     all.push(not_lawful());
     all.push(arriving());
     all.push(of_logs());
+    all.push(of_charges());
     all
 }
 
@@ -48,6 +47,7 @@ fn asked(l: &Lent, bookings: &[Vec<u16>]) -> Vec<(&'static str, Lent)> {
         let l = Lent { booking: b.clone(), tree: tree.clone(), place: b.len() - 1, ..l.clone() };
         all.extend(["decide", "run", "part"].into_iter().map(|c| (c, l.clone())));
     }
+    all.push(("replan", Lent { charges: charges(bookings), tree, ..l.clone() }));
     all
 }
 
@@ -154,12 +154,11 @@ fn variables() -> Vec<Vec<u16>> {
     all
 }
 
-/// 64 rules that are one chain of 63 letters each.
-fn letters() -> Case {
-    let chain = |i: u16| [(0..63).map(|j| if j < 6 { i >> j & 1 } else { 0 }).collect(), vec![2]].concat();
-    let rules: Vec<(u16, u16, Vec<u16>)> = (0..64).map(|i| (1 + i, i, chain(i))).collect();
-    let bookings = vec![chain(0), chain(63), [vec![0; 255], vec![2]].concat()];
-    Case { name: "64 rules, 63 nested", signature: TWO_LETTERS.to_vec(), rules, bookings }
+/// 64 rules that are one chain of 63 letters each, and a booking that is 256 deep.
+fn long_letters() -> Case {
+    let all = letters("64 rules, 63 nested", 64, 64);
+    let bookings = vec![all.bookings[0].clone(), all.bookings[63].clone(), [vec![0; 255], vec![2]].concat()];
+    Case { bookings, ..all }
 }
 
 /// Stairs one in the other, 232 rows: 0 has one argument, and each rule takes the four without behind so many of it.
@@ -193,11 +192,11 @@ fn not_lawful() -> Row {
             }
         }
         for word in [0, 1, 2, 3] {
-            let l = Lent { booking: vec![word; n], tree: vec![3; n], ..Lent::empty(&ONE_KIND) };
-            inputs.extend(["part", "run", "decide"].map(|c| (c, l.clone())));
+            let l = Lent { booking: vec![word; n], tree: vec![3; n], charges: vec![word; n], ..Lent::empty(&ONE_KIND) };
+            inputs.extend(["part", "run", "decide", "replan"].map(|c| (c, l.clone())));
             inputs.extend(stepped(&ONE_KIND, &l.booking));
             let l = Lent { booking: vec![0], number: 1, pattern: vec![258], ..Lent::empty(&vec![word; n]) };
-            inputs.extend(["part", "run", "decide", "enter", "withdraw", "set_default", "gap", "compile"].map(|c| (c, l.clone())));
+            inputs.extend(["part", "run", "decide", "enter", "withdraw", "set_default", "gap", "compile", "replan"].map(|c| (c, l.clone())));
             inputs.extend(stepped(&l.signature, &[0]));
         }
     }
@@ -207,14 +206,19 @@ fn not_lawful() -> Row {
 /// Bookings checked word by word: those of the cases, of 4,096 words, 256 deep, and under the longest signature.
 fn arriving() -> Row {
     let mut inputs = vec![];
-    for c in cases().iter().chain(&with_levels()).chain(&[letters(), long_grid(), long_wide(), long_deep()]) {
+    for c in cases().iter().chain(&with_levels()).chain(&[long_letters(), long_grid(), long_wide(), long_deep()]) {
         inputs.extend(c.bookings.last().into_iter().flat_map(|b| stepped(&c.signature, b)));
     }
-    let mut longest = vec![256];
-    (0..255).for_each(|c| longest.extend([c / 64, 4, 3, 3, 3, 3]));
-    longest.extend([3, 0]);
-    inputs.extend(stepped(&longest, &[vec![0], vec![192; 254], vec![255; 255 * 3 + 1]].concat()));
+    inputs.extend(stepped(&longest(), &[vec![0], vec![192; 254], vec![255; 255 * 3 + 1]].concat()));
     Row { name: "word by word", inputs }
+}
+
+/// 255 constructors with four arguments, and one without: no lawful signature has more words.
+fn longest() -> Vec<u16> {
+    let mut words = vec![256];
+    (0..255).for_each(|c| words.extend([c / 64, 4, 3, 3, 3, 3]));
+    words.extend([3, 0]);
+    words
 }
 
 /// The logs that are measured, the empty one, and those that are refused at their first entry, at their last and by their length.
@@ -222,4 +226,21 @@ fn of_logs() -> Row {
     let mut all: Vec<Vec<u16>> = logs().into_iter().map(|(_, log)| log).collect();
     all.extend([vec![], vec![1000], [vec![7; 4095], vec![65535]].concat(), vec![7; 4097], vec![7; 65536]]);
     Row { name: "logs", inputs: all.into_iter().map(|log| ("tally", Lent { log, ..Lent::default() })).collect() }
+}
+
+/// The lists that are measured, one under the longest signature, and the empty one; and those that are refused: by their length, by
+/// their last record, and by a tree that is broken for the first or for the last.
+fn of_charges() -> Row {
+    let (mut inputs, mut all) = (vec![], plugged());
+    let nested = [vec![0], vec![192; 14], vec![255; 14 * 3 + 4]].concat();
+    all.push(Case { name: "", signature: longest(), rules: vec![(1, 1, vec![258])], bookings: vec![nested; CHARGES] });
+    for c in &all {
+        let l = asked(&Lent::new(&c.signature, &c.table(c.rules.len())), &c.bookings).pop().unwrap().1;
+        let last = l.charges.len() - CHARGE;
+        let with = |at: usize, word: u16| [&l.charges[..at], &[word], &l.charges[at + 1..]].concat();
+        let lists = [l.charges.clone(), vec![], l.charges.repeat(2), with(last + 2, 62), with(last + CHARGE - 1, 65535), with(last + 3, 65535)];
+        inputs.extend(lists.map(|charges| Lent { charges, ..l.clone() }));
+        inputs.extend([0, 1, l.tree.len() / 2].map(|n| Lent { tree: l.tree[..n].to_vec(), ..l.clone() }));
+    }
+    Row { name: "open charges", inputs: inputs.into_iter().map(|l| ("replan", l)).collect() }
 }

@@ -1,7 +1,7 @@
 //! The calls side by side with the prototype, with a first-match list of the same rules, and a run with one pass over the
 //! booking. Times are the least of many rounds, in which the parties take turns.
-use bellgantlet::raw;
-use benchmark::cases::{cases, least, logs, long, long_deep, long_grid, long_wide, stairs, with_levels, Case};
+use bellgantlet::{raw, CHARGE, CHARGES, CHARGE_BOOKING};
+use benchmark::cases::{cases, charges, least, logs, long, long_deep, long_grid, long_wide, plugged, stairs, with_levels, Case};
 use benchmark::first_match;
 use benchmark::instances::instances;
 use std::hint::black_box;
@@ -95,6 +95,41 @@ fn times(rounds: usize) {
         stepped(&c, rounds);
     }
     gaps(rounds);
+    println!("\n| replan on | words a booking | records | library | prototype | ratio | as many runs | ratio | saved a record | no records | form of a record |");
+    println!("|---|---|---|---|---|---|---|---|---|---|---|");
+    for c in &plugged() {
+        [1, 12, CHARGES].into_iter().for_each(|records| replan(c, records, rounds));
+    }
+}
+
+/// Open charges answered again, beside as many runs, which decode the signature each time. What that saves by each record but one
+/// stands beside a call without records, in which the signature is decoded and no more is done; and what a record's form takes,
+/// which no run is asked for, is of a list whose last word is malformed.
+fn replan(c: &Case, records: usize, rounds: usize) {
+    let (sig, tree, bookings) = (&c.signature, compiled(c), &c.bookings[..records]);
+    let (mut l1, mut l2) = (charges(bookings), charges(bookings));
+    let (a, p) = (raw::replan(sig, &tree, &mut l1), prototype::replan::replan(sig, &tree, &mut l2));
+    assert!(a.number == 0 && (a.number, a.changed) == (p.refusal, p.changed) && l1 == l2 && l1.len() == CHARGE * records);
+    let mut l3 = l1.clone();
+    *l3.last_mut().unwrap() = 1;
+    if bookings.last().unwrap().len() == CHARGE_BOOKING {
+        // no word is behind its booking
+        l3[CHARGE * (records - 1) + 2] = CHARGE_BOOKING as u16 + 1;
+    }
+    let mut parties: Vec<Party> = vec![
+        ("library", Box::new(|| { black_box(raw::replan(sig, &tree, &mut l1)); })),
+        ("prototype", Box::new(|| { black_box(prototype::replan::replan(sig, &tree, &mut l2)); })),
+        ("runs", Box::new(|| bookings.iter().for_each(|b| { black_box(raw::run(sig, &tree, b)); }))),
+        ("no records", Box::new(|| { black_box(raw::replan(sig, &tree, &mut [])); })),
+        ("form", Box::new(|| { black_box(raw::replan(sig, &tree, &mut l3)); })),
+    ];
+    let t = turns(&mut parties, rounds);
+    let saved = if records == 1 { "".into() } else { time((t[2] - t[0]) / (records - 1) as f64) };
+    let name = format!("{} | {} | {records}", c.name, words_a_booking(bookings));
+    let ratios = [t[0] / t[1], t[0] / t[2]].map(|r| format!("{r:.2}"));
+    let form = (t[4] - t[3]).max(0.0) / records as f64;
+    let [library, prototype, runs, none, form] = [t[0], t[1], t[2], t[3], form].map(time);
+    println!("| {name} | {library} | {prototype} | {} | {runs} | {} | {saved} | {none} | {form} |", ratios[0], ratios[1]);
 }
 
 /// Gap beside decide of the least booking, on the tables of the other calls and on those that are hard for it.
@@ -163,6 +198,10 @@ fn compiled(c: &Case) -> Vec<u16> {
     space
 }
 
+fn words_a_booking(bookings: &[Vec<u16>]) -> usize {
+    bookings.iter().map(|b| b.len()).sum::<usize>() / bookings.len()
+}
+
 /// One booking after the other, again and again.
 fn turning<'a>(c: &'a Case) -> impl FnMut() -> &'a [u16] + Clone {
     let mut i = 0;
@@ -178,8 +217,7 @@ fn run(c: &Case, rounds: usize) {
         let (a, p, l) = (raw::run(sig, &tree, b), prototype::run::run(sig, &tree, b), first_match::answer(sig, &table, b));
         assert!(a.number == 0 && a.rule == *rule && (a.rule, a.places) == (p.rule, p.places) && (a.rule, a.places) == (l.rule, l.places));
     }
-    let words: usize = c.bookings.iter().map(|b| b.len()).sum();
-    let name = format!("{}, {} words a booking", c.name, words / c.bookings.len());
+    let name = format!("{}, {} words a booking", c.name, words_a_booking(&c.bookings));
     let mut next = turning(c);
     let (mut next2, mut next3, mut next4) = (next.clone(), next.clone(), next.clone());
     let mut parties: Vec<Party> = vec![
@@ -348,12 +386,14 @@ fn by_itself(call: &str, case: &str, rounds: usize, f: impl FnMut()) {
 
 /// One call again and again, for a profiler: `benchmark only run "64 rules" 1000`.
 fn only(call: &str, case: &str, times: usize) {
-    let c = cases().into_iter().chain(with_levels()).chain([stairs()]).find(|c| c.name == case).expect("a case");
+    let all = cases().into_iter().chain(with_levels()).chain([stairs()]).chain(plugged());
+    let c = all.into_iter().find(|c| c.name == case).expect("a case");
     let (sig, table, n) = (&c.signature, c.table(c.rules.len()), c.rules.len());
     let (number, plan, pattern) = c.rules.last().unwrap();
     let mut space = vec![0; 32768];
     let mut witness = vec![0; 4096];
-    let tree = if call.ends_with("run") { compiled(&c) } else { vec![] };
+    let tree = if call.ends_with("run") || call == "replan" { compiled(&c) } else { vec![] };
+    let mut list = charges(&c.bookings);
     let mut next = turning(&c);
     for _ in 0..times {
         match call {
@@ -364,8 +404,9 @@ fn only(call: &str, case: &str, times: usize) {
             "set_default" => drop(black_box(raw::set_default(sig, 2, &mut table.clone()))),
             "gap" => drop(black_box(raw::gap(sig, &table, &mut witness))),
             "compile" => drop(black_box(raw::compile(sig, &table, &mut space))),
+            "replan" => drop(black_box(raw::replan(sig, &tree, &mut list))),
             "prototype-run" => drop(black_box(prototype::run::run(sig, &tree, next()))),
-            _ => panic!("run, decide, enter, withdraw, set_default, gap or compile"),
+            _ => panic!("run, decide, enter, withdraw, set_default, gap, compile or replan"),
         }
     }
 }

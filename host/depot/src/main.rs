@@ -19,6 +19,9 @@ struct Depot {
     compiled_variables: Variables,
     /// The rules of the day's answers, 0 for the default.
     log: Vec<u16>,
+    /// The open charges, and the bus of each.
+    charges: OpenCharges,
+    buses: Vec<&'static str>,
 }
 
 /// Bytes of stack for the thread itself.
@@ -33,7 +36,8 @@ impl Depot {
         let table = Table::new(&names.signature()?);
         let tree = table.compile()?;
         let (variables, compiled_variables) = (Variables::new(), Variables::new());
-        Ok(Depot { names, table, tree, change: 0, compiled: 0, variables, compiled_variables, log: vec![] })
+        let (log, charges, buses) = (vec![], OpenCharges::new(), vec![]);
+        Ok(Depot { names, table, tree, change: 0, compiled: 0, variables, compiled_variables, log, charges, buses })
     }
 
     fn enter(&mut self, planner: &str, number: u16, plan: u16, text: &str) {
@@ -100,15 +104,53 @@ impl Depot {
             Ok(tree) => {
                 println!("-- the tree of change {change} is there: {} words", tree.words().len());
                 (self.tree, self.compiled, self.compiled_variables) = (tree, change, variables);
+                self.replan();
             }
             Err(r) => println!("-- no new tree: {r}"),
         }
     }
 
-    fn answer(&mut self, text: &str) {
+    /// The new tree answers the bookings of the buses on the plug again; a bus is told where its rule or its plan is another.
+    fn replan(&mut self) {
+        if self.charges.is_empty() {
+            return;
+        }
+        let before = self.charges.clone();
+        match self.tree.replan(&mut self.charges) {
+            Ok(changed) => println!("-- open charges: {}, plans changed: {changed}", self.charges.len()),
+            Err(r) => return println!("-- the open charges stay as they are: {r}"),
+        }
+        for ((bus, old), new) in self.buses.iter().zip(before.iter()).zip(self.charges.iter()).filter(|((_, old), new)| old != new) {
+            println!("    {bus}, {}: {old} becomes {new}", self.names.show(new.booking()));
+        }
+    }
+
+    /// A bus comes to the plug with its booking.
+    fn plug_in(&mut self, bus: &'static str, text: &str) {
+        println!("{bus} plugs in");
+        let Some((answer, words)) = self.answer(text) else { return };
+        match self.charges.plug_in(&answer, &words) {
+            Ok(()) => self.buses.push(bus),
+            Err(e) => println!("    not plugged in: {e}"),
+        }
+    }
+
+    fn unplug(&mut self, bus: &str) {
+        println!("{bus} leaves");
+        if let Some(i) = self.buses.iter().position(|b| *b == bus) {
+            self.buses.remove(i);
+            self.charges.unplug(i);
+        }
+    }
+
+    /// What a booking gets, and its words; none where it is not understood, or refused.
+    fn answer(&mut self, text: &str) -> Option<(Answer, Vec<u16>)> {
         let words = match self.names.booking(text) {
             Ok(w) => w,
-            Err(e) => return println!("{text}: not understood: {e}"),
+            Err(e) => {
+                println!("{text}: not understood: {e}");
+                return None;
+            }
         };
         let answer = self.tree.run(&words);
         self.log.extend(answer.iter().map(Answer::log_entry));
@@ -130,6 +172,7 @@ impl Depot {
         if self.compiled == self.change {
             assert_eq!(answer, self.table.decide(&words));
         }
+        Some((answer.ok()?, words))
     }
 
     /// A booking that arrives in pieces: checked word by word, answered when it is whole, and given up at the first wrong word.
@@ -142,7 +185,9 @@ impl Depot {
             }
         }
         match (checker.went_wrong_at(), checker.finish()) {
-            (None, Ok(())) => self.answer(&self.names.show(&pieces.concat())),
+            (None, Ok(())) => {
+                self.answer(&self.names.show(&pieces.concat()));
+            }
             (None, Err(_)) => println!("it is not whole"),
             (Some(at), _) => println!("wrong at index {at}, the word {}: no more is awaited", pieces.concat()[at]),
         }
@@ -173,9 +218,15 @@ fn main() -> Result<(), Refusal> {
     depot.enter("Ada", 10, 3, "booking(articulated, ?bay, high | by(_, high), _)");
     depot.enter("Ada", 11, 4, "booking(midi | solo, hall(?slot), by(?hour, !low), _)");
     let first = depot.compile();
-    asked.iter().for_each(|b| depot.answer(b));
+    asked.iter().for_each(|b| { depot.answer(b); });
     depot.adopt(first);
-    asked.iter().for_each(|b| depot.answer(b));
+    asked.iter().for_each(|b| { depot.answer(b); });
+
+    // buses on the plug: each new tree answers their bookings again
+    depot.plug_in("bus 301", "booking(articulated, yard(two), high, 20)");
+    depot.plug_in("bus 114", "booking(midi, hall(one), by(six, half), 55)");
+    depot.plug_in("bus 208", "booking(solo, street, low, 12)");
+    depot.plug_in("bus 302", "booking(articulated, hall(three), by(seven, high), 48)");
 
     depot.enter("Bo", 20, 7, "booking(_, yard(_), high, _)");
     depot.enter("Bo", 20, 7, "booking(!articulated, yard(_), high, _)");
@@ -193,9 +244,9 @@ fn main() -> Result<(), Refusal> {
     depot.withdraw("Ada", 10);
     let second = depot.compile();
     println!("-- rule 10 is withdrawn, and still answers until then:");
-    asked.iter().for_each(|b| depot.answer(b));
+    asked.iter().for_each(|b| { depot.answer(b); });
     depot.adopt(second);
-    asked.iter().for_each(|b| depot.answer(b));
+    asked.iter().for_each(|b| { depot.answer(b); });
     depot.answer("booking(solo, yard(three), high, 100)");
     depot.answer("booking(trolley, hall(four), by(six, by(seven, half)), 0)");
     depot.answer("booking(solo, street, low, 20)");
@@ -204,6 +255,7 @@ fn main() -> Result<(), Refusal> {
     depot.answer("booking(solo, street, low, 101)");
     depot.answer("booking(trolley, seven, low, 50)");
 
+    depot.unplug("bus 302");
     // a booking that no rule takes
     let left = "booking(solo, street, low, 61)";
     depot.set_default("Cy", 5);

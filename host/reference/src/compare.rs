@@ -1,5 +1,6 @@
 //! Each call made of the library and of the reference, with every lent word compared, and the words around what is lent.
 use crate::calls::{sound, Answer, Model, WITNESS};
+use crate::charges::{replan, Replanned, RECORD};
 use crate::gap::is_gap;
 use crate::pattern;
 use crate::signature::Signature;
@@ -227,6 +228,28 @@ impl Compare {
         got
     }
 
+    /// Open charges answered again: a second time by the same tree, which changes nothing, and each as by a run of its own.
+    pub fn replan(&mut self, sig: &[u16], tree: &[u16], charges: &[u16]) -> Replanned {
+        let expected = replan(sig, tree, charges);
+        self.replan_once(sig, tree, charges, &expected);
+        if expected.0 == 0 {
+            self.replan_once(sig, tree, &expected.2, &(0, 0, expected.2.clone()));
+        }
+        if ![1, 20].contains(&expected.0) {
+            let single = singles(sig, tree, charges);
+            same!("replan", "number and list by single runs", single, (expected.0, expected.2.clone()), sig, tree, charges);
+        }
+        expected
+    }
+
+    fn replan_once(&mut self, sig: &[u16], tree: &[u16], charges: &[u16], expected: &Replanned) {
+        let mut lent = Lent::of(charges);
+        let r = raw::replan(sig, tree, lent.words());
+        same!("replan", "number and count", (r.number, r.changed), (expected.0, expected.1), sig, tree, charges);
+        same!("replan", "list", lent.after(), &expected.2[..], sig, tree, charges);
+        self.count("replan", r.number);
+    }
+
     /// The states before the first word, whatever the words were before.
     pub fn check_begin(&mut self, sig: &[u16]) -> States {
         let old: Vec<u16> = (0..stepped::STATE).map(|i| (i * 7 + sig.len()) as u16).collect();
@@ -294,6 +317,20 @@ impl Compare {
             self.stepped(sig, booking);
         }
     }
+}
+
+/// The number of the first record that the library's run refuses, or 0; and the list with the rule and the plan of each, as it was
+/// where one is refused. The list is not malformed.
+fn singles(sig: &[u16], tree: &[u16], charges: &[u16]) -> (u16, Vec<u16>) {
+    let mut after = charges.to_vec();
+    for record in after.chunks_exact_mut(RECORD) {
+        let a = raw::run(sig, tree, &record[3..3 + record[2] as usize]);
+        if a.number != 0 {
+            return (a.number, charges.to_vec());
+        }
+        (record[0], record[1]) = (a.rule, a.plan);
+    }
+    (0, after)
 }
 
 /// What 01 says of the booking that is shown: lawful, and taken by the pattern and by the held rule.

@@ -2,6 +2,7 @@
 //!
 //!     differential [--vectors FOLDER] [--instances FOLDER] [--records FOLDER] [--seed N] [--scale PERCENT]
 use reference::calls::{sound, TABLE};
+use reference::charges::{list_of, Charge, RECORD, RECORDS, ROOM};
 use reference::compare::{Compare, States};
 use reference::gap::{counted, small_untaken};
 use reference::instance::Instance;
@@ -15,6 +16,8 @@ use reference::{tally, text};
 use std::time::Instant;
 
 const T: [u16; 15] = [6, 0, 2, 1, 2, 1, 0, 1, 0, 1, 0, 2, 0, 2, 0];
+const TREE_T: [u16; 39] =
+    [2, 0, 1, 4, 2, 1, 3, 10, 17, 28, 3, 1, 7, 40, 1, 0, 2, 2, 4, 2, 22, 24, 0, 1, 1, 9, 41, 0, 2, 4, 2, 33, 35, 0, 1, 1, 9, 41, 0];
 
 fn main() {
     // the reference recurses over trees as deep as a tree may be
@@ -42,7 +45,7 @@ fn work() {
     if let Some(folder) = option("--records") {
         timed(&mut c, "records", |c| records(c, &folder));
     }
-    let tests: [(&str, usize, fn(&mut Compare, &mut Random)); 13] = [
+    let tests: [(&str, usize, fn(&mut Compare, &mut Random)); 14] = [
         ("signatures", 12000, signatures),
         ("bookings and parts", 12000, bookings),
         ("patterns into an empty table", 60000, patterns),
@@ -56,6 +59,7 @@ fn work() {
         ("gaps of small tables", 2000, gaps),
         ("gaps of parted kinds", 1500, parted),
         ("logs", 6000, logs),
+        ("open charges", 2500, charges),
     ];
     for (i, (name, times, test)) in tests.into_iter().enumerate() {
         timed(&mut c, name, |c| {
@@ -76,7 +80,7 @@ fn timed(c: &mut Compare, name: &str, f: impl FnOnce(&mut Compare)) {
 
 /// Each call's numbers: those that 01 lets it give, all of them reached.
 fn summary(c: &Compare, scale: usize) {
-    let known: [(&str, &[u16]); 13] = [
+    let known: [(&str, &[u16]); 14] = [
         ("empty", &[0, 2]),
         ("enter", &[0, 1, 2, 3, 4, 5, 7, 8, 9, 10, 11, 12, 18]),
         ("withdraw", &[0, 1, 2, 3, 4, 6]),
@@ -90,6 +94,7 @@ fn summary(c: &Compare, scale: usize) {
         ("check_step", &[0, 1, 13]),
         ("check_end", &[0, 1, 13]),
         ("tally", &[0, 19]),
+        ("replan", &[0, 1, 13, 15, 20]),
     ];
     for (call, numbers) in known {
         let of = |n: &u16| c.given.get(&(call, *n)).copied().unwrap_or(0);
@@ -510,18 +515,7 @@ fn trees(c: &mut Compare, r: &mut Random) {
         let n = t.len();
         let b = asked(r, &sig, &table);
         match r.below(7) {
-            // changed near the front, where runs walk
-            0 | 1 | 2 => {
-                for _ in 0..r.between(1, 4) {
-                    let i = if r.once_in(2) { r.below(n.min(40)) } else { r.below(n) };
-                    t[i] = match r.below(4) {
-                        0 => r.below(5) as u16,
-                        1 => t[i].wrapping_add(1),
-                        2 => r.below(n + 2) as u16,
-                        _ => odd_word(r),
-                    };
-                }
-            }
+            0 | 1 | 2 => near_front(r, &mut t),
             3 => damage(r, &mut t),
             4 => t.truncate(r.below(n + 1)),
             // cut in the leaf where the run ends, or behind it; or that leaf's last word, a default leaf's plan, is another
@@ -535,6 +529,20 @@ fn trees(c: &mut Compare, r: &mut Random) {
             _ => t = (0..r.below(30)).map(|_| *r.pick(&[0, 1, 1, 2, 3, 3, 3, 4, 4, 5, 7, 12, 100])).collect(),
         }
         c.run(&words, &t, &b);
+    }
+}
+
+/// Words of a tree changed, many of them near the front, where runs walk.
+fn near_front(r: &mut Random, tree: &mut [u16]) {
+    let n = tree.len();
+    for _ in 0..r.between(1, 4) {
+        let i = if r.once_in(2) { r.below(n.min(40)) } else { r.below(n) };
+        tree[i] = match r.below(4) {
+            0 => r.below(5) as u16,
+            1 => tree[i].wrapping_add(1),
+            2 => r.below(n + 2) as u16,
+            _ => odd_word(r),
+        };
     }
 }
 
@@ -699,7 +707,86 @@ fn logs(c: &mut Compare, r: &mut Random) {
     c.tally(&log);
 }
 
-/// Bookings of 4,095 to 4,097 words and 255 to 257 deep, tables and patterns at their limits, logs at theirs, Case T.
+/// Open charges under the tree of a table. Lists, trees and signatures are damaged in every way, also several at once.
+fn charges(c: &mut Compare, r: &mut Random) {
+    let of = *r.pick(&[Size::Small, Size::Medium]);
+    let (words, sig) = signature(r, of);
+    let table = list(c, r, &words, &sig);
+    let tree = compiled(c, r, &words, &table).unwrap_or(vec![3, 0, 9]);
+    for _ in 0..12 {
+        let n = match r.below(8) {
+            0 => 0,
+            1 => 1,
+            2 => RECORDS,
+            3 => r.between(RECORDS - 1, RECORDS + 1),
+            _ => r.below(13),
+        };
+        let lawful = !r.once_in(3);
+        let plugged: Vec<Charge> = (0..n).map(|_| plugged(r, &sig, &table, lawful)).collect();
+        let (mut words, mut tree, mut list) = (words.clone(), tree.clone(), list_of(&plugged));
+        if r.once_in(3) {
+            malformed(r, &mut list);
+        }
+        if r.once_in(4) {
+            near_front(r, &mut tree);
+        }
+        if r.once_in(12) {
+            tree.clear();
+        }
+        if r.once_in(12) {
+            damage(r, &mut words);
+        }
+        c.replan(&words, &tree, &list);
+    }
+    through_a_change(c, r, &words, &sig, table);
+}
+
+/// Open charges as one tree answered them, answered again after a rule is withdrawn or the default plan is another.
+fn through_a_change(c: &mut Compare, r: &mut Random, words: &[u16], sig: &Signature, mut table: Vec<u16>) {
+    let Some(before) = compiled(c, r, words, &table) else { return };
+    let plugged: Vec<Charge> = (0..r.between(1, RECORDS)).map(|_| plugged(r, sig, &table, true)).collect();
+    let (_, _, list) = c.replan(words, &before, &list_of(&plugged));
+    match &numbers(&table)[..] {
+        held @ [_, ..] if !r.once_in(4) => c.withdraw(words, *r.pick(held), &mut table),
+        _ => c.set_default(words, plan(r), &mut table),
+    };
+    let Some(after) = compiled(c, r, words, &table) else { return };
+    assert_eq!(c.replan(words, &after, &list).0, 0);
+}
+
+/// A charge with a booking of 1 to 61 words, lawful where that is asked for; its rule and plan may be any words.
+fn plugged(r: &mut Random, sig: &Signature, table: &[u16], lawful: bool) -> Charge {
+    let mut booking = asked(r, sig, table);
+    if booking.is_empty() || booking.len() > ROOM || (lawful && sig.read_booking(&booking).is_none()) {
+        booking = sig.least_value(0).words();
+    }
+    if !lawful && r.once_in(10) {
+        booking = (0..r.between(1, ROOM)).map(|_| odd_word(r)).collect();
+    }
+    let known = numbers(table);
+    let rule = if known.is_empty() || r.once_in(3) { odd_word(r) } else { *r.pick(&known) };
+    (rule, plan(r), booking)
+}
+
+/// A list that is malformed, more often than not.
+fn malformed(r: &mut Random, list: &mut Vec<u16>) {
+    let n = list.len();
+    if n == 0 || r.once_in(4) {
+        // a part of a record, too many records, as many as begin again at a length of 16 bits
+        let parted = (n / RECORD).saturating_sub(r.below(2)) * RECORD + r.between(1, RECORD - 1);
+        list.resize(*r.pick(&[parted, n + 1, n.max(1) - 1, 49 * RECORD, 65536, 65536 + n]), r.below(2) as u16);
+        return;
+    }
+    let record = &mut list[r.below(n / RECORD) * RECORD..][..RECORD];
+    let length = record[2] as usize;
+    match r.below(3) {
+        0 => record[2] = *r.pick(&[0, 1, 60, 61, 62, 63, 64, 65535, length as u16 + 1, length as u16 - 1, length as u16 + 256]),
+        1 => record[*r.pick(&[(3 + length).min(RECORD - 1), RECORD - 1])] = r.between(1, 65535) as u16,
+        _ => record[r.below(RECORD)] = odd_word(r),
+    }
+}
+
+/// Bookings of 4,095 to 4,097 words and 255 to 257 deep, tables and patterns at their limits, logs and open charges at theirs, Case T.
 fn limits(c: &mut Compare, r: &mut Random) {
     // kind 0: 0 (one argument), 1 (two), 2 (none)
     let sig = [3, 0, 1, 0, 0, 2, 0, 0, 0, 0];
@@ -781,6 +868,9 @@ fn limits(c: &mut Compare, r: &mut Random) {
     signatures_at_limits(c);
     tables_at_limits(c);
     logs_at_limits(c);
+    charges_at_limits(c);
+    charged_bookings(c);
+    charges_refused(c);
     case_t(c);
     let _ = r;
 }
@@ -996,6 +1086,68 @@ fn logs_at_limits(c: &mut Compare) {
     }
 }
 
+/// An open charge that no tree has answered yet.
+fn unanswered(booking: &[u16]) -> Charge {
+    (65535, 65535, booking.to_vec())
+}
+
+/// Lists of so many records over T's tree and over none; two records cut at each word, and with each word another.
+fn charges_at_limits(c: &mut Compare) {
+    for n in (0..51).chain([1023, 1024, 1025, 1072]) {
+        let list = list_of(&vec![unanswered(&[0, 1, 5]); n]);
+        for tree in [&TREE_T[..], &[]] {
+            let number = if n > RECORDS { 20 } else if n > 0 && tree.is_empty() { 15 } else { 0 };
+            assert_eq!(c.replan(&T, tree, &list).0, number);
+            assert_eq!(c.replan(&T[1..], tree, &list).0, 1);
+        }
+    }
+    let two = list_of(&[unanswered(&[0, 1, 5]), unanswered(&[0, 2, 4])]);
+    for n in 0..=two.len() {
+        assert_eq!(c.replan(&T, &TREE_T, &two[..n]).0, if n % RECORD == 0 { 0 } else { 20 });
+    }
+    for at in 0..two.len() {
+        for word in [0, 1, 2, 3, 4, 5, 61, 62, 65535] {
+            c.replan(&T, &TREE_T, &[&two[..at], &[word], &two[at + 1..]].concat());
+        }
+    }
+    // the rule changes, and its plan does not
+    assert_eq!(c.replan(&T, &TREE_T, &list_of(&[(8, 40, vec![0, 1, 5]), (9, 41, vec![0, 3, 4])])).1, 1);
+}
+
+/// Bookings of 1 to 61 words, under a signature that has one of each length, with that length and with others.
+fn charged_bookings(c: &mut Compare) {
+    let sig = [3, 0, 1, 0, 0, 2, 0, 0, 0, 0];
+    for n in 1..=ROOM {
+        let list = list_of(&[unanswered(&exact(n)), unanswered(&exact(ROOM + 1 - n))]);
+        assert_eq!(c.replan(&sig, &[0, 9], &list).0, 0);
+        for length in [0, n - 1, n + 1, 62, 65535] {
+            c.replan(&sig, &[0, 9], &[&list[..2], &[length as u16], &list[3..]].concat());
+        }
+    }
+}
+
+/// 13 and 15 in one list, in both orders; 20 before them, and 1 before 20.
+fn charges_refused(c: &mut Compare) {
+    // the leaf of rule 7 has no rule: 15 for what begins with 0 1
+    let mut broken = TREE_T;
+    broken[12] = 0;
+    let [fine, at_leaf, unlawful] = [&[0, 2, 5][..], &[0, 1, 5], &[0, 1]].map(unanswered);
+    let lists = [
+        ([&fine, &at_leaf, &unlawful], 15),
+        ([&fine, &unlawful, &at_leaf], 13),
+        ([&at_leaf, &fine, &unlawful], 15),
+        ([&unlawful, &at_leaf, &fine], 13),
+        ([&fine, &fine, &fine], 0),
+    ];
+    for (charges, number) in lists {
+        let list = list_of(&charges.map(Charge::clone));
+        assert_eq!(c.replan(&T, &broken, &list).0, number);
+        let longer = [&list[..], &[0]].concat();
+        assert_eq!(c.replan(&T, &broken, &longer).0, 20);
+        assert_eq!(c.replan(&T[..14], &broken, &longer).0, 1);
+    }
+}
+
 /// A value of exactly n words.
 fn exact(n: usize) -> Vec<u16> {
     match n {
@@ -1014,10 +1166,7 @@ fn case_t(c: &mut Compare) {
     assert_eq!(c.enter(&T, 7, 40, &[0, 1, 261], &mut table, 4096), 0);
     assert_eq!(c.enter(&T, 9, 41, &[0, 260, 1, 5], &mut table, 4096), 0);
     let tree = c.compile(&T, &table, &[0; 39]).unwrap();
-    assert_eq!(
-        tree,
-        [2, 0, 1, 4, 2, 1, 3, 10, 17, 28, 3, 1, 7, 40, 1, 0, 2, 2, 4, 2, 22, 24, 0, 1, 1, 9, 41, 0, 2, 4, 2, 33, 35, 0, 1, 1, 9, 41, 0]
-    );
+    assert_eq!(tree, TREE_T);
     for b in [[0, 1, 5], [0, 2, 5], [0, 3, 4]] {
         assert_eq!(c.run(&T, &tree, &b), c.decide(&T, &table, &b));
     }
@@ -1194,6 +1343,12 @@ fn record(c: &mut Compare, r: &Json) {
             number(got);
             let flat: Vec<u16> = lines.iter().flat_map(|(rule, count)| [*rule, *count]).collect();
             assert_eq!((flat, total as usize), (out.get("lines").words(), out.get("total").number()), "{r:?}");
+        }
+        "open_charges" => {
+            let charges = words("charges");
+            let (got, changed, list) = c.replan(&sig, &words("tree"), &charges);
+            number(got);
+            assert_eq!((changed as usize, list), (out.get("changed").number(), after("charges", charges)), "{r:?}");
         }
         "decide" => answer(c.decide(&sig, &words("table"), &words("booking"))),
         "gap" => {

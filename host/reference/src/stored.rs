@@ -1,5 +1,5 @@
 //! The test data of the gate's programs `calls`, `runs`, `steps` and `logs`: words of 16 bits, the lower byte first. Here as text,
-//! as words, and with the lines that the programs must print.
+//! as words, and with the lines that the programs must print. replans.rs has those of `replans`.
 use crate::calls::{Answer, Model, EMPTIED, TABLE};
 use crate::json::Json;
 use crate::pattern::admitted;
@@ -42,7 +42,7 @@ pub fn to_bytes(words: &[u16]) -> Vec<u8> {
     words.iter().flat_map(|w| w.to_le_bytes()).collect()
 }
 
-fn spaced(words: &[u16]) -> String {
+pub fn spaced(words: &[u16]) -> String {
     words.iter().map(|w| format!(" {w}")).collect()
 }
 

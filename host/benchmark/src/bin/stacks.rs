@@ -4,7 +4,7 @@
 //!     stacks check    each call at all these inputs on a thread of just the documented stack: one that is too small ends the program.
 //!                     Where a thread cannot be so small, the call's peak is held to what is documented
 //!     stacks search N the deepest of N random nests for each call, to find inputs that are worse
-use bellgantlet::{stack, tally, Answer, Checker, RuleNumber, Signature, Table};
+use bellgantlet::{stack, tally, Answer, Checker, OpenCharges, RuleNumber, Signature, Table, CHARGES};
 use benchmark::calls::CALLS;
 use benchmark::cases::cases;
 use benchmark::deep::rows;
@@ -79,6 +79,13 @@ fn check() {
     wrapper();
 }
 
+/// As many open charges of one booking as there may be.
+fn plugged_in(answer: &Answer, booking: &[u16]) -> OpenCharges {
+    let mut charges = OpenCharges::new();
+    (0..CHARGES).for_each(|_| charges.plug_in(answer, booking).unwrap());
+    charges
+}
+
 /// The wrapper's methods at the deepest pattern, and compile at the deepest table.
 fn wrapper() {
     let signature = Signature::new(&[2, 0, 1, 0, 0, 0]).unwrap();
@@ -99,6 +106,10 @@ fn wrapper() {
     on(stack::CHECK_END, || checker.finish()).unwrap();
     let log = vec![tree.run(&chain).as_ref().map(Answer::log_entry).unwrap(); 4096];
     assert_eq!(on(stack::TALLY, || tally(&log)).unwrap().count(Some(number)), 4096);
+    let charges = plugged_in(&tree.run(&chain[3..]).unwrap(), &chain[3..]);
+    let mut charges = on(stack::REPLAN, || OpenCharges::from_words(charges.words())).unwrap();
+    let again = on(stack::COMPILE, || table.compile()).unwrap();
+    assert_eq!(on(stack::REPLAN, || again.replan(&mut charges)), Ok(CHARGES));
     let deepest = cases().pop().unwrap();
     let signature = Signature::new(&deepest.signature).unwrap();
     let table = Table::from_words(&signature, &deepest.table(64)).unwrap();

@@ -1,12 +1,13 @@
 //! The gate's test data and stored outputs, made again by the reference; host/vectors/README.md says how they hang together.
 //!
-//!     vectors make calls|runs|steps|logs                          the data file, to standard output
-//!     vectors show calls|runs|steps|logs                          the data file of the repository as text
-//!     vectors answer calls|runs|steps|texts|logs|parts|patterns   what the program must print
-//!     vectors text                                                what the text program prints for standard input
-//!     vectors tally                                               what the program tally prints for standard input
+//!     vectors make calls|runs|steps|logs|replans                          the data file, to standard output
+//!     vectors show calls|runs|steps|logs|replans                          the data file of the repository as text
+//!     vectors answer calls|runs|steps|texts|logs|replans|parts|patterns   what the program must print
+//!     vectors text                                                        what the text program prints for standard input
+//!     vectors tally                                                       what the program tally prints for standard input
 use reference::instance::Instance;
 use reference::json::Json;
+use reference::replans::{replan_in, replan_text, replanned, replanned_as, ByHand, Replan};
 use reference::stored::{booking_in, booking_text, booking_words, bookings_of, stepped};
 use reference::stored::{log_in, log_text, log_words, logs_of, tallied};
 use reference::stored::{played, ran, run_in, run_text, run_words, runs_in, runs_of, steps_in, steps_of, to_bytes, to_words, Step};
@@ -29,7 +30,7 @@ fn vectors() -> Vec<Json> {
 }
 
 /// A file of single calls: `steps` has those of `STEPPED`, `calls` and `runs` those of `DEFAULTS`, `calls` those of `GAPS` too,
-/// `logs` those of `TALLIES`.
+/// `logs` those of `TALLIES`, `replans` those of `CHARGES`.
 fn records(name: &str) -> Json {
     Json::read(&read_to_string(at(&format!("host/vectors/{name}"))).unwrap())
 }
@@ -38,6 +39,12 @@ const STEPPED: &str = "stepped-gate-4302.json";
 const DEFAULTS: &str = "default-gate-4303.json";
 const GAPS: &str = "gap-gate-4304.json";
 const TALLIES: &str = "tally-gate-4305.json";
+const CHARGES: &str = "charges-gate-4306.json";
+
+/// The cases of `replans` that were written by hand, which stand before the others.
+fn replans_by_hand() -> Vec<Replan> {
+    ByHand::read(&read_to_string(at("host/vectors/replans.txt")).unwrap())
+}
 
 /// The tables of the folder `instances` that `calls` has.
 const INSTANCES: [&str; 2] = ["brief31", "stairs-24-cost"];
@@ -64,7 +71,12 @@ fn make(what: &str) -> Vec<u8> {
         }
         "steps" => records(STEPPED).get("records").list().iter().flat_map(|r| booking_words(&booking_in(r))).collect(),
         "logs" => records(TALLIES).get("records").list().iter().flat_map(|r| log_words(&log_in(r))).collect(),
-        _ => panic!("calls, runs, steps or logs"),
+        "replans" => {
+            let mut cases = replans_by_hand();
+            cases.extend(records(CHARGES).get("records").list().iter().map(replan_in));
+            cases.iter().flat_map(run_words).collect()
+        }
+        _ => panic!("calls, runs, steps, logs or replans"),
     };
     to_bytes(&words)
 }
@@ -79,7 +91,8 @@ fn show(what: &str) -> String {
         "runs" => runs_of(&data(what)).iter().map(run_text).collect(),
         "steps" => bookings_of(&data(what)).iter().map(booking_text).collect(),
         "logs" => logs_of(&data(what)).iter().map(|log| log_text(log)).collect(),
-        _ => panic!("calls, runs, steps or logs"),
+        "replans" => runs_of(&data(what)).iter().map(replan_text).collect(),
+        _ => panic!("calls, runs, steps, logs or replans"),
     };
     lines.iter().map(|l| format!("{l}\n")).collect()
 }
@@ -108,9 +121,16 @@ fn answer(what: &str) -> String {
             assert_eq!(logs.len(), records.len(), "the data file has other logs than the vectors");
             logs.iter().zip(records).map(|(log, r)| tallied(log, r)).collect()
         }
+        "replans" => {
+            let (cases, records, by_hand) = (runs_of(&data(what)), records(CHARGES), replans_by_hand().len());
+            let records = records.get("records").list();
+            assert_eq!(cases.len(), by_hand + records.len(), "the data file has other lists than the vectors");
+            let lines = cases[..by_hand].iter().map(replanned);
+            lines.chain(cases[by_hand..].iter().zip(records).map(|(c, r)| replanned_as(c, r))).collect()
+        }
         "parts" => by_hand::part_lines(),
         "patterns" => by_hand::pattern_lines(),
-        _ => panic!("calls, runs, steps, texts, logs, parts or patterns"),
+        _ => panic!("calls, runs, steps, texts, logs, replans, parts or patterns"),
     }
 }
 
