@@ -4,6 +4,7 @@ use mathlib.Core.List.{List}
 use mathlib.Core.Option.{Option, none, some}
 use mathlib.Core.Bool.{Bool, true, false, cond}
 use Prim.Native.Nat.{ℕ}
+use native.Mathlib.Omega.{arith}
 use Rattle.signature.specs.Decoded.{Known}
 use Rattle.signature.specs.Lists.{is-some}
 use Rattle.signature.specs.Signature.{Signature}
@@ -45,7 +46,7 @@ says p = go (light-plus p) refl
     go true e = (e, refl)
     go false e = e
 
-module _ {t : List ℕ} {n m : ℕ} (g : GivenWords t n m) (ws : List ℕ) where
+module _ {t ws : List ℕ} {n m : ℕ} (g : GivenWords t ws n m) where
   module _ (b : Bool) (is : (k : Known t) → b ≡ is-some (read-pattern (k .sig) ws)) where
     pub malformed : b ≡ false → Refused 7 ≡ admission-of (g .known .sig) ws
     malformed e = sym (not-read (g .known .sig) (read-pattern (g .known .sig) ws) (sym (is (g .known)) ∙ e))
@@ -97,7 +98,8 @@ module _ {t : List ℕ} {n m : ℕ} (g : GivenWords t n m) (ws : List ℕ) where
 
               pub whole-given : GivenWhole t ws n m
               whole-given =
-                  record { known = g .known; p = the-pattern .0; words = pattern-words (g .known .sig) ws (the-pattern .0) (the-pattern .1); light = light-so .0; ranges = ranged-so ∙ v; room = g .room; work-room = g .work-room }
+                  let q = pattern-words (g .known .sig) ws (the-pattern .0) (the-pattern .1) in
+                  record { known = g .known; p = the-pattern .0; words = q; light = light-so .0; ranges = ranged-so ∙ v; room = omega (arith, q .at-most, g .room); work-room = omega (arith, q .at-most, g .work-room) }
 
               module _ (a : Bool) (a-is : (q : GivenWhole t ws n m) → a ≡ ambiguous-plus (q .known .sig) 0 (q .p)) where
                 ambiguous-so : ambiguous-plus (g .known .sig) 0 (the-pattern .0) ≡ a

@@ -4,21 +4,22 @@ use mathlib.Core.Option.{Option}
 use mathlib.Core.Bool.{cond}
 use Prim.Native.Nat.{ℕ, _≤_}
 use lib.Dec.{eqb}
+use lib.ListN.{length}
 use Rattle.signature.specs.Decoded.{Known}
 use Rattle.signature.specs.Signature.{Signature}
 use Rattle.pattern.specs.Pattern.{Pattern}
 use Rattle.pattern.specs.Read.{read-pattern}
 use Rattle.pattern.specs.Weight.{weight-by}
 use Rattle.row.specs.Admitted.{refusal-by}
-use Rattle.builder.specs.Build.{row-room}
+use Rattle.builder.specs.Build.{words-room}
 use Rattle.admission.specs.declared.admit.Admission.{Admission}
 use Rattle.admission.specs.declared.admit.Admission.the-variants.{Passed, Refused}
 
--- the table of a signature, and two slices with room
-pub record GivenWords (t : List ℕ) (n m : ℕ) : Type 0 where
+-- the table of a signature, and two slices with room for the rows of the words
+pub record GivenWords (t ws : List ℕ) (n m : ℕ) : Type 0 where
   pub known : Known t
-  pub room : row-room ≤ n
-  pub work-room : row-room ≤ m
+  pub room : words-room (length ws) ≤ n
+  pub work-room : words-room (length ws) ≤ m
 
 -- the number of an answer
 abbrev pub number-of : Admission → ℕ

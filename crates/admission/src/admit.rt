@@ -20,8 +20,8 @@ pub enum Admission {
 }
 
 pub fn admit(t: &[u16], p: &[u16], out: &mut [u64], work: &mut [u64]) -> Admission
-    requires { ⌜ GivenWords (now t) (length (now out)) (length (now work)) ⌝ }
-    ensures { λ r. ⌜ ((g : GivenWords (now (t .entry)) (length (now (out .entry))) (length (now (work .entry)))) → r ≡ admission-of (g .known .sig) (now (p .entry))) ⌝ }
+    requires { ⌜ GivenWords (now t) (now p) (length (now out)) (length (now work)) ⌝ }
+    ensures { λ r. ⌜ ((g : GivenWords (now (t .entry)) (now (p .entry)) (length (now (out .entry))) (length (now (work .entry)))) → r ≡ admission-of (g .known .sig) (now (p .entry))) ⌝ }
 {
     if !well_formed(t, p) {
         return Admission::Refused(MALFORMED);

@@ -1,4 +1,5 @@
 pub mod Two
+pub mod Meeting
 pub mod Behind
 pub mod Turns
 pub mod Twice

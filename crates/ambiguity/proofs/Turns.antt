@@ -104,6 +104,7 @@ module _ {t : List ℕ} {k : ℕ} {w : List ℕ} {b : Bool} {n m : ℕ} (g : Giv
       pattern = view .p;
       rest = patterns-code (view .qs) ++ g .rest;
       words = to-end w at ∙ words-are;
+      few = omega (arith, g .few, l .ends, size);
       well = view .well;
       light = view .light;
       ranges = view .ranges .0;
@@ -200,7 +201,7 @@ module _ {t : List ℕ} {k : ℕ} {w : List ℕ} {b : Bool} {n m : ℕ} (g : Giv
 
   module _ (n' m' : ℕ) (i : n' ≡ n) (i' : m' ≡ m) where
     pub again : GivenPart t k w b n' m'
-    again = record { known = g .known; there = g .there; pattern = g .pattern; rest = g .rest; words = g .words; well = g .well; light = g .light; ranges = g .ranges; room = omega (arith, i, g .room); work-room = omega (arith, i', g .work-room) }
+    again = record { known = g .known; there = g .there; pattern = g .pattern; rest = g .rest; words = g .words; few = g .few; well = g .well; light = g .light; ranges = g .ranges; room = omega (arith, i, g .room); work-room = omega (arith, i', g .work-room) }
 
     pub twice-so : (vars q : Bool) → ((o : GivenPart t k w b n' m') → q ≡ (vars && taken-twice b (o .known .sig) k (o .pattern))) → q ≡ (vars && taken-twice b (g .known .sig) k (g .pattern))
     unfolding again

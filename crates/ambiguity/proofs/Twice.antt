@@ -111,6 +111,7 @@ module _ {t : List ℕ} {k : ℕ} {w : List ℕ} {b : Bool} {n m : ℕ} (g : Giv
           second = two .second;
           rest = g .rest;
           words = from-is w 1 ∙ ap (drop 1) (g .words ∙ ap (λ x. x ++ g .rest) (two .code-is)) ∙ append-assoc (pattern-code (two .first)) (pattern-code (two .second)) (g .rest);
+          few = omega (arith, g .few, size);
           well-first = two .wells .0;
           well-second = two .wells .1;
           light-first = two .lights .0;

@@ -66,11 +66,12 @@ module _ {t w : List ℕ} {n m : ℕ} (g : GivenWhole t w n m) where
         pattern = g .p;
         rest = [];
         words = sym (append-nil (pattern-code (g .p)) ∙ g .words .is-code);
+        few = omega (arith, s, g .words .at-most);
         well = g .words .well-formed;
         light = g .light;
         ranges = g .ranges;
-        room = omega (arith, s, g .words .at-most, g .room);
-        work-room = omega (arith, s, g .words .at-most, g .work-room);
+        room = omega (arith, s, g .room);
+        work-room = omega (arith, s, g .work-room);
       }
 
   pub whole-made : (used read : ℕ) (o : List ℕ) → ((q : GivenPart t 0 w true n m) → Made (kinds-of (q .known .sig)) (q .known .sig) 0 true (q .pattern) used read o) → RowsFirst (g .known .sig) (g .p) used o

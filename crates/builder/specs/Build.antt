@@ -2,7 +2,7 @@
 use mathlib.Core.Path.{_≡_}
 use mathlib.Core.List.{List, _∷_, [], _++_}
 use mathlib.Core.Bool.{Bool, true, false}
-use Prim.Native.Nat.{ℕ, _<_, _+_, _*_, _≤_}
+use Prim.Native.Nat.{ℕ, _<_, _+_, _*_, _≤_, min}
 use lib.ListN.{length, getD}
 use Rattle.signature.specs.Decoded.{Known}
 use Rattle.signature.specs.Signature.{Signature, is-number-kind}
@@ -95,25 +95,30 @@ pub record GivenPart (t : List ℕ) (k : ℕ) (w : List ℕ) (b : Bool) (n m : �
   pub pattern : Pattern
   pub rest : List ℕ
   pub words : w ≡ pattern-code pattern ++ rest
+  pub few : length (pattern-code pattern) ≤ pattern-limit
   pub well : WellFormed (known .sig) k pattern
   pub light : light-of b pattern ≡ true
   pub ranges : ranged pattern ≡ true
   pub room : room-unit * length (pattern-code pattern) ≤ n
   pub work-room : room-unit * length (pattern-code pattern) ≤ m
 
--- a whole pattern, of kind 0, that passed 7, 18 and 9
--- words of each slice: for a pattern of 64 words
+-- words of each slice for a pattern of 64 words
 abbrev pub row-room : ℕ
 row-room = pattern-limit * room-unit
 
+-- words of each slice for a lent pattern of l words: one of over 64 is malformed and has no rows
+abbrev pub words-room : ℕ → ℕ
+words-room l = room-unit * min l pattern-limit
+
+-- a whole pattern, of kind 0, that passed 7, 18 and 9
 pub record GivenWhole (t ws : List ℕ) (n m : ℕ) : Type 0 where
   pub known : Known t
   pub p : Pattern
   pub words : PatternWords (known .sig) ws p
   pub light : light-plus p ≡ true
   pub ranges : ranged p ≡ true
-  pub room : row-room ≤ n
-  pub work-room : row-room ≤ m
+  pub room : room-unit * length ws ≤ n
+  pub work-room : room-unit * length ws ≤ m
 
 -- the list of its rows stands first, of n words without its end: a row for each of its weight at most
 pub record RowsFirst (sig : Signature) (p : Pattern) (n : ℕ) (o : List ℕ) : Type 0 where

@@ -3,6 +3,7 @@ use cell::cell::CELL;
 use cell::cell::Cell;
 use cell::cell::KIND_TAG;
 use cell::cell::put;
+use pattern::limits::PATTERN_WORDS;
 use pattern::token::Word;
 use pattern::token::classify;
 use pattern::token::own_words;
@@ -40,7 +41,7 @@ ghost use Rattle.rowlist.specs.Product.{GivenProduct, Product, products};
 ghost use Rattle.rowlist.specs.Sides.{rows-of};
 ghost use Rattle.builder.specs.Arguments.{GivenArgs, MadeArgs};
 ghost use Rattle.builder.specs.declared.build.Making.the-variants.{Head, Multiply, Add};
-ghost use Rattle.builder.specs.Build.{making-of, GivenPat, GivenAs, GivenRange, Made, GivenPart, GivenWhole, RowsFirst};
+ghost use Rattle.builder.specs.Build.{making-of, GivenPat, GivenAs, GivenRange, Made, GivenPart, words-room, GivenWhole, RowsFirst};
 
 // How the rows of a pattern are made on one side: a constructor's; the products of its two parts' rows; both parts' rows; one row of one cell, with these variables; none; its part's on the other side; those of a range.
 pub enum Making {
@@ -160,8 +161,21 @@ fn place_of(t: &[u16], tag: u64, c: usize) -> u32
     (c - f) as u32
 }
 
+// Words that each slice needs for each word of a pattern.
+pub const ROOM_UNIT: usize = 257;
+
 // Words that each slice needs for a pattern of 64 words.
-pub const ROW_ROOM: usize = 16448;
+pub const ROW_ROOM: usize = PATTERN_WORDS * ROOM_UNIT;
+
+// Words that each slice needs for a lent pattern of n words.
+pub fn words_room(n: usize) -> usize
+    ensures { λ r. ⌜ r ≡ words-room n ⌝ }
+{
+    if PATTERN_WORDS < n {
+        return ROW_ROOM;
+    }
+    ROOM_UNIT * n
+}
 
 pub struct Built {
     pub used: usize,

@@ -24,7 +24,7 @@ use Rattle.cell.specs.Cursor.{cell-at}
 use Rattle.cell.specs.declared.cell.Cell.{Cell}
 use Rattle.rowlist.proofs.Kinded.{kinds-same}
 use Rattle.tree.specs.Tree.{just-one}
-use Rattle.path.specs.Alive.{member}
+use Rattle.rowset.specs.Member.{member}
 use Rattle.path.specs.Standing.{refined-cell, allowed-of}
 use Rattle.path.specs.State.{kept-by, cell-of}
 use Rattle.column.specs.Column.{Seen, RowKind, RowSaw, Looking, Heading, Column, tag-at, allowed-at, edge-by}

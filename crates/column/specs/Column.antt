@@ -13,9 +13,9 @@ use Rattle.sets.specs.Set.{bit, heads-width}
 use Rattle.signature.specs.Signature.{Signature, heads}
 use Rattle.pattern.specs.Limits.{pattern-limit}
 use Rattle.cell.specs.Cell.{cell-width, kind-tag}
-use Rattle.tree.specs.Limits.{row-limit}
+use Rattle.rowset.specs.Limits.{row-limit}
 use Rattle.tree.specs.Tree.{just-one}
-use Rattle.path.specs.Alive.{member, FirstAlive}
+use Rattle.rowset.specs.Member.{member, FirstIn}
 use Rattle.path.specs.Standing.{refined-cell, tag-of, allowed-of}
 use Rattle.path.specs.State.{cell-of, own-of, row-stride}
 

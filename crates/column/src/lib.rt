@@ -1,9 +1,9 @@
 // The first column: of which kind it is where a row refines it, which of its heads have a child there, and which rows allow a head.
 use cell::cell::KIND_TAG;
-use path::alive::SET_WORDS;
-use path::alive::has;
-use path::alive::put;
 use path::rows::cell_of;
+use rowset::set::SET_WORDS;
+use rowset::set::has;
+use rowset::set::put;
 use sets::heads::Heads;
 use sets::heads::edges;
 use sets::heads::full;
@@ -27,7 +27,7 @@ ghost use Rattle.signature.specs.Decoded.{count-of};
 ghost use Rattle.signature.specs.Limits.{level-count};
 ghost use Rattle.sets.specs.Heads.{number-of};
 ghost use Rattle.sets.specs.Set.{bit};
-ghost use Rattle.path.specs.Alive.{member, set-words};
+ghost use Rattle.rowset.specs.Member.{member, set-words};
 ghost use Rattle.path.specs.State.{kept-of};
 ghost use Rattle.path.specs.Standing.{refined-cell};
 ghost use Rattle.column.specs.Column.{Seen, Looking, Keeping, KeepingRow, Heading, Edging, KindOfColumn, KindOfRow, RowKind, edge-of, end-of, has-child};

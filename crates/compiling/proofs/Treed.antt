@@ -7,7 +7,8 @@ use native.Mathlib.Omega.{arith}
 use lib.Dec.{leb, ltb}
 use lib.ListN.{length, drop}
 use Rattle.signature.proofs.Tests.{le-of, lt-of-not, ltb-yes, ltb-no}
-use Rattle.tree.specs.Limits.{row-limit, tree-limit}
+use Rattle.tree.specs.Limits.{tree-limit}
+use Rattle.rowset.specs.Limits.{row-limit}
 use Rattle.tree.specs.Tree.{Line, Tree, compile}
 use Rattle.tree.specs.Words.{words, layout}
 use Rattle.tree.proofs.RunFacts.{length-layout}

@@ -15,14 +15,11 @@ use Rattle.tree.specs.Answer.{Answer}
 use Rattle.table.specs.Limits.{limits}
 use Rattle.table.specs.Rule.{Rule}
 use Rattle.table.specs.Sound.{sound}
-use Rattle.loading.specs.Load.{InForce}
+use Rattle.opening.specs.Open.{Ruled}
 
--- rules in force and a lawful booking; where the rules' rows stand does not matter
+-- rules in force and a lawful booking
 pub record Judging (t table bs : List ℕ) : Type 0 where
-  pub used : ℕ
-  pub total : ℕ
-  pub rows : List ℕ
-  pub force : InForce t table used total rows
+  pub force : Ruled t table
   pub value : Value
   pub booked : read-booking (force .known .sig) bs ≡ some value
 

@@ -1,5 +1,7 @@
 pub mod Rows
 pub mod Ordering
+pub mod Reading
+pub mod Fewest
 pub mod Sizes
 pub mod Narrow
 pub mod Tables

@@ -1,20 +1,24 @@
 -- The rows that declare number kinds, marked one after the other.
 use mathlib.Core.Path.{_≡_, refl, sym, ap, ap₂, _∙_}
 use mathlib.Core.List.{List, [], _∷_, _++_}
+use mathlib.Core.Option.{some}
 use mathlib.Core.Bool.{Bool, true, false, cond, not, _&&_, _||_}
-use Prim.Native.Nat.{ℕ, _+_, _*_, _≤_, _<_}
+use Prim.Native.Nat.{ℕ, zero, suc, _+_, _*_, _≤_, _<_}
 use native.Mathlib.Nat.{zero-add}
+use native.Mathlib.Numerals.{add-one}
 use native.Mathlib.Omega.{arith}
 use lib.ListN.{length, getD, set, length-set}
 use lib.Seq.{getD-set-same, getD-set-other}
 use lib.Dec.{eqb}
 use Rattle.signature.specs.Limits.{constructor-limit, kind-limit, level-base, level-count}
-use Rattle.signature.specs.Signature.{declares, is-number-kind}
+use Rattle.signature.specs.Lists.{all}
+use Rattle.signature.specs.Signature.{Signature, declares, is-number-kind}
 use Rattle.signature.specs.Decoded.{decoded-length, stride, kind-stride, kinds-at, unkinded, kind-of, arity-of, argument-of, first-of, count-of, least-head-of}
-use Rattle.decoding.specs.Decoding.{declares-number, row, rows, alone-by, marked, mark-of, Marked}
-use Rattle.signature.proofs.Booleans.{and-false, or-false, or-true}
+use Rattle.decoding.specs.Decoding.{declares-number, row, rows, alone-by, plain, marked, mark-of, Marked}
+use Rattle.signature.proofs.Booleans.{and-false, and-left, and-right, not-true, or-false, or-true}
 use Rattle.signature.proofs.Members.{any-append}
 use Rattle.signature.proofs.Counting.{counted-more}
+use Rattle.signature.proofs.ListFacts.{at-count as at-row, test-at}
 use Rattle.signature.proofs.Tests.{eqb-self, eqb-eq, eqb-ne, eqb-no}
 
 -- whether a row declares a number kind, as the code finds it
@@ -33,11 +37,10 @@ alone-not t c e = ap (λ b. not b || eqb (count-of t (kind-of t c)) 1) (sym e)
 pub alone-count : (t : List ℕ) (c j k x : ℕ) → declares-number t c ≡ true → j ≡ kind-of t c → k ≡ j → x ≡ count-of t k → eqb x 1 ≡ alone-by t (row t c)
 alone-count t c j k x e p q r = ap (λ z. eqb z 1) (r ∙ ap (count-of t) (q ∙ p)) ∙ ap (λ b. not b || eqb (count-of t (kind-of t c)) 1) (sym e)
 
-pub and-not : (a b : Bool) → a ≡ false → false ≡ (a && b)
-and-not a b e = rw e
-
-pub and-so : (a b r : Bool) → a ≡ true → r ≡ b → r ≡ (a && b)
-and-so a b r e f = rw e f
+-- rows of which none declares a number kind
+pub all-alone : (t : List ℕ) (cs : Signature) → plain cs ≡ true → true ≡ all (alone-by t) cs
+all-alone t [] e = refl
+all-alone t (c ∷ cs) e = rw (and-left (not (c .number)) (plain cs) e) (all-alone t cs (and-right (not (c .number)) (plain cs) e))
 
 -- whether a row is marked, as the code finds it
 pub mark-not : (t : List ℕ) (c : ℕ) → declares-number t c ≡ false → t ≡ mark-of t c
@@ -173,3 +176,13 @@ module _ (t u : List ℕ) (n : ℕ) (long : length t ≡ decoded-length) (l : n 
       go : (b : Bool) → declares-number u n ≡ b → Marked t (n + 1) (cond b (marked u n (kind-of u n)) u)
       go true q = marked-more (kind-of u n) (kind-low m) refl q
       go false q = marked-not q
+
+pub marked-plain : (t : List ℕ) (n : ℕ) → length t ≡ decoded-length → n ≤ constructor-limit → plain (rows t 0 n) ≡ true → Marked t n t
+marked-plain t n long l e = go n (omega arith)
+  where
+    not-one : (c : ℕ) → c < n → declares-number t c ≡ false
+    not-one c m = not-true (declares-number t c) (test-at (λ d. not (d .number)) (rows t 0 n) c (row t c) e (at-row (λ d. row t d) 0 n c m ∙ ap (λ z. some (row t z)) (zero-add c)))
+
+    go : (m : ℕ) → m ≤ n → Marked t m t
+    go zero p = marked-none t
+    go (suc m) p = rw (← add-one m) (marked-not t t m long (omega arith) (go m (omega arith)) (not-one m (omega arith)))

@@ -1,24 +1,23 @@
 -- The kinds' order, and each kind's first constructor and count.
-use mathlib.Core.Path.{_≡_, refl, sym, ap, ap₂, _∙_, subst}
+use mathlib.Core.Path.{_≡_, refl, sym, ap, ap₂, _∙_}
 use mathlib.Core.Logic.{_⊎_, inl, inr}
 use mathlib.Core.List.{List, [], _∷_}
 use mathlib.Core.Option.{Option, none, some}
 use mathlib.Core.Bool.{Bool, true, false, cond}
 use Prim.Native.Nat.{ℕ, zero, suc, _+_, _-_, _*_, _≤_, _<_}
-use native.Mathlib.Nat.{sub-zero}
 use native.Mathlib.Numerals.{add-one}
 use native.Mathlib.Omega.{arith}
 use lib.ListN.{length, getD, set, length-set}
-use lib.Dec.{eqb, ltb, leb}
+use lib.Dec.{eqb, ltb}
 use lib.Seq.{getD-set-other}
 use Rattle.signature.specs.Limits.{kind-limit, constructor-limit}
 use Rattle.signature.specs.Lists.{_>>=_, require, first}
 use Rattle.signature.specs.Read.{count-kinds, kinds-from}
 use Rattle.signature.specs.Signature.{Signature, Constructor, numbers, numbers-from}
-use Rattle.signature.specs.Decoded.{decoded-length, stride, kind-of, kinds-at, kind-stride, first-of, count-of}
-use Rattle.decoding.specs.Decoding.{row, rows, next-kinds, kinds-or-0, HeadNoted, SameBelow, InOrder}
+use Rattle.signature.specs.Decoded.{decoded-length, kinds-at, kind-stride, first-of, count-of}
+use Rattle.decoding.specs.Decoding.{next-kinds, kinds-or-0, kinds-due, HeadNoted, Noted}
 use Rattle.signature.proofs.Tests.{eqb-self, eqb-eq, eqb-ne, eqb-no, ltb-yes, ltb-no, leb-no, le-of, lt-of-not, some-inj, bind-some}
-use Rattle.signature.proofs.Counting.{count-one, count-none, set-is, set-apart}
+use Rattle.signature.proofs.Counting.{set-is, set-apart}
 
 -- the next number of kinds
 eqb-yes : (m n : ℕ) → m ≡ n → eqb m n ≡ true
@@ -37,10 +36,10 @@ pub next-many : (k n : ℕ) → k ≡ n → kind-limit ≤ n → 0 ≡ next-kind
 next-many k n e l = rw (eqb-no (suc k) n (λ p. omega arith), eqb-yes k n e, ltb-no n kind-limit l)
 
 -- why a constructor of kind k may follow n kinds, or why not
-abbrev Follows : ℕ → ℕ → Type 0
+abbrev pub Follows : ℕ → ℕ → Type 0
 Follows k n = ((suc k ≡ n) × (next-kinds k n ≡ n)) ⊎ ((k ≡ n) × (n < kind-limit) × (next-kinds k n ≡ suc n))
 
-follows : (k n : ℕ) → 0 < next-kinds k n → Follows k n
+pub follows : (k n : ℕ) → 0 < next-kinds k n → Follows k n
 follows k n l = go (eqb (suc k) n) (eqb k n) (ltb n kind-limit) refl refl refl
   where
     go : (a b d : Bool) → eqb (suc k) n ≡ a → eqb k n ≡ b → ltb n kind-limit ≡ d → Follows k n
@@ -49,11 +48,7 @@ follows k n l = go (eqb (suc k) n) (eqb k n) (ltb n kind-limit) refl refl refl
     go false true false p q r = absurd (let z : 0 ≡ next-kinds k n = rw (p, q, r) in omega arith)
     go false false d p q r = absurd (let z : 0 ≡ next-kinds k n = rw (p, q) in omega arith)
 
--- the kinds that the constructors ahead make, after n kinds
-abbrev pub kinds-due : ℕ → Signature → Option ℕ
-kinds-due zero cs = count-kinds cs
-kinds-due (suc k) cs = kinds-from k cs
-
+-- the kinds that the constructors ahead make
 pub due-more : (n : ℕ) (d : Constructor) (cs : Signature) → 0 < next-kinds (d .kind) n → kinds-due n (d ∷ cs) ≡ kinds-due (next-kinds (d .kind) n) cs
 due-more n d cs l = go n (follows (d .kind) n l)
   where
@@ -94,14 +89,6 @@ due-refused (suc k) d cs z = go (eqb (d .kind) k) (eqb (d .kind) (suc k)) (ltb (
     go false true false p q r = rw (p, q) (too-many (suc k) cs (omega (arith, lt-of-not (suc (suc k)) kind-limit r)))
     go false false e p q r = rw (p, q)
 
-pub due-end : (n : ℕ) → n ≤ kind-limit → n ≡ kinds-or-0 (kinds-due n [])
-due-end zero l = refl
-due-end (suc k) l = go (leb (suc k) kind-limit) refl
-  where
-    go : (b : Bool) → leb (suc k) kind-limit ≡ b → suc k ≡ cond (leb (suc k) kind-limit) (suc k) 0
-    go true q = rw q
-    go false q = absurd (omega (arith, lt-of-not (suc k) kind-limit q))
-
 pub next-few : (k n : ℕ) → n ≤ kind-limit → next-kinds k n ≤ kind-limit
 next-few k n l = go (eqb (next-kinds k n) 0) refl
   where
@@ -127,21 +114,12 @@ next-grows k n l = go (follows k n l)
     go (inl (p, e)) = omega arith
     go (inr (p, m, e)) = omega arith
 
-pub next-old : (k n : ℕ) → 0 < next-kinds k n → ¬ (k ≡ n) → k < n
-next-old k n l h = go (follows k n l)
-  where
-    go : Follows k n → k < n
-    go (inl (p, e)) = omega arith
-    go (inr (p, m, e)) = absurd (h p)
-
--- what is noted of each kind's constructors, those ahead being still to count
-pub record Noted (sig ahead : Signature) (c n : ℕ) (t : List ℕ) : Type 0 where
-  pub seen : (k : ℕ) → k < n → (first-of t k ≡ first (numbers sig k)) × (count-of t k + length (numbers-from c ahead k) ≡ length (numbers sig k))
-  pub unseen : (k : ℕ) → n ≤ k → numbers-from c ahead k ≡ numbers sig k
-  pub few : (k : ℕ) → k < n → count-of t k ≤ c
-
+-- what is noted of each kind's constructors
 pub noted-none : (sig : Signature) (t : List ℕ) → Noted sig sig 0 0 t
-noted-none sig t = record { seen = λ k l. absurd (omega arith); unseen = λ k l. refl; few = λ k l. absurd (omega arith) }
+noted-none sig t = record { seen = λ k l. absurd (omega arith); unseen = λ k l. refl }
+
+pub noted-same : (sig ahead : Signature) (c n : ℕ) (t u : List ℕ) → ((i : ℕ) → kinds-at ≤ i → getD u i 0 ≡ getD t i 0) → Noted sig ahead c n t → Noted sig ahead c n u
+noted-same sig ahead c n t u e h = record { seen = λ k l. (e (kinds-at + kind-stride * k) (omega arith) ∙ h .seen k l .0, ap (λ z. z + length (numbers-from c ahead k)) (e (kinds-at + kind-stride * k + 1) (omega arith)) ∙ h .seen k l .1); unseen = h .unseen }
 
 module _ (sig : Signature) (d : Constructor) (ahead : Signature) (c n : ℕ) (t u : List ℕ) (h : Noted sig (d ∷ ahead) c n t) (g : HeadNoted t (d .kind) c n u) where
   of-other : (k : ℕ) → ¬ (k ≡ d .kind) → numbers-from c (d ∷ ahead) k ≡ numbers-from (c + 1) ahead k
@@ -150,40 +128,38 @@ module _ (sig : Signature) (d : Constructor) (ahead : Signature) (c n : ℕ) (t 
   of-this : (k : ℕ) → k ≡ d .kind → numbers-from c (d ∷ ahead) k ≡ c ∷ numbers-from (c + 1) ahead k
   of-this k e = rw (add-one c, eqb-yes (d .kind) k (sym e))
 
-  seen-more : Follows (d .kind) n → (k : ℕ) → k < next-kinds (d .kind) n → (first-of u k ≡ first (numbers sig k)) × (count-of u k + length (numbers-from (c + 1) ahead k) ≡ length (numbers sig k)) × (count-of u k ≤ c + 1)
+  seen-more : Follows (d .kind) n → (k : ℕ) → k < next-kinds (d .kind) n → (first-of u k ≡ first (numbers sig k)) × (count-of u k + length (numbers-from (c + 1) ahead k) ≡ length (numbers sig k))
   seen-more f k l = go (eqb k (d .kind)) refl f
     where
-      go : (b : Bool) → eqb k (d .kind) ≡ b → Follows (d .kind) n → (first-of u k ≡ first (numbers sig k)) × (count-of u k + length (numbers-from (c + 1) ahead k) ≡ length (numbers sig k)) × (count-of u k ≤ c + 1)
+      go : (b : Bool) → eqb k (d .kind) ≡ b → Follows (d .kind) n → (first-of u k ≡ first (numbers sig k)) × (count-of u k + length (numbers-from (c + 1) ahead k) ≡ length (numbers sig k))
       go true q (inl (p, e)) =
           let z : k ≡ d .kind = eqb-eq k (d .kind) q in
           let (a, b) = g .old (λ y. omega arith) in
           let (a′, b′) = h .seen k (omega arith) in
-          let m : count-of t k ≤ c = h .few k (omega arith) in
           let w : length (numbers-from c (d ∷ ahead) k) ≡ suc (length (numbers-from (c + 1) ahead k)) = ap length (of-this k z) in
           let r : count-of u k ≡ suc (count-of t k) = rw z b in
-          ((rw z a) ∙ a′, omega arith, omega arith)
+          ((rw z a) ∙ a′, omega arith)
       go true q (inr (p, y, e)) =
           let z : k ≡ d .kind = eqb-eq k (d .kind) q in
           let (a, b) = g .new p in
           let v : c ∷ numbers-from (c + 1) ahead k ≡ numbers sig k = sym (of-this k z) ∙ h .unseen k (omega arith) in
           let w : suc (length (numbers-from (c + 1) ahead k)) ≡ length (numbers sig k) = ap length v in
           let r : count-of u k ≡ 1 = rw z b in
-          ((rw z a) ∙ ap first v, omega arith, omega arith)
+          ((rw z a) ∙ ap first v, omega arith)
       go false q y =
           let z : ¬ (k ≡ d .kind) = eqb-ne k (d .kind) q in
           let (a, b) = g .others k z in
           let x : k < n = below y z in
           let (a′, b′) = h .seen k x in
-          let m : count-of t k ≤ c = h .few k x in
           let w : length (numbers-from c (d ∷ ahead) k) ≡ length (numbers-from (c + 1) ahead k) = ap length (of-other k z) in
-          (a ∙ a′, omega arith, omega arith)
+          (a ∙ a′, omega arith)
         where
           below : Follows (d .kind) n → ¬ (k ≡ d .kind) → k < n
           below (inl (p, e)) z = omega arith
           below (inr (p, m, e)) z = omega arith
 
   pub noted-more : 0 < next-kinds (d .kind) n → Noted sig ahead (c + 1) (next-kinds (d .kind) n) u
-  noted-more l = record { seen = λ k m. let (a, b, e) = seen-more (follows (d .kind) n l) k m in (a, b); unseen = λ k m. sym (of-other k (λ p. omega (arith, next-below (d .kind) n l))) ∙ h .unseen k (omega (arith, next-grows (d .kind) n l)); few = λ k m. let (a, b, e) = seen-more (follows (d .kind) n l) k m in e }
+  noted-more l = record { seen = seen-more (follows (d .kind) n l); unseen = λ k m. sym (of-other k (λ p. omega (arith, next-below (d .kind) n l))) ∙ h .unseen k (omega (arith, next-grows (d .kind) n l)) }
 
 -- noting one constructor
 module _ (t : List ℕ) (k c n : ℕ) (long : length t ≡ decoded-length) (lk : k < kind-limit) where
@@ -196,74 +172,11 @@ module _ (t : List ℕ) (k c n : ℕ) (long : length t ≡ decoded-length) (lk :
       other : (x : ℕ) → ¬ (x ≡ place) → ¬ (x ≡ place + 1) → getD (set (set t place c) (place + 1) 1) x 0 ≡ getD t x 0
       other x y z = getD-set-other (set t place c) (place + 1) x 1 0 z ∙ getD-set-other t place x c 0 y
 
-  pub head-old : ¬ (k ≡ n) → HeadNoted t k c n (set t (place + 1) (getD t (place + 1) 0 + 1))
-  head-old e = record { long = length-set t (place + 1) v; rows-same = λ i l. set-apart t (place + 1) i v (omega arith); others = λ j z. (other (kinds-at + kind-stride * j) (λ p. omega arith), other (kinds-at + kind-stride * j + 1) (λ p. z (omega arith))); new = λ z. absurd (e z); old = λ z. (set-apart t (place + 1) place v (omega arith), set-is t (place + 1) (place + 1) v (omega arith) refl ∙ add-one (getD t (place + 1) 0)) }
+  pub head-old : ¬ (k ≡ n) → c < constructor-limit → first-of t k + count-of t k ≡ c → HeadNoted t k c n (set t (place + 1) (c + 1 - getD t place 0))
+  head-old e lc q = record { long = length-set t (place + 1) v; rows-same = λ i l. set-apart t (place + 1) i v (omega arith); others = λ j z. (other (kinds-at + kind-stride * j) (λ p. omega arith), other (kinds-at + kind-stride * j + 1) (λ p. z (omega arith))); new = λ z. absurd (e z); old = λ z. (set-apart t (place + 1) place v (omega arith), set-is t (place + 1) (place + 1) v (omega arith) refl ∙ (omega arith)) }
     where
       v : ℕ
-      v = getD t (place + 1) 0 + 1
+      v = c + 1 - getD t place 0
 
-      other : (x : ℕ) → ¬ (x ≡ place + 1) → getD (set t (place + 1) (getD t (place + 1) 0 + 1)) x 0 ≡ getD t x 0
-      other x z = getD-set-other t (place + 1) x (getD t (place + 1) 0 + 1) 0 z
-
--- what the loop over the constructors keeps: c of n have been counted, so many kinds among them
-pub record Ordering (t₀ : List ℕ) (n : ℕ) (t : List ℕ) (kinds c : ℕ) : Type 0 where
-  pub long : length t ≡ decoded-length
-  pub few-kinds : kinds ≤ kind-limit
-  pub within : c ≤ n
-  pub same : SameBelow kinds-at t₀ t
-  pub due : count-kinds (rows t₀ 0 n) ≡ kinds-due kinds (rows t₀ c (n - c))
-  pub noted : Noted (rows t₀ 0 n) (rows t₀ c (n - c)) c kinds t
-  pub each : (i : ℕ) → i < c → kind-of t₀ i < kinds
-
-pub ordering-none : (t : List ℕ) (n : ℕ) → length t ≡ decoded-length → Ordering t n t 0 0
-ordering-none t n l = record { long = l; few-kinds = omega arith; within = omega arith; same = λ i m. refl; due = rw (sub-zero n); noted = rw (sub-zero n) (noted-none (rows t 0 n) t); each = λ i m. absurd (omega arith) }
-
-module _ (t₀ : List ℕ) (n : ℕ) (t : List ℕ) (kinds c : ℕ) (h : Ordering t₀ n t kinds c) where
-  ahead : c < n → rows t₀ c (n - c) ≡ row t₀ c ∷ rows t₀ (c + 1) (n - (c + 1))
-  ahead l = rw (count-one c n l)
-
-  kind-there : (k : ℕ) → c < constructor-limit → k ≡ kind-of t c → k ≡ kind-of t₀ c
-  kind-there k l e = e ∙ h .same (stride * c) (omega arith)
-
-  pub ordering-refused : (k m : ℕ) → c < n → c < constructor-limit → k ≡ kind-of t c → m ≡ next-kinds k kinds → m ≡ 0 → InOrder t₀ n t 0
-  ordering-refused k m l lc ek em z =
-      let e : next-kinds (kind-of t₀ c) kinds ≡ 0 = ap (λ x. next-kinds x kinds) (sym (kind-there k lc ek)) ∙ sym em ∙ z in
-      let f : 0 ≡ kinds-or-0 (count-kinds (rows t₀ 0 n)) = rw (h .due, ahead l) (due-refused kinds (row t₀ c) (rows t₀ (c + 1) (n - (c + 1))) e) in
-      record { long = h .long; rows-same = h .same; counted = f; few = omega arith; noted = λ y. absurd (omega arith); each = λ y. absurd (omega arith) }
-
-  pub ordering-end : n ≤ c → InOrder t₀ n t kinds
-  ordering-end l = record { long = h .long; rows-same = h .same; counted = counted; few = h .few-kinds; noted = λ y k m. (h .noted .seen k m .0, count k m); each = λ y i m. h .each i (omega arith) }
-    where
-      counted : kinds ≡ kinds-or-0 (count-kinds (rows t₀ 0 n))
-      counted = rw (h .due, count-none c c n l) (due-end kinds (h .few-kinds))
-
-      count : (k : ℕ) → k < kinds → count-of t k ≡ length (numbers (rows t₀ 0 n) k)
-      count k m =
-          let e : count-of t k + 0 ≡ length (numbers (rows t₀ 0 n) k) = rw (count-none c c n l) at (h .noted .seen k m .1) in
-          omega arith
-
-  pub ordering-more : (u : List ℕ) (k m w : ℕ) → c < n → c < constructor-limit → k ≡ kind-of t c → m ≡ next-kinds k kinds → ¬ (m ≡ 0) → w ≡ k → HeadNoted t w c kinds u → Ordering t₀ n u m (c + 1)
-  ordering-more u k m w l lc ek em z ew g =
-      let q : k ≡ kind-of t₀ c = kind-there k lc ek in
-      let e : m ≡ next-kinds (kind-of t₀ c) kinds = em ∙ ap (λ x. next-kinds x kinds) q in
-      let p : 0 < next-kinds (kind-of t₀ c) kinds = omega arith in
-      let g′ : HeadNoted t (kind-of t₀ c) c kinds u = subst (λ x. HeadNoted t x c kinds u) (ew ∙ q) g in
-      let r : Noted (rows t₀ 0 n) (row t₀ c ∷ rows t₀ (c + 1) (n - (c + 1))) c kinds t = subst (λ x. Noted (rows t₀ 0 n) x c kinds t) (ahead l) (h .noted) in
-      subst (λ x. Ordering t₀ n u x (c + 1)) (sym e)
-      (record { long = g .long ∙ h .long; few-kinds = next-few (kind-of t₀ c) kinds (h .few-kinds); within = omega arith; same = λ i y. g .rows-same i y ∙ h .same i y; due = h .due ∙ ap (kinds-due kinds) (ahead l) ∙ due-more kinds (row t₀ c) (rows t₀ (c + 1) (n - (c + 1))) p; noted = noted-more (rows t₀ 0 n) (row t₀ c) (rows t₀ (c + 1) (n - (c + 1))) c kinds t u r g′ p; each = each p })
-    where
-      each : 0 < next-kinds (kind-of t₀ c) kinds → (i : ℕ) → i < c + 1 → kind-of t₀ i < next-kinds (kind-of t₀ c) kinds
-      each p i y = go (eqb i c) refl
-        where
-          go : (b : Bool) → eqb i c ≡ b → kind-of t₀ i < next-kinds (kind-of t₀ c) kinds
-          go true x = let s : i ≡ c = eqb-eq i c x in rw s (next-below (kind-of t₀ c) kinds p)
-          go false x =
-              let s : ¬ (i ≡ c) = eqb-ne i c x in
-              omega (arith, h .each i (omega arith), next-grows (kind-of t₀ c) kinds p)
-
-  -- what noting asks
-  pub kind-small : (k m w : ℕ) → k ≡ kind-of t c → m ≡ next-kinds k kinds → ¬ (m ≡ 0) → w ≡ k → w < kind-limit
-  kind-small k m w ek em z ew = omega (arith, next-below k kinds (omega arith), next-few k kinds (h .few-kinds))
-
-  pub count-small : (k m w : ℕ) → m ≡ next-kinds k kinds → ¬ (m ≡ 0) → w ≡ k → ¬ (w ≡ kinds) → count-of t w ≤ c
-  count-small k m w em z ew y = rw ew (h .noted .few k (next-old k kinds (omega arith) (λ p. y (ew ∙ p))))
+      other : (x : ℕ) → ¬ (x ≡ place + 1) → getD (set t (place + 1) (c + 1 - getD t place 0)) x 0 ≡ getD t x 0
+      other x z = getD-set-other t (place + 1) x (c + 1 - getD t place 0) 0 z

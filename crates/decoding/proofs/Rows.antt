@@ -1,23 +1,24 @@
 -- Reading the constructors' words into rows.
 use mathlib.Core.Path.{_≡_, refl, sym, ap, ap₂, _∙_}
-use mathlib.Core.List.{List, [], _∷_, _++_, append-assoc, append-nil}
+use mathlib.Core.List.{List, [], _∷_, _++_, append-assoc}
 use mathlib.Core.Option.{Option, none, some}
 use mathlib.Core.Bool.{Bool, true, false, _&&_}
 use Prim.Native.Nat.{ℕ, zero, suc, _+_, _-_, _*_, _≤_, _<_}
 use native.Mathlib.Numerals.{add-one}
-use native.Mathlib.Nat.{sub-zero, zero-add, add-zero, add-suc, suc-add}
+use native.Mathlib.Nat.{zero-add, add-zero, add-suc, suc-add}
 use native.Mathlib.Omega.{arith}
 use lib.ListN.{length, getD, set, take, drop, length-drop, length-set}
-use lib.Seq.{drop-cons, drop-drop, drop-length, getD-set-same, getD-set-other}
-use lib.Dec.{eqb}
+use lib.Seq.{drop-cons, drop-drop, getD-set-same, getD-set-other}
+use lib.Dec.{eqb, ltb}
 use Rattle.signature.specs.Limits.{argument-limit, constructor-limit, number-count}
-use Rattle.signature.specs.Lists.{_>>=_, split}
+use Rattle.signature.specs.Lists.{_>>=_, split, all}
 use Rattle.signature.specs.Read.{read-arguments, read-constructors}
 use Rattle.signature.specs.Signature.{Signature, Constructor}
-use Rattle.signature.specs.Decoded.{decoded-length, stride, kind-of, arity-of, argument-of}
-use Rattle.decoding.specs.Decoding.{words-from, declares-number, row, rows, SameBelow, read-constructor, argument-count, flag-by, Copied, RowRead, Arities, RowsRead}
+use Rattle.signature.specs.Decoded.{decoded-length, stride, kinds-at, kind-of, arity-of, argument-of}
+use Rattle.decoding.specs.Decoding.{words-from, declares-number, row, rows, SameBelow, read-constructor, argument-count, flag-by, below, Highest, Copied, RowRead, Arities, led-by}
 use Rattle.signature.proofs.ListFacts.{split-none, split-some}
-use Rattle.signature.proofs.Tests.{leb-yes, leb-no, true≢false, eqb-eq, eqb-ne}
+use Rattle.signature.proofs.Booleans.{and-assoc, and-false, and-true}
+use Rattle.signature.proofs.Tests.{leb-yes, leb-no, ltb-yes, le-of, eqb-eq, eqb-ne}
 use Rattle.signature.proofs.Counting.{counted-same, counted-more, set-is, set-apart}
 
 -- copying
@@ -35,6 +36,31 @@ copied-more w from t to n u l h = record { long = length-set u (to + n) (getD w 
         go false q =
             let e : ¬ (j ≡ n) = eqb-ne j n q in
             getD-set-other u (to + n) (to + j) (getD w (from + n) 0) 0 (λ p. e (omega arith)) ∙ h .there j (omega arith)
+
+-- the highest word
+pub all-more : {A : Type 0} (f : A → Bool) (xs : List A) (y : A) → all f (xs ++ (y ∷ [])) ≡ (all f xs && f y)
+all-more f [] y = and-true (f y)
+all-more f (x ∷ xs) y = ap (λ z. f x && z) (all-more f xs y) ∙ and-assoc (f x) (all f xs) (f y)
+
+pub highest-none : (m : ℕ) → Highest m [] m
+highest-none m k = sym (and-true (ltb m k))
+
+pub highest-more : (w : List ℕ) (from i m h r : ℕ) → ((k : ℕ) → ltb r k ≡ (ltb h k && ltb (getD w (from + i) 0) k)) → Highest m (words-from w from i) h → Highest m (words-from w from (i + 1)) r
+highest-more w from i m h r e g k = e k ∙ ap (λ z. z && ltb (getD w (from + i) 0) k) (g k) ∙ sym (and-assoc (ltb m k) (below k (words-from w from i)) (ltb (getD w (from + i) 0) k)) ∙ ap (λ z. ltb m k && z) (sym (ap (below k) (counted-more (λ j. getD w j 0) from i) ∙ all-more (λ j. ltb j k) (words-from w from i) (getD w (from + i) 0)))
+
+pub higher-first : (a b : ℕ) → b ≤ a → (k : ℕ) → ltb a k ≡ (ltb a k && ltb b k)
+higher-first a b l k = go (ltb a k) refl
+  where
+    go : (x : Bool) → ltb a k ≡ x → ltb a k ≡ (ltb a k && ltb b k)
+    go true q = let m : a < k = le-of (suc a) k q in rw (q, ltb-yes b k (omega arith))
+    go false q = rw q
+
+pub higher-second : (a b : ℕ) → a < b → (k : ℕ) → ltb b k ≡ (ltb a k && ltb b k)
+higher-second a b l k = go (ltb b k) refl
+  where
+    go : (x : Bool) → ltb b k ≡ x → ltb b k ≡ (ltb a k && ltb b k)
+    go true q = let m : b < k = le-of (suc b) k q in rw (q, ltb-yes a k (omega arith))
+    go false q = rw (q, and-false (ltb a k))
 
 -- one constructor, then the others
 pub read-one : (n : ℕ) (ws : List ℕ) → read-constructors (suc n) ws ≡ (read-constructor ws >>= λ r. read-constructors n (r .1) >>= λ cs. some (r .0 ∷ cs))
@@ -81,6 +107,9 @@ few-of m l = go (eqb m number-count) refl
         let z : ¬ (m ≡ number-count) = eqb-ne m number-count q in
         rw q (omega arith)
 
+pub none-of : (m : ℕ) → m ≡ 0 → (0 ≡ argument-count m) × (0 ≡ flag-by m)
+none-of m e = rw e (refl, refl)
+
 -- and the word in the place of the first argument
 number-is : (m x : ℕ) → (argument-count m ≡ 0 → x ≡ flag-by m) → (eqb (argument-count m) 0 && eqb x 1) ≡ eqb m number-count
 number-is m x h = go (eqb m number-count) refl
@@ -116,7 +145,7 @@ module _ (w : List ℕ) (p : ℕ) (t : List ℕ) (c m : ℕ) (u : List ℕ) (n f
   Begun = set two (stride * c + 2) f
 
   pub row-taken : length t ≡ decoded-length → c < constructor-limit → m ≡ n → n ≡ argument-count (getD w (p + 1) 0) → getD w (p + 1) 0 ≤ number-count → p + 2 + m ≤ length w → f ≡ flag-by (getD w (p + 1) 0) → Copied w (p + 2) Begun (stride * c + 2) m u → RowRead w p t c u (m + 2)
-  row-taken lt lc mn en lb lw ef h = record { long = h .long ∙ long; within = omega arith; refused = λ z. absurd (omega arith); taken = λ z. taken; arity = λ z. omega (arith, arity, la); before = before }
+  row-taken lt lc mn en lb lw ef h = record { long = h .long ∙ long; within = omega arith; refused = λ z. absurd (omega arith); taken = λ z. taken; two = λ z. omega arith; kind = λ z. kind; number = λ z. number; arity = λ z. omega (arith, arity, la); before = before; behind = behind }
     where
       em : m ≡ argument-count (getD w (p + 1) 0)
       em = mn ∙ en
@@ -145,6 +174,9 @@ module _ (w : List ℕ) (p : ℕ) (t : List ℕ) (c m : ℕ) (u : List ℕ) (n f
       before : SameBelow (stride * c) t u
       before i l = below i (omega arith) ∙ set-apart one (stride * c + 1) i n (omega arith) ∙ set-apart t (stride * c) i (getD w p 0) l
 
+      behind : (i : ℕ) → kinds-at ≤ i → getD u i 0 ≡ getD t i 0
+      behind i l = h .behind i (omega (arith, la)) ∙ getD-set-other two (stride * c + 2) i f 0 (λ z. omega arith) ∙ getD-set-other one (stride * c + 1) i n 0 (λ z. omega arith) ∙ getD-set-other t (stride * c) i (getD w p 0) 0 (λ z. omega arith)
+
       cut : split m (drop (p + 2) w) ≡ some (words-from u (stride * c + 2) m, drop (p + (m + 2)) w)
       cut =
           let e : p + 2 + m ≡ p + (m + 2) = omega arith in
@@ -155,6 +187,12 @@ module _ (w : List ℕ) (p : ℕ) (t : List ℕ) (c m : ℕ) (u : List ℕ) (n f
 
       taken : read-constructor (drop p w) ≡ some (row u c, drop (p + (m + 2)) w)
       taken = found ∙ sym (ap (λ z. some (z, drop (p + (m + 2)) w)) (ap₂ (λ x y. record { kind = x; args = words-from u (stride * c + 2) y; number = declares-number u c }) kind arity ∙ ap (λ z. record { kind = getD w p 0; args = words-from u (stride * c + 2) m; number = z }) number))
+
+  pub row-highest : (most r : ℕ) → length t ≡ decoded-length → c < constructor-limit → m ≡ n → p + 2 + m ≤ length w → Copied w (p + 2) Begun (stride * c + 2) m u → Highest most (words-from w (p + 2) m) r → Highest most (row u c .args) r
+  row-highest most r lt lc mn lw h g k = g k ∙ ap (λ z. ltb most k && below k z) (sym (words-taken w w (p + 2) (p + 2) m lw (λ j l. refl)) ∙ words-taken u w (stride * c + 2) (p + 2) m lw (h .there) ∙ ap (words-from u (stride * c + 2)) (sym arity))
+    where
+      arity : arity-of u c ≡ m
+      arity = h .before (stride * c + 1) (omega arith) ∙ set-apart two (stride * c + 2) (stride * c + 1) f (omega arith) ∙ set-is one (stride * c + 1) (stride * c + 1) n (omega (arith, length-set t (stride * c) (getD w p 0))) refl ∙ sym mn
 
 -- rows that nothing has written since
 pub row-same : (t u : List ℕ) (m c : ℕ) → SameBelow m t u → stride * c + stride ≤ m → arity-of t c ≤ argument-limit → row u c ≡ row t c
@@ -168,33 +206,19 @@ pub rows-same : (t u : List ℕ) (m n : ℕ) → SameBelow m t u → stride * n 
 rows-same t u m n h l a = counted-same (λ d. row u d) (λ d. row t d) 0 n (λ j z. rw (zero-add j) (row-same t u m j h (omega arith) (a j z)))
 
 -- the turns of the reader
-abbrev pub behind : Signature → Option Signature → Option Signature
-behind cs o = o >>= λ ds. some (cs ++ ds)
+led-one : (cs : Signature) (d : Constructor) (o : Option Signature) → led-by cs (o >>= λ ds. some (d ∷ ds)) ≡ led-by (cs ++ (d ∷ [])) o
+led-one cs d none = refl
+led-one cs d (some ds) = ap some (sym (append-assoc cs (d ∷ []) ds))
 
-behind-one : (cs : Signature) (d : Constructor) (o : Option Signature) → behind cs (o >>= λ ds. some (d ∷ ds)) ≡ behind (cs ++ (d ∷ [])) o
-behind-one cs d none = refl
-behind-one cs d (some ds) = ap some (sym (append-assoc cs (d ∷ []) ds))
+pub led-none : (o : Option Signature) → o ≡ led-by [] o
+led-none none = refl
+led-none (some ds) = refl
 
-behind-none : (o : Option Signature) → o ≡ behind [] o
-behind-none none = refl
-behind-none (some ds) = refl
+pub rows-more : (w t u : List ℕ) (p c words m : ℕ) → RowRead w p t c u words → 0 < words → read-constructors (c + suc m) (drop 1 w) ≡ led-by (rows t 0 c) (read-constructors (suc m) (drop p w)) → read-constructors (c + suc m) (drop 1 w) ≡ led-by (rows t 0 c ++ (row u c ∷ [])) (read-constructors m (drop (p + words) w))
+rows-more w t u p c words m h k e = e ∙ ap (led-by (rows t 0 c)) (read-one m (drop p w) ∙ ap (λ o. o >>= λ r. read-constructors m (r .1) >>= λ cs. some (r .0 ∷ cs)) (h .taken k)) ∙ led-one (rows t 0 c) (row u c) (read-constructors m (drop (p + words) w))
 
-pub rows-none : (t ws : List ℕ) (n : ℕ) → read-constructors n ws ≡ behind (rows t 0 0) (read-constructors (n - 0) ws)
-rows-none t ws n = rw (sub-zero n) (behind-none (read-constructors n ws))
-
-pub rows-more : (w t u : List ℕ) (p c n m : ℕ) (o : Option Signature) → c < n → RowRead w p t c u m → 0 < m → Arities t c → o ≡ behind (rows t 0 c) (read-constructors (n - c) (drop p w)) → o ≡ behind (rows u 0 (c + 1)) (read-constructors (n - (c + 1)) (drop (p + m) w))
-rows-more w t u p c n m o l h k a e =
-    let s : n - c ≡ suc (n - (c + 1)) = omega arith in
-    let r : rows u 0 c ≡ rows t 0 c = rows-same t u (stride * c) c (h .before) (omega arith) a in
-    let q : rows u 0 (c + 1) ≡ rows u 0 c ++ (row u c ∷ []) = counted-more (λ d. row u d) 0 c ∙ ap (λ z. rows u 0 c ++ (row u z ∷ [])) (zero-add c) in
-    let f : read-constructors (n - c) (drop p w) ≡ (read-constructors (n - (c + 1)) (drop (p + m) w) >>= λ cs. some (row u c ∷ cs)) = rw (s, read-one (n - (c + 1)) (drop p w), h .taken k) in
-    e ∙ ap (λ z. behind (rows t 0 c) z) f ∙ behind-one (rows t 0 c) (row u c) (read-constructors (n - (c + 1)) (drop (p + m) w)) ∙ ap (λ z. behind z (read-constructors (n - (c + 1)) (drop (p + m) w))) (ap (λ z. z ++ (row u c ∷ [])) (sym r) ∙ sym q)
-
-pub rows-refused : (w t u : List ℕ) (p c n m : ℕ) (o : Option Signature) → c < n → RowRead w p t c u m → m ≡ 0 → o ≡ behind (rows t 0 c) (read-constructors (n - c) (drop p w)) → o ≡ none
-rows-refused w t u p c n m o l h k e =
-    let s : n - c ≡ suc (n - (c + 1)) = omega arith in
-    let f : read-constructors (n - c) (drop p w) ≡ none = rw (s, read-one (n - (c + 1)) (drop p w), h .refused k) in
-    e ∙ ap (λ z. behind (rows t 0 c) z) f
+pub row-none : (w t u : List ℕ) (p c m : ℕ) → RowRead w p t c u 0 → read-constructors (c + suc m) (drop 1 w) ≡ led-by (rows t 0 c) (read-constructors (suc m) (drop p w)) → read-constructors (c + suc m) (drop 1 w) ≡ none
+row-none w t u p c m h e = e ∙ ap (led-by (rows t 0 c)) (read-one m (drop p w) ∙ ap (λ o. o >>= λ r. read-constructors m (r .1) >>= λ cs. some (r .0 ∷ cs)) (h .refused refl))
 
 pub arities-more : (w t u : List ℕ) (p c m : ℕ) → RowRead w p t c u m → 0 < m → Arities t c → Arities u (c + 1)
 arities-more w t u p c m h k a j l = go (eqb j c) refl
@@ -207,28 +231,5 @@ arities-more w t u p c m h k a j l = go (eqb j c) refl
         let b : arity-of t j ≤ argument-limit = a j (omega arith) in
         omega arith
 
--- what the reader hands back
-pub read-refused : (ws : List ℕ) (n : ℕ) (u : List ℕ) → length u ≡ decoded-length → read-constructors n ws ≡ none → RowsRead ws n u false
-read-refused ws n u l e = record { long = l; refused = λ z. e; taken = λ z. true≢false (sym z); arities = λ z. true≢false (sym z) }
-
-pub read-whole : (w u : List ℕ) (p c n : ℕ) → c ≤ n → n ≤ c → p ≤ length w → length u ≡ decoded-length → Arities u c → read-constructors n (drop 1 w) ≡ behind (rows u 0 c) (read-constructors (n - c) (drop p w)) → RowsRead (drop 1 w) n u (eqb p (length w))
-read-whole w u p c n l m k long a e = go (eqb p (length w)) refl
-  where
-    same : c ≡ n
-    same = omega arith
-
-    left : n - c ≡ 0
-    left = omega arith
-
-    go : (b : Bool) → eqb p (length w) ≡ b → RowsRead (drop 1 w) n u (eqb p (length w))
-    go true q =
-        let z : p ≡ length w = eqb-eq p (length w) q in
-        let f : read-constructors n (drop 1 w) ≡ some (rows u 0 n) = e ∙ rw (left, z, drop-length w, same, append-nil) in
-        rw q (record { long = long; refused = λ y. true≢false y; taken = λ y. f; arities = λ y j i. a j (omega arith) })
-    go false q =
-        let z : ¬ (p ≡ length w) = eqb-ne p (length w) q in
-        let f : read-constructors n (drop 1 w) ≡ none = e ∙ rw (left, drop-cons w p 0 (omega arith)) in
-        rw q (read-refused (drop 1 w) n u long f)
-
 pub row-refused : (w : List ℕ) (p : ℕ) (t : List ℕ) (c : ℕ) → p ≤ length w → read-constructor (drop p w) ≡ none → RowRead w p t c t 0
-row-refused w p t c l e = record { long = refl; within = omega arith; refused = λ z. e; taken = λ z. absurd (omega arith); arity = λ z. absurd (omega arith); before = λ i m. refl }
+row-refused w p t c l e = record { long = refl; within = omega arith; refused = λ z. e; taken = λ z. absurd (omega arith); two = λ z. absurd (omega arith); kind = λ z. absurd (omega arith); number = λ z. absurd (omega arith); arity = λ z. absurd (omega arith); before = λ i m. refl; behind = λ i m. refl }

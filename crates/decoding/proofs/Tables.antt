@@ -58,8 +58,8 @@ module _ (t hs sizes u : List ℕ) (k : ℕ) (long : length t ≡ decoded-length
 
 -- the counts stand behind the kinds' rows
 module _ (t : List ℕ) (n kinds : ℕ) (sizes hs u : List ℕ) (r : Bool) where
-  pub kinds-noted : length t ≡ decoded-length → kinds ≤ kind-limit → sizes ≡ sizes-after small-size (rows t 0 n) → ((k : ℕ) → k < kind-limit → getD hs k 0 ≡ lowest (rows t 0 n) sizes k) → LeastNoted t kinds hs sizes u → r ≡ all (λ k. leb (getD sizes k 0) small-size) (count-up 0 kinds) → KindsNoted t n kinds (set (set u counts-at kinds) (counts-at + 1) n) r
-  kinds-noted long l e f h g = record { long = both-long u counts-at (counts-at + 1) kinds n ∙ h .long ∙ long; rows-same = λ i m. same i (omega arith) ∙ h .rows-same i m; heads-same = λ k m. (same (kinds-at + kind-stride * k) (omega arith) ∙ h .heads-same k .0, same (kinds-at + kind-stride * k + 1) (omega arith) ∙ h .heads-same k .1); kind-count = first-set u counts-at (counts-at + 1) kinds n (omega (arith, h .long)) (λ p. omega arith); constructor-count = last-set u counts-at (counts-at + 1) kinds n (omega (arith, h .long)); lowest-heads = λ k m. same (kinds-at + kind-stride * k + 2) (omega arith) ∙ h .lowest-heads k m ∙ f k (omega arith) ∙ ap (λ z. lowest (rows t 0 n) z k) e; least-sizes = λ k m. same (kinds-at + kind-stride * k + 3) (omega arith) ∙ h .least-sizes k m ∙ ap (λ z. getD z k 0) e; small = g ∙ ap (λ z. all (λ k. leb (getD z k 0) small-size) (count-up 0 kinds)) e }
+  pub kinds-noted : length t ≡ decoded-length → kinds ≤ kind-limit → sizes ≡ sizes-after small-size (rows t 0 n) → ((k : ℕ) → k < kinds → getD hs k 0 ≡ lowest (rows t 0 n) sizes k) → LeastNoted t kinds hs sizes u → r ≡ all (λ k. leb (getD sizes k 0) small-size) (count-up 0 kinds) → KindsNoted t n kinds (set (set u counts-at kinds) (counts-at + 1) n) r
+  kinds-noted long l e f h g = record { long = both-long u counts-at (counts-at + 1) kinds n ∙ h .long ∙ long; rows-same = λ i m. same i (omega arith) ∙ h .rows-same i m; heads-same = λ k m. (same (kinds-at + kind-stride * k) (omega arith) ∙ h .heads-same k .0, same (kinds-at + kind-stride * k + 1) (omega arith) ∙ h .heads-same k .1); kind-count = first-set u counts-at (counts-at + 1) kinds n (omega (arith, h .long)) (λ p. omega arith); constructor-count = last-set u counts-at (counts-at + 1) kinds n (omega (arith, h .long)); lowest-heads = λ k m. same (kinds-at + kind-stride * k + 2) (omega arith) ∙ h .lowest-heads k m ∙ f k m ∙ ap (λ z. lowest (rows t 0 n) z k) e; least-sizes = λ k m. same (kinds-at + kind-stride * k + 3) (omega arith) ∙ h .least-sizes k m ∙ ap (λ z. getD z k 0) e; small = g ∙ ap (λ z. all (λ k. leb (getD z k 0) small-size) (count-up 0 kinds)) e }
     where
       same : (i : ℕ) → i < counts-at → getD (set (set u counts-at kinds) (counts-at + 1) n) i 0 ≡ getD u i 0
       same i m = neither u counts-at (counts-at + 1) kinds n i (λ p. omega arith) (λ p. omega arith)

@@ -1,15 +1,15 @@
 -- What the steps of decoding leave in the table.
 use mathlib.Core.Path.{_≡_}
-use mathlib.Core.List.{List, [], _∷_, map}
+use mathlib.Core.List.{List, [], _∷_, _++_, map}
 use mathlib.Core.Option.{Option, none, some}
-use mathlib.Core.Bool.{Bool, true, false, cond, not, _&&_, _||_}
-use Prim.Native.Nat.{ℕ, suc, _+_, _*_, _≤_, _<_, min}
+use mathlib.Core.Bool.{Bool, true, cond, not, _&&_, _||_}
+use Prim.Native.Nat.{ℕ, zero, suc, _+_, _*_, _≤_, _<_, min}
 use lib.Dec.{eqb, ltb, leb}
 use lib.ListN.{length, getD, set, drop}
 use Rattle.signature.specs.Limits.{argument-limit, constructor-limit, kind-limit, number-count, level-base, level-count, over-small, small-size}
 use Rattle.signature.specs.Lists.{_>>=_, count-up, first, keep, all}
-use Rattle.signature.specs.Read.{read-arguments, read-constructors, count-kinds, best, least, total}
-use Rattle.signature.specs.Signature.{Signature, Constructor, numbers, is-number-kind, arguments}
+use Rattle.signature.specs.Read.{read-arguments, read-constructors, count-kinds, kinds-from, least, total}
+use Rattle.signature.specs.Signature.{Signature, Constructor, numbers, numbers-from, is-number-kind, arguments}
 use Rattle.signature.specs.Decoded.{decoded-length, stride, kind-stride, kinds-at, unkinded, kind-of, arity-of, argument-of, first-of, count-of, least-head-of, least-size-of, kinds-of, constructors-of}
 
 -- m words from place i on
@@ -59,18 +59,26 @@ pub record RowRead (w : List ℕ) (place : ℕ) (t : List ℕ) (c : ℕ) (u : Li
   pub within : place + m ≤ length w
   pub refused : m ≡ 0 → read-constructor (drop place w) ≡ none
   pub taken : 0 < m → read-constructor (drop place w) ≡ some (row u c, drop (place + m) w)
+  pub two : 0 < m → 2 ≤ m
+  pub kind : 0 < m → kind-of u c ≡ getD w place 0
+  pub number : 0 < m → declares-number u c ≡ eqb (getD w (place + 1) 0) number-count
   pub arity : 0 < m → arity-of u c ≤ argument-limit
   pub before : SameBelow (stride * c) t u
+  pub behind : (i : ℕ) → kinds-at ≤ i → getD u i 0 ≡ getD t i 0
 
 abbrev pub Arities : List ℕ → ℕ → Type 0
 Arities t n = (c : ℕ) → c < n → arity-of t c ≤ argument-limit
 
--- the words have been read into the rows of u, if they are n constructors
-pub record RowsRead (ws : List ℕ) (n : ℕ) (u : List ℕ) (r : Bool) : Type 0 where
-  pub long : length u ≡ decoded-length
-  pub refused : r ≡ false → read-constructors n ws ≡ none
-  pub taken : r ≡ true → read-constructors n ws ≡ some (rows u 0 n)
-  pub arities : r ≡ true → Arities u n
+-- these words are below k; the argument kinds of these rows are
+abbrev pub below : ℕ → List ℕ → Bool
+below k ws = all (λ j. ltb j k) ws
+
+abbrev pub kinds-below : ℕ → Signature → Bool
+kinds-below k sig = all (λ d. below k (d .args)) sig
+
+-- r is the highest of m and these words
+abbrev pub Highest : ℕ → List ℕ → ℕ → Type 0
+Highest m ws r = (k : ℕ) → ltb r k ≡ (ltb m k && below k ws)
 
 -- the number of kinds once a constructor of kind k follows, 0 where it may not
 abbrev pub next-kinds : ℕ → ℕ → ℕ
@@ -85,9 +93,9 @@ kinds-or-0 (some n) = cond (leb n kind-limit) n 0
 abbrev pub alone-by : List ℕ → Constructor → Bool
 alone-by t d = not (d .number) || eqb (count-of t (d .kind)) 1
 
--- and its argument kinds exist, where there are so many kinds
-abbrev pub row-lawful : List ℕ → ℕ → Constructor → Bool
-row-lawful t kinds d = alone-by t d && all (λ k. ltb k kinds) (d .args)
+-- no row declares a number kind
+abbrev pub plain : Signature → Bool
+plain sig = all (λ d. not (d .number)) sig
 
 -- constructor c has been counted to kind k, which is new if it is the n-th
 pub record HeadNoted (t : List ℕ) (k c n : ℕ) (u : List ℕ) : Type 0 where
@@ -97,17 +105,51 @@ pub record HeadNoted (t : List ℕ) (k c n : ℕ) (u : List ℕ) : Type 0 where
   pub new : k ≡ n → (first-of u k ≡ c) × (count-of u k ≡ 1)
   pub old : (k ≡ n → ⊥) → (first-of u k ≡ first-of t k) × (count-of u k ≡ suc (count-of t k))
 
--- each kind below n has its first row's number and their count
-abbrev pub HeadsNoted : Signature → ℕ → List ℕ → Type 0
-HeadsNoted sig n t = (k : ℕ) → k < n → (first-of t k ≡ first (numbers sig k)) × (count-of t k ≡ length (numbers sig k))
+-- what is noted of each kind's constructors, those ahead being still to count
+pub record Noted (sig ahead : Signature) (c n : ℕ) (t : List ℕ) : Type 0 where
+  pub seen : (k : ℕ) → k < n → (first-of t k ≡ first (numbers sig k)) × (count-of t k + length (numbers-from c ahead k) ≡ length (numbers sig k))
+  pub unseen : (k : ℕ) → n ≤ k → numbers-from c ahead k ≡ numbers sig k
 
-pub record InOrder (t : List ℕ) (n : ℕ) (u : List ℕ) (r : ℕ) : Type 0 where
+-- the kinds that the constructors ahead make, after n kinds
+abbrev pub kinds-due : ℕ → Signature → Option ℕ
+kinds-due zero cs = count-kinds cs
+kinds-due (suc k) cs = kinds-from k cs
+
+-- these constructors, and those behind them, if they were read
+abbrev pub led-by : Signature → Option Signature → Option Signature
+led-by cs o = o >>= λ ds. some (cs ++ ds)
+
+-- c rows have been read into t, up to a place, so many kinds among them; their highest argument kind; how many rows declare number kinds
+pub record Reading (w t : List ℕ) (c place kinds most numbers : ℕ) : Type 0 where
+  pub long : length t ≡ decoded-length
+  pub within : place ≤ length w
+  pub few-kinds : kinds ≤ kind-limit
+  pub some-kind : 0 < c → 0 < kinds
+  pub few-numbers : numbers ≤ c
+  pub arities : Arities t c
+  pub read : (m : ℕ) → read-constructors (c + m) (drop 1 w) ≡ led-by (rows t 0 c) (read-constructors m (drop place w))
+  pub due : (ahead : Signature) → count-kinds (rows t 0 c ++ ahead) ≡ kinds-due kinds ahead
+  pub noted : (ahead : Signature) → Noted (rows t 0 c ++ ahead) ahead c kinds t
+  pub last : (k : ℕ) → suc k ≡ kinds → first-of t k + count-of t k ≡ c
+  pub each : (i : ℕ) → i < c → kind-of t i < kinds
+  pub highest : (k : ℕ) → 0 < k → ltb most k ≡ kinds-below k (rows t 0 c)
+  pub bare : numbers ≡ 0 → plain (rows t 0 c) ≡ true
+
+-- the words have no rows of lawful kinds behind the first c
+abbrev pub Barred : List ℕ → ℕ → Type 0
+Barred w c = (m : ℕ) (sig : Signature) → read-constructors (c + suc m) (drop 1 w) ≡ some sig → 0 ≡ kinds-or-0 (count-kinds sig)
+
+-- the next row has been read, or there is none
+pub record NextRead (w : List ℕ) (c : ℕ) (u : List ℕ) (place kinds most numbers : ℕ) : Type 0 where
   pub long : length u ≡ decoded-length
-  pub rows-same : SameBelow kinds-at t u
-  pub counted : r ≡ kinds-or-0 (count-kinds (rows t 0 n))
-  pub few : r ≤ kind-limit
-  pub noted : 0 < r → HeadsNoted (rows t 0 n) r u
-  pub each : 0 < r → (c : ℕ) → c < n → kind-of t c < r
+  pub barred : kinds ≡ 0 → Barred w c
+  pub taken : 0 < kinds → Reading w u (c + 1) place kinds most numbers
+
+-- all n rows have been read, if their layout and kinds are lawful
+pub record AllRead (w : List ℕ) (n : ℕ) (u : List ℕ) (kinds most numbers : ℕ) : Type 0 where
+  pub long : length u ≡ decoded-length
+  pub refused : kinds ≡ 0 → (sig : Signature) → read-constructors n (drop 1 w) ≡ some sig → 0 ≡ kinds-or-0 (count-kinds sig)
+  pub taken : 0 < kinds → Reading w u n (length w) kinds most numbers
 
 -- a row that names no kind past the limit, and no argument
 pub record RowFit (t : List ℕ) (c : ℕ) : Type 0 where
@@ -125,9 +167,67 @@ pub record Sizes (a : List ℕ) : Type 0 where
   pub long : length a ≡ kind-limit
   pub each : (k : ℕ) → getD a k 0 ≤ over-small
 
--- each kind's size, by the sizes before
-unfoldable pub next-sizes : Signature → List ℕ → List ℕ
-next-sizes sig before = map (λ k. min over-small (best sig before k)) (count-up 0 kind-limit)
+-- the fewest words of some rows, by a number of words for each
+abbrev pub fewest : (ℕ → ℕ) → List ℕ → ℕ
+fewest f [] = over-small
+fewest f (c ∷ cs) = min (f c) (fewest f cs)
+
+-- the words of a smallest value of row c, by the kinds' sizes
+abbrev pub row-words : List ℕ → List ℕ → ℕ → ℕ
+row-words t sizes c = suc (total sizes (row t c .args))
+
+-- the rows of kind k, by its first and their count
+abbrev pub span : List ℕ → ℕ → List ℕ
+span t k = count-up (first-of t k) (count-of t k)
+
+-- the size of kind k, by the kinds' sizes
+abbrev pub size-by : List ℕ → List ℕ → ℕ → ℕ
+size-by t sizes k = fewest (row-words t sizes) (span t k)
+
+abbrev pub KindFit : List ℕ → ℕ → Type 0
+KindFit t k = (c : ℕ) → first-of t k ≤ c → c < first-of t k + count-of t k → (c < constructor-limit) × RowFit t c
+
+-- no kind's size is above what the sizes say
+abbrev pub Settled : List ℕ → ℕ → List ℕ → Type 0
+Settled t kinds sizes = (k : ℕ) → k < kinds → getD sizes k 0 ≤ size-by t sizes k
+
+abbrev pub Under : List ℕ → List ℕ → Type 0
+Under a b = (k : ℕ) → getD a k 0 ≤ getD b k 0
+
+abbrev pub sum : List ℕ → ℕ
+sum [] = 0
+sum (x ∷ xs) = x + sum xs
+
+-- the size of kind k has been lowered to what the sizes say, r times
+pub record SizeLowered (t : List ℕ) (k : ℕ) (a b : List ℕ) (r : ℕ) : Type 0 where
+  pub once : r ≤ 1
+  pub kept : r ≡ 0 → (b ≡ a) × (getD a k 0 ≤ size-by t a k)
+  pub lowered : 0 < r → (b ≡ set a k (size-by t a k)) × (size-by t a k < getD a k 0)
+
+-- the same of the kinds from k on, one after the other; what no size was below before, none is below now
+pub record SizesLowered (t : List ℕ) (kinds k : ℕ) (a b : List ℕ) (r : ℕ) : Type 0 where
+  pub sizes : Sizes b
+  pub few : r + k ≤ kinds
+  pub kept : r ≡ 0 → (b ≡ a) × ((j : ℕ) → k ≤ j → j < kinds → getD b j 0 ≤ size-by t b j)
+  pub fewer : 0 < r → sum b < sum a
+  pub over : (g : List ℕ) → length g ≡ kind-limit → Settled t kinds g → Under g a → Under g b
+
+-- the greatest sizes that are settled
+pub record Greatest (t : List ℕ) (kinds : ℕ) (a : List ℕ) : Type 0 where
+  pub sizes : Sizes a
+  pub settled : Settled t kinds a
+  pub over : (g : List ℕ) → Sizes g → Settled t kinds g → Under g a
+
+-- n rows that are lawful but for their sizes, and the rows of each kind stand together
+pub record Spanned (t : List ℕ) (n kinds : ℕ) : Type 0 where
+  pub fit : Fit t n
+  pub few : kinds ≤ kind-limit
+  pub together : (k : ℕ) → k < kinds → numbers (rows t 0 n) k ≡ span t k
+  pub beyond : (k : ℕ) → kinds ≤ k → numbers (rows t 0 n) k ≡ []
+
+-- the lowest row of kind k that reaches the kind's size, by its span
+abbrev pub lowest-in : List ℕ → List ℕ → ℕ → ℕ
+lowest-in t sizes k = first (keep (λ c. eqb (row-words t sizes c) (getD sizes k 0)) (span t k))
 
 -- each kind's size after d rounds
 unfoldable pub sizes-after : ℕ → Signature → List ℕ

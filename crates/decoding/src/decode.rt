@@ -9,20 +9,21 @@ use signature::decoded::UNKINDED;
 use signature::decoded::argument_of;
 use signature::decoded::arity_of;
 use signature::decoded::count_of;
+use signature::decoded::first_of;
 use signature::decoded::kind_of;
 use signature::decoded::wide;
 ghost use mathlib.Core.Path.{_≡_};
-ghost use mathlib.Core.Bool.{true};
+ghost use mathlib.Core.Bool.{true, _&&_};
 ghost use mathlib.Core.Option.{some};
 ghost use Prim.Native.Nat.{ℕ, suc, _+_, _*_, _≤_, _<_, min};
 ghost use lib.Dec.{leb, ltb};
-ghost use lib.ListN.{length, drop, getD};
-ghost use Rattle.signature.specs.Limits.{argument-limit, constructor-limit, kind-limit, row-limit, small-size};
+ghost use lib.ListN.{length, getD, replicate};
+ghost use Rattle.signature.specs.Limits.{constructor-limit, kind-limit, over-small, row-limit, small-size};
 ghost use Rattle.signature.specs.Lists.{all, count-up, is-some};
 ghost use Rattle.signature.specs.Read.{read-signature, total};
 ghost use Rattle.signature.specs.Signature.{Signature};
-ghost use Rattle.signature.specs.Decoded.{Decoded, decoded-length, kind-of, arity-of, count-of};
-ghost use Rattle.decoding.specs.Decoding.{declares-number, row, rows, argument-count, flag-by, alone-by, row-lawful, mark-of, Marked, Copied, RowRead, RowsRead, Arities, next-kinds, HeadNoted, InOrder, RowFit, Fit, Sizes, next-sizes, sizes-after, lowest, LeastNoted, KindsNoted};
+ghost use Rattle.signature.specs.Decoded.{Decoded, decoded-length, kind-of, first-of, count-of};
+ghost use Rattle.decoding.specs.Decoding.{words-from, declares-number, row, rows, argument-count, flag-by, alone-by, plain, mark-of, Marked, Copied, Highest, RowRead, next-kinds, HeadNoted, Reading, NextRead, AllRead, RowFit, Fit, Sizes, size-by, KindFit, SizeLowered, SizesLowered, Greatest, Spanned, lowest-in, LeastNoted, KindsNoted};
 
 pub const CONSTRUCTOR_LIMIT: usize = 256;
 
@@ -40,15 +41,40 @@ pub const SMALL_SIZE: u16 = 6;
 // What stands for the size of a kind that has no value of at most 6 words.
 pub const OVER_SMALL: u16 = 7;
 
-fn copy_words(w: &[u16], from: usize, t: &mut [u16], to: usize, count: usize)
-    requires { ⌜ (from + count ≤ length (now w)) × (to + count ≤ length (now t)) ⌝ }
-    ensures { λ _. ⌜ Copied (now (w .entry)) from (now (t .entry)) to count (now (t .exit)) ⌝ }
+// What reading has come to: the place of the next row, the number of kinds, the highest argument kind, and how many rows declare number kinds.
+struct Read {
+    place: usize,
+    kinds: usize,
+    most: u16,
+    numbers: usize,
+}
+
+// The words of a row, and the highest argument kind so far.
+struct Row {
+    words: usize,
+    most: u16,
+}
+
+fn higher(a: u16, b: u16) -> u16
+    ensures { λ r. ⌜ ((k : ℕ) → ltb r k ≡ (ltb a k && ltb b k)) ⌝ }
 {
+    if a < b { b } else { a }
+}
+
+// The highest of these words and most. With that a copy of so few words is no call.
+fn copy_words(w: &[u16], from: usize, t: &mut [u16], to: usize, count: usize, most: u16) -> u16
+    requires { ⌜ (from + count ≤ length (now w)) × (to + count ≤ length (now t)) ⌝ }
+    ensures { λ r. ⌜ Copied (now (w .entry)) from (now (t .entry)) to count (now (t .exit)) × Highest most (words-from (now (w .entry)) from count) r ⌝ }
+{
+    let mut highest = most;
     let mut i = 0;
     while i < count {
-        t[to + i] = w[from + i];
+        let word = w[from + i];
+        t[to + i] = word;
+        highest = higher(highest, word);
         i += 1;
     }
+    highest
 }
 
 // By a row's second word: how many argument kinds follow.
@@ -71,48 +97,42 @@ fn flag_by(count: u16) -> u16
     1
 }
 
-// Reads the constructor at a place into row c. The number of its words, 0 if there is none.
-fn read_row(w: &[u16], place: usize, t: &mut [u16], c: usize) -> usize
+// Reads the constructor at a place into row c. The number of its words is 0 if there is none.
+fn read_row(w: &[u16], place: usize, t: &mut [u16], c: usize, most: u16) -> Row
     requires { ⌜ (place ≤ length (now w)) × (length (now t) ≡ decoded-length) × (c < constructor-limit) ⌝ }
-    ensures { λ r. ⌜ RowRead (now (w .entry)) place (now (t .entry)) c (now (t .exit)) r ⌝ }
+    ensures { λ r. ⌜ RowRead (now (w .entry)) place (now (t .entry)) c (now (t .exit)) (r .words) × (0 < r .words → Highest most (row (now (t .exit)) c .args) (r .most)) ⌝ }
 {
     let left = w.len() - place;
     if left < 2 {
-        return 0;
+        return Row { words: 0, most: 0 };
     }
+    let row = STRIDE * c;
     let count = w[place + 1];
+    if count == 0 {
+        t[row] = w[place];
+        t[row + 1] = 0;
+        t[row + 2] = 0;
+        return Row {
+            words: 2,
+            most: most,
+        };
+    }
     if count > NUMBER_COUNT {
-        return 0;
+        return Row { words: 0, most: 0 };
     }
     let few = argument_count(count);
     let arity = wide(few);
     if left - 2 < arity {
-        return 0;
+        return Row { words: 0, most: 0 };
     }
-    let row = STRIDE * c;
     t[row] = w[place];
     t[row + 1] = few;
     t[row + 2] = flag_by(count);
-    copy_words(w, place + 2, t, row + 2, arity);
-    arity + 2
-}
-
-// Reads n constructors behind the first word. False if they are not exactly the words there.
-fn read_rows(w: &[u16], t: &mut [u16], n: usize) -> bool
-    requires { ⌜ (1 ≤ length (now w)) × (length (now t) ≡ decoded-length) × (n ≤ constructor-limit) ⌝ }
-    ensures { λ r. ⌜ RowsRead (drop 1 (now (w .entry))) n (now (t .exit)) r ⌝ }
-{
-    let mut place = 1;
-    let mut c = 0;
-    while c < n {
-        let words = read_row(w, place, t, c);
-        if words == 0 {
-            return false;
-        }
-        place += words;
-        c += 1;
+    let highest = copy_words(w, place + 2, t, row + 2, arity, most);
+    Row {
+        words: arity + 2,
+        most: highest,
     }
-    place == w.len()
 }
 
 // The number of kinds once a constructor of that kind follows, 0 if it may not.
@@ -134,7 +154,7 @@ fn next_kinds(kind: u16, kinds: usize) -> usize
 
 // Counts constructor c to kind k, a new one if it is the next.
 fn note_head(t: &mut [u16], k: usize, c: usize, kinds: usize)
-    requires { ⌜ (length (now t) ≡ decoded-length) × (k < kind-limit) × (c < constructor-limit) × ((k ≡ kinds → ⊥) → count-of (now t) k ≤ c) ⌝ }
+    requires { ⌜ (length (now t) ≡ decoded-length) × (k < kind-limit) × (c < constructor-limit) × ((k ≡ kinds → ⊥) → first-of (now t) k + count-of (now t) k ≡ c) ⌝ }
     ensures { λ _. ⌜ HeadNoted (now (t .entry)) k c kinds (now (t .exit)) ⌝ }
 {
     let row = KINDS_AT + KIND_STRIDE * k;
@@ -143,27 +163,70 @@ fn note_head(t: &mut [u16], k: usize, c: usize, kinds: usize)
         t[row + 1] = 1;
         return;
     }
-    t[row + 1] = t[row + 1] + 1;
+    t[row + 1] = c as u16 + 1 - t[row];
 }
 
-// The number of kinds, 0 if their order or number is unlawful; notes each kind's first constructor and their count.
-fn order(t: &mut [u16], n: usize) -> usize
-    requires { ⌜ (length (now t) ≡ decoded-length) × (n ≤ constructor-limit) ⌝ }
-    ensures { λ r. ⌜ InOrder (now (t .entry)) n (now (t .exit)) r ⌝ }
+// Nothing that is lawful was read.
+fn unread() -> Read
+    ensures { λ r. ⌜ r .kinds ≡ 0 ⌝ }
 {
-    let mut kinds = 0;
+    Read {
+        place: 0,
+        kinds: 0,
+        most: 0,
+        numbers: 0,
+    }
+}
+
+// Reads row c and counts it to its kind. The number of kinds is 0 if there is no such row, or it is unlawful there.
+fn read_next(w: &[u16], t: &mut [u16], c: usize, s: Read) -> Read
+    requires { ⌜ Reading (now w) (now t) c (s .place) (s .kinds) (s .most) (s .numbers) × (c < constructor-limit) ⌝ }
+    ensures { λ r. ⌜ NextRead (now (w .entry)) c (now (t .exit)) (r .place) (r .kinds) (r .most) (r .numbers) ⌝ }
+{
+    let place = s.place;
+    let row = read_row(w, place, t, c, s.most);
+    if row.words == 0 {
+        return unread();
+    }
+    let kind = w[place];
+    let kinds = next_kinds(kind, s.kinds);
+    if kinds == 0 {
+        return unread();
+    }
+    note_head(t, wide(kind), c, s.kinds);
+    let number = wide(flag_by(w[place + 1]));
+    Read {
+        place: place + row.words,
+        kinds: kinds,
+        most: row.most,
+        numbers: s.numbers + number,
+    }
+}
+
+// Reads n constructors behind the first word. The number of kinds is 0 if they are not exactly the words there, or their kinds are unlawful.
+fn read_rows(w: &[u16], t: &mut [u16], n: usize) -> Read
+    requires { ⌜ (1 ≤ length (now w)) × (length (now t) ≡ decoded-length) × (1 ≤ n) × (n ≤ constructor-limit) ⌝ }
+    ensures { λ r. ⌜ AllRead (now (w .entry)) n (now (t .exit)) (r .kinds) (r .most) (r .numbers) ⌝ }
+{
+    let mut s = Read {
+        place: 1,
+        kinds: 0,
+        most: 0,
+        numbers: 0,
+    };
     let mut c = 0;
     while c < n {
-        let kind = kind_of(t, c);
-        let next = next_kinds(kind, kinds);
-        if next == 0 {
-            return 0;
+        let next = read_next(w, t, c, s);
+        if next.kinds == 0 {
+            return next;
         }
-        note_head(t, wide(kind), c, kinds);
-        kinds = next;
+        s = next;
         c += 1;
     }
-    kinds
+    if s.place == w.len() {
+        return s;
+    }
+    unread()
 }
 
 // No kind has more than 64 rows.
@@ -203,40 +266,17 @@ fn stands_alone(t: &[u16], c: usize) -> bool
     count_of(t, wide(kind_of(t, c))) == 1
 }
 
-fn arguments_exist(t: &[u16], c: usize, kinds: usize) -> bool
-    requires { ⌜ (length (now t) ≡ decoded-length) × (c < constructor-limit) × (arity-of (now t) c ≤ argument-limit) ⌝ }
-    ensures { λ r. ⌜ r ≡ all (λ k. ltb k kinds) (row (now (t .entry)) c .args) ⌝ }
+// Whether each row stands alone, if it declares a number kind; so many do.
+fn numbers_alone(t: &[u16], n: usize, numbers: usize) -> bool
+    requires { ⌜ (length (now t) ≡ decoded-length) × (n ≤ constructor-limit) × ((c : ℕ) → c < n → kind-of (now t) c < kind-limit) × (numbers ≡ 0 → plain (rows (now t) 0 n) ≡ true) ⌝ }
+    ensures { λ r. ⌜ r ≡ all (alone-by (now (t .entry))) (rows (now (t .entry)) 0 n) ⌝ }
 {
-    let arity = wide(arity_of(t, c));
-    let mut j = 0;
-    while j < arity {
-        if wide(argument_of(t, c, j)) >= kinds {
-            return false;
-        }
-        j += 1;
+    if numbers == 0 {
+        return true;
     }
-    true
-}
-
-// Whether row c stands alone, if it declares a number kind, and its argument kinds exist.
-fn row_lawful(t: &[u16], c: usize, kinds: usize) -> bool
-    requires { ⌜ (length (now t) ≡ decoded-length) × (c < constructor-limit) × (arity-of (now t) c ≤ argument-limit) × (kind-of (now t) c < kind-limit) ⌝ }
-    ensures { λ r. ⌜ r ≡ row-lawful (now (t .entry)) kinds (row (now (t .entry)) c) ⌝ }
-{
-    if !stands_alone(t, c) {
-        return false;
-    }
-    arguments_exist(t, c, kinds)
-}
-
-// Each row is lawful.
-fn rows_lawful(t: &[u16], n: usize, kinds: usize) -> bool
-    requires { ⌜ (length (now t) ≡ decoded-length) × (n ≤ constructor-limit) × Arities (now t) n × ((c : ℕ) → c < n → kind-of (now t) c < kind-limit) ⌝ }
-    ensures { λ r. ⌜ r ≡ all (row-lawful (now (t .entry)) kinds) (rows (now (t .entry)) 0 n) ⌝ }
-{
     let mut c = 0;
     while c < n {
-        if !row_lawful(t, c, kinds) {
+        if !stands_alone(t, c) {
             return false;
         }
         c += 1;
@@ -266,69 +306,93 @@ fn lower(a: u16, b: u16) -> u16
     if a < b { a } else { b }
 }
 
-// The kinds' sizes, by the old ones.
-fn round(t: &[u16], n: usize, old: &[u16; KIND_LIMIT]) -> [u16; KIND_LIMIT]
-    requires { ⌜ Fit (now t) n × Sizes (now old) ⌝ }
-    ensures { λ r. ⌜ r ≡ next-sizes (rows (now (t .entry)) 0 n) (now (old .entry)) ⌝ }
+// The size of kind k, by the kinds' sizes. No value has less than one word.
+fn size_by(t: &[u16], k: usize, sizes: &[u16; KIND_LIMIT]) -> u16
+    requires { ⌜ (length (now t) ≡ decoded-length) × (k < kind-limit) × KindFit (now t) k × Sizes (now sizes) ⌝ }
+    ensures { λ r. ⌜ r ≡ size-by (now (t .entry)) (now (sizes .entry)) k ⌝ }
 {
-    let mut sizes = [OVER_SMALL; KIND_LIMIT];
-    let mut c = 0;
-    while c < n {
-        let k = wide(kind_of(t, c));
-        let words = words_of(t, c, old);
-        sizes[k] = lower(words, sizes[k]);
+    let mut c = wide(first_of(t, k));
+    let end = c + wide(count_of(t, k));
+    let mut size = OVER_SMALL;
+    while c < end {
+        size = lower(words_of(t, c, sizes), size);
+        if size == 1 {
+            return 1;
+        }
         c += 1;
     }
-    sizes
+    size
 }
 
-fn same_sizes(a: &[u16; KIND_LIMIT], b: &[u16; KIND_LIMIT]) -> bool
-    requires { ⌜ Sizes (now a) × Sizes (now b) ⌝ }
-    ensures { λ r. ⌜ (r ≡ true → now (a .entry) ≡ now (b .entry)) ⌝ }
+// Lowers the size of kind k to what the sizes say. How many sizes that were.
+fn lower_size(t: &[u16], k: usize, sizes: &mut [u16; KIND_LIMIT]) -> usize
+    requires { ⌜ (length (now t) ≡ decoded-length) × (k < kind-limit) × KindFit (now t) k × Sizes (now sizes) ⌝ }
+    ensures { λ r. ⌜ SizeLowered (now (t .entry)) k (now (sizes .entry)) (now (sizes .exit)) r ⌝ }
+{
+    let old = sizes[k];
+    if old <= 1 {
+        return 0;
+    }
+    let size = size_by(t, k, sizes);
+    if old <= size {
+        return 0;
+    }
+    sizes[k] = size;
+    1
+}
+
+// The same for every kind, the last one first: arguments are mostly of later kinds.
+fn lower_sizes(t: &[u16], kinds: usize, sizes: &mut [u16; KIND_LIMIT]) -> usize
+    requires { ⌜ (length (now t) ≡ decoded-length) × (kinds ≤ kind-limit) × ((k : ℕ) → k < kinds → KindFit (now t) k) × Sizes (now sizes) ⌝ }
+    ensures { λ r. ⌜ SizesLowered (now (t .entry)) kinds 0 (now (sizes .entry)) (now (sizes .exit)) r ⌝ }
+{
+    let mut lowered = 0;
+    let mut k = kinds;
+    while k > 0 {
+        k -= 1;
+        lowered += lower_size(t, k, sizes);
+    }
+    lowered
+}
+
+// Lowered until they are settled, the sizes are those that six rounds over all kinds find.
+fn least_sizes(t: &[u16], kinds: usize, sizes: &mut [u16; KIND_LIMIT])
+    requires { ⌜ (length (now t) ≡ decoded-length) × (kinds ≤ kind-limit) × ((k : ℕ) → k < kinds → KindFit (now t) k) × (now sizes ≡ replicate kind-limit over-small) ⌝ }
+    ensures { λ _. ⌜ Greatest (now (t .entry)) kinds (now (sizes .exit)) ⌝ }
+{
+    loop {
+        let lowered = lower_sizes(t, kinds, sizes);
+        if lowered == 0 {
+            return;
+        }
+    }
+}
+
+// The lowest row of kind k that reaches its size.
+fn lowest_head(t: &[u16], k: usize, sizes: &[u16; KIND_LIMIT]) -> u16
+    requires { ⌜ (length (now t) ≡ decoded-length) × (k < kind-limit) × KindFit (now t) k × Sizes (now sizes) ⌝ }
+    ensures { λ r. ⌜ r ≡ lowest-in (now (t .entry)) (now (sizes .entry)) k ⌝ }
+{
+    let mut c = wide(first_of(t, k));
+    let end = c + wide(count_of(t, k));
+    while c < end {
+        if words_of(t, c, sizes) == sizes[k] {
+            return c as u16;
+        }
+        c += 1;
+    }
+    0
+}
+
+fn lowest_heads(t: &[u16], kinds: usize, sizes: &[u16; KIND_LIMIT], heads: &mut [u16; KIND_LIMIT])
+    requires { ⌜ (length (now t) ≡ decoded-length) × (kinds ≤ kind-limit) × ((k : ℕ) → k < kinds → KindFit (now t) k) × Sizes (now sizes) × (length (now heads) ≡ kind-limit) ⌝ }
+    ensures { λ _. ⌜ ((k : ℕ) → k < kinds → getD (now (heads .exit)) k 0 ≡ lowest-in (now (t .entry)) (now (sizes .entry)) k) ⌝ }
 {
     let mut k = 0;
-    while k < KIND_LIMIT {
-        if a[k] != b[k] {
-            return false;
-        }
+    while k < kinds {
+        heads[k] = lowest_head(t, k, sizes);
         k += 1;
     }
-    true
-}
-
-// A value of at most 6 words is nested at most 6 deep, so 6 rounds find it. After a round that changes nothing no later one does.
-fn least_sizes(t: &[u16], n: usize) -> [u16; KIND_LIMIT]
-    requires { ⌜ Fit (now t) n ⌝ }
-    ensures { λ r. ⌜ r ≡ sizes-after small-size (rows (now (t .entry)) 0 n) ⌝ }
-{
-    let mut sizes = [OVER_SMALL; KIND_LIMIT];
-    let mut d = 0;
-    while d < SMALL_SIZE {
-        let next = round(t, n, &sizes);
-        if same_sizes(&sizes, &next) {
-            return sizes;
-        }
-        sizes = next;
-        d += 1;
-    }
-    sizes
-}
-
-// The lowest constructor of each kind that reaches its size: the last one found from the end.
-fn lowest_heads(t: &[u16], n: usize, sizes: &[u16; KIND_LIMIT]) -> [u16; KIND_LIMIT]
-    requires { ⌜ Fit (now t) n × Sizes (now sizes) ⌝ }
-    ensures { λ r. ⌜ ((k : ℕ) → k < kind-limit → getD r k 0 ≡ lowest (rows (now (t .entry)) 0 n) (now (sizes .entry)) k) ⌝ }
-{
-    let mut heads = [0u16; KIND_LIMIT];
-    let mut c = n;
-    while c > 0 {
-        c -= 1;
-        let k = wide(kind_of(t, c));
-        if words_of(t, c, sizes) == sizes[k] {
-            heads[k] = c as u16;
-        }
-    }
-    heads
 }
 
 fn note_least(t: &mut [u16], kinds: usize, heads: &[u16; KIND_LIMIT], sizes: &[u16; KIND_LIMIT])
@@ -361,11 +425,13 @@ fn all_small(sizes: &[u16; KIND_LIMIT], kinds: usize) -> bool
 
 // Notes the kinds' least values and the counts. Whether every kind has a value of at most 6 words.
 fn note_kinds(t: &mut [u16], n: usize, kinds: usize) -> bool
-    requires { ⌜ Fit (now t) n × (kinds ≤ kind-limit) ⌝ }
+    requires { ⌜ Spanned (now t) n kinds ⌝ }
     ensures { λ r. ⌜ KindsNoted (now (t .entry)) n kinds (now (t .exit)) r ⌝ }
 {
-    let sizes = least_sizes(t, n);
-    let heads = lowest_heads(t, n, &sizes);
+    let mut sizes = [OVER_SMALL; KIND_LIMIT];
+    least_sizes(t, kinds, &mut sizes);
+    let mut heads = [0u16; KIND_LIMIT];
+    lowest_heads(t, kinds, &sizes, &mut heads);
     note_least(t, kinds, &heads, &sizes);
     t[COUNTS_AT] = kinds as u16;
     t[COUNTS_AT + 1] = n as u16;
@@ -388,11 +454,14 @@ fn mark(t: &mut [u16], c: usize)
     t[row + 2] = LEVEL_BASE;
 }
 
-// The same for every row.
-fn mark_numbers(t: &mut [u16], n: usize)
-    requires { ⌜ Fit (now t) n ⌝ }
+// The same for every row; so many declare number kinds.
+fn mark_numbers(t: &mut [u16], n: usize, numbers: usize)
+    requires { ⌜ Fit (now t) n × (numbers ≡ 0 → plain (rows (now t) 0 n) ≡ true) ⌝ }
     ensures { λ _. ⌜ Marked (now (t .entry)) n (now (t .exit)) ⌝ }
 {
+    if numbers == 0 {
+        return;
+    }
     let mut c = 0;
     while c < n {
         mark(t, c);
@@ -416,20 +485,21 @@ pub fn decode(w: &[u16], t: &mut [u16]) -> bool
     if n > CONSTRUCTOR_LIMIT {
         return false;
     }
-    if !read_rows(w, t, n) {
-        return false;
-    }
-    let kinds = order(t, n);
+    let s = read_rows(w, t, n);
+    let kinds = s.kinds;
     if kinds == 0 {
         return false;
     }
     if !few_rows(t, kinds) {
         return false;
     }
-    if !rows_lawful(t, n, kinds) {
+    if wide(s.most) >= kinds {
+        return false;
+    }
+    if !numbers_alone(t, n, s.numbers) {
         return false;
     }
     let small = note_kinds(t, n, kinds);
-    mark_numbers(t, n);
+    mark_numbers(t, n, s.numbers);
     small
 }

@@ -29,7 +29,6 @@ use Rattle.table.specs.Limits.{limits}
 use Rattle.table.specs.Refusals.{entry-refusal}
 use Rattle.table.specs.Rule.{Rule, held, total-weight}
 use Rattle.table.proofs.SoundFacts.{sound-valid}
-use Rattle.builder.specs.Build.{row-room}
 use Rattle.admission.specs.Admission.{GivenWords, admission-of}
 use Rattle.admission.specs.declared.admit.Admission.{Admission}
 use Rattle.admission.specs.declared.admit.Admission.the-variants.{Passed, Refused as Barred}
@@ -96,21 +95,18 @@ tells sig ws = go (eqb (refusal-of-pattern sig ws) 0) refl
 own-number : (x later : ℕ) → 1 ≤ x → cond (not (eqb x 0)) x later ≡ x
 own-number x later h = ap (λ b. cond (not b) x later) (eqb-no x 0 (λ e. omega (arith, e, h)))
 
-module _ {t table : List ℕ} {used total : ℕ} {rows : List ℕ} {m : ℕ} (g : GivenCheck t table used total rows m) where
+module _ {t table ws : List ℕ} {used total : ℕ} {rows : List ℕ} {m : ℕ} (g : GivenCheck t table ws used total rows m) where
   pub holds : Holds limits table (g .force .rs)
   holds = sound-holds (g .force .known .sig) table (g .force .rs) (g .force .is-sound)
 
   light : total ≤ limits .weight
   light = omega (arith, g .force .ready .total-is, sound-valid (g .force .known .sig) (g .force .known .signed) table (g .force .rs) (g .force .is-sound) .0 .light)
 
-  used-room : used + 1 + row-room ≤ length rows
-  used-room = omega (arith, g .force .ready .small, light, holds .few, g .room)
-
   pub le : used ≤ length rows
-  le = omega (arith, used-room)
+  le = omega (arith, g .room)
 
-  pub words-given : (n' m' : ℕ) → n' ≡ length rows - used → m' ≡ m → GivenWords t n' m'
-  words-given n' m' e e' = record { known = g .force .known; room = omega (arith, e, used-room); work-room = omega (arith, e', g .work-room) }
+  pub words-given : (n' m' : ℕ) → n' ≡ length rows - used → m' ≡ m → GivenWords t ws n' m'
+  words-given n' m' e e' = record { known = g .force .known; room = omega (arith, e, g .room); work-room = omega (arith, e', g .work-room) }
 
   ready-kept : (ys : List ℕ) → Ready (g .force .known .sig) (g .force .rs) used total (back rows used ys)
   ready-kept ys =
@@ -124,7 +120,7 @@ module _ {t table : List ℕ} {used total : ℕ} {rows : List ℕ} {m : ℕ} (g 
         small = g .force .ready .small;
       }
 
-  module _ (n : ℕ) (ws : List ℕ) where
+  module _ (n : ℕ) where
     abbrev later : ℕ
     later = cond (leb (limits .rules) (length (g .force .rs)) || ltb (limits .weight) (weight (g .force .known .sig) ws + total-weight (g .force .known .sig) (g .force .rs))) 11 (cond (any (λ r. shares (g .force .known .sig) ws (r .pattern)) (g .force .rs)) 12 0)
 
@@ -135,7 +131,7 @@ module _ {t table : List ℕ} {used total : ℕ} {rows : List ℕ} {m : ℕ} (g 
       pub bad-number : (q : ℕ) → s ≡ Refused q → CheckedAs (g .force .known .sig) (g .force .rs) n ws used total (Refused q) rows
       bad-number q e = let f = subst (FreeFor n (g .force .rs)) e (said (g .force .rs) holds) in (f .0, f .1, f .2 after-number)
 
-    module _ (s : Checked) (said : (rs : List Rule) → Holds limits table rs → FreeFor n rs s) (at : ℕ) (s-is : s ≡ Free at) (n' m' : ℕ) (n'-is : n' ≡ length rows - used) (m'-is : m' ≡ m) (r : Admission) (gave : (q : GivenWords t n' m') → r ≡ admission-of (q .known .sig) ws) where
+    module _ (s : Checked) (said : (rs : List Rule) → Holds limits table rs → FreeFor n rs s) (at : ℕ) (s-is : s ≡ Free at) (n' m' : ℕ) (n'-is : n' ≡ length rows - used) (m'-is : m' ≡ m) (r : Admission) (gave : (q : GivenWords t ws n' m') → r ≡ admission-of (q .known .sig) ws) where
       told : Tells (g .force .known .sig) ws r
       unfolding words-given
       told = subst (Tells (g .force .known .sig) ws) (sym (gave (words-given n' m' n'-is m'-is))) (tells (g .force .known .sig) ws)
@@ -181,4 +177,4 @@ module _ {t table : List ℕ} {used total : ℕ} {rows : List ℕ} {m : ℕ} (g 
             let a = leb-no (limits .rules) (length (g .force .rs)) few in
             let b = ltb-no (limits .weight) (weight (g .force .known .sig) ws + total-weight (g .force .known .sig) (g .force .rs)) (omega (arith, k, so .1, g .force .ready .total-is)) in
             let c : later ≡ cond (any (λ r. shares (g .force .known .sig) ws (r .pattern)) (g .force .rs)) 12 0 = rw (a, b) in
-            (record { free = f .2; passed = so .0; few = few; refusal-is = good ∙ c }, ready-kept ys)
+            (record { free = f .2; passed = so .0; few = few; light = omega (arith, k, so .1, g .force .ready .total-is); refusal-is = good ∙ c }, ready-kept ys)

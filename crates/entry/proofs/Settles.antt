@@ -19,7 +19,6 @@ use Rattle.table.specs.Refusals.{entry-refusal}
 use Rattle.table.specs.Rule.{add-rule, default-of, stored}
 use Rattle.table.proofs.SoundFacts.{sound-valid}
 use Rattle.table.proofs.TableFacts.{Valid}
-use Rattle.builder.specs.Build.{row-room}
 use Rattle.store.specs.Change.{GivenPut}
 use Rattle.store.proofs.LaidFacts.{sound-holds}
 use Rattle.loading.specs.Add.{GivenPlace, ListPlaced}
@@ -35,17 +34,14 @@ module _ {t table : List ℕ} {n : ℕ} {ws : List ℕ} {at used : ℕ} {rows : 
   valid : Valid (g .force .known .sig) (g .force .rs)
   valid = sound-valid (g .force .known .sig) (g .force .known .signed) table (g .force .rs) (g .force .is-sound) .0
 
-  used-room : used + 1 + row-room ≤ length rows
-  used-room = omega (arith, g .force .ready .small, g .force .ready .total-is, valid .light, g .cleared .few, g .room)
-
   pub next-le : used + 1 ≤ length rows
-  next-le = omega (arith, used-room)
+  next-le = omega (arith, g .room)
 
   abbrev passed : PassedWords (g .force .known .sig) ws
   passed = passed-of (g .force .known .sig) ws (g .cleared .passed)
 
   pub place-given : GivenPlace t ws used (length rows) m
-  place-given = record { known = g .force .known; p = passed .pat; words = pattern-words (g .force .known .sig) ws (passed .pat) (passed .read); light = passed .light; ranges = passed .ranges; room = used-room; work-room = g .work-room }
+  place-given = record { known = g .force .known; p = passed .pat; words = pattern-words (g .force .known .sig) ws (passed .pat) (passed .read); light = passed .light; ranges = passed .ranges; room = g .room; work-room = g .work-room }
 
   pub put-given : GivenPut table at n ws
   put-given = record { rs = g .force .rs; holds = sound-holds (g .force .known .sig) table (g .force .rs) (g .force .is-sound); free = g .cleared .free; few = g .cleared .few; short = valid .short; short-new = short-of (g .force .known .sig) ws (g .cleared .passed) }
@@ -93,6 +89,7 @@ module _ {t table : List ℕ} {n : ℕ} {ws : List ℕ} {at used : ℕ} {rows : 
       ws = ws;
       p = passed .pat;
       read = passed .read;
+      light = g .cleared .light;
       rest′ = placed .rest;
       within = omega (arith, size);
       last =

@@ -3,22 +3,22 @@ use mathlib.Core.Path.{_≡_}
 use mathlib.Core.List.{List}
 use mathlib.Core.Option.{some}
 use mathlib.Core.Bool.{cond, not, _&&_}
-use Prim.Native.Nat.{ℕ, _≤_, _<_}
+use Prim.Native.Nat.{ℕ, _+_, _≤_, _<_}
 use lib.Dec.{leb}
 use lib.ListN.{length}
 use Rattle.signature.specs.Decoded.{Known}
 use Rattle.signature.specs.Lists.{any}
 use Rattle.signature.specs.Signature.{Signature}
+use Rattle.pattern.specs.Weight.{weight}
 use Rattle.row.specs.Admitted.{refusal-of-pattern}
 use Rattle.row.specs.Overlap.{shares}
 use Rattle.tree.specs.Limits.{last-number}
 use Rattle.table.specs.Limits.{limits}
 use Rattle.table.specs.Refusals.{entry-refusal}
-use Rattle.table.specs.Rule.{Rule, held}
+use Rattle.table.specs.Rule.{Rule, held, total-weight}
 use Rattle.table.specs.Sound.{sound}
-use Rattle.builder.specs.Build.{row-room}
+use Rattle.builder.specs.Build.{words-room}
 use Rattle.store.specs.Place.{FreeAt}
-use Rattle.loading.specs.Add.{rows-room}
 use Rattle.loading.specs.Load.{InForce, Ready}
 use Rattle.entry.specs.declared.check.Checked.{Checked}
 use Rattle.entry.specs.declared.check.Checked.the-variants.{Free, Refused}
@@ -32,17 +32,18 @@ abbrev pub FreeFor : ℕ → List Rule → Checked → Type 0
 FreeFor n rs (Refused q) = (1 ≤ q) × (q ≡ 12 → ⊥) × ((later : ℕ) → number-refusal n rs later ≡ q)
 FreeFor n rs (Free at) = (1 ≤ n) × (n ≤ last-number) × FreeAt n rs at
 
--- rules in force, and room
-pub record GivenCheck (t table : List ℕ) (used total : ℕ) (rows : List ℕ) (m : ℕ) : Type 0 where
+-- rules in force, and room for the words behind their rows
+pub record GivenCheck (t table ws : List ℕ) (used total : ℕ) (rows : List ℕ) (m : ℕ) : Type 0 where
   pub force : InForce t table used total rows
-  pub room : rows-room ≤ length rows
-  pub work-room : row-room ≤ m
+  pub room : used + 1 + words-room (length ws) ≤ length rows
+  pub work-room : words-room (length ws) ≤ m
 
 -- none of 4 to 11 and 18 applies, and the rule would go in there
 pub record Cleared (sig : Signature) (rs : List Rule) (n : ℕ) (ws : List ℕ) (at : ℕ) : Type 0 where
   pub free : FreeAt n rs at
   pub passed : refusal-of-pattern sig ws ≡ 0
   pub few : length rs < limits .rules
+  pub light : weight sig ws + total-weight sig rs ≤ limits .weight
   pub refusal-is : entry-refusal limits sig n ws rs ≡ cond (any (λ r. shares sig ws (r .pattern)) rs) 12 0
 
 -- the first of 4 to 11 and 18 that applies; or none does, and the rules' rows are still there

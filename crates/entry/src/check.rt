@@ -50,8 +50,8 @@ pub fn check(
     rows: &mut [u64],
     work: &mut [u64],
 ) -> Checked
-    requires { ⌜ GivenCheck (now t) (now table) used total (now rows) (length (now work)) ⌝ }
-    ensures { λ r. ⌜ ((g : GivenCheck (now (t .entry)) (now (table .entry)) used total (now (rows .entry)) (length (now (work .entry)))) → CheckedAs (g .force .known .sig) (g .force .rs) number (now (pattern .entry)) used total r (now (rows .exit))) ⌝ }
+    requires { ⌜ GivenCheck (now t) (now table) (now pattern) used total (now rows) (length (now work)) ⌝ }
+    ensures { λ r. ⌜ ((g : GivenCheck (now (t .entry)) (now (table .entry)) (now (pattern .entry)) used total (now (rows .entry)) (length (now (work .entry)))) → CheckedAs (g .force .known .sig) (g .force .rs) number (now (pattern .entry)) used total r (now (rows .exit))) ⌝ }
 {
     match free_at(table, number) {
         Checked::Refused(q) => Checked::Refused(q),

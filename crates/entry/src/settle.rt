@@ -25,7 +25,7 @@ pub fn settle(
     ensures { λ r. ⌜ Numbered r ⌝ }
 {
     place(t, pattern, used, rows, work);
-    let s = first_sharer(t, table, rows, used + 1, witness);
+    let s = first_sharer(t, table, rows, used + 1, work, witness);
     if s.length > 0 {
         return Entry::Shares(s.rule, s.length);
     }

@@ -12,7 +12,7 @@ use Rattle.signature.specs.Value.{Value, code}
 use Rattle.signature.proofs.Values.{length-code, some-size}
 use Rattle.row.specs.Row.{Row}
 use Rattle.cell.specs.Coded.{kinds-of, row-code}
-use Rattle.tree.specs.Limits.{row-limit}
+use Rattle.rowset.specs.Limits.{row-limit}
 use Rattle.path.specs.Rows.{RuleRow}
 use Rattle.path.specs.State.{row-stride}
 use Rattle.table.specs.Gap.{Gap, ShowsGap}

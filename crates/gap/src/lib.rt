@@ -1,29 +1,30 @@
 // The gap call (1 to 3): a booking that no rule in force takes.
-use builder::build::ROW_ROOM;
 use entering::enter::long_enough;
 use indexing::rules::index_rules;
 use loading::add::ROWS_ROOM;
-use opening::open::Opened;
-use opening::open::open;
+use loading::add::SMALL_ROWS;
+use loading::load::Loaded;
+use opening::begin::begin;
+use opening::load::load_large;
+use opening::load::load_small;
 use path::rows::INDEX_ROOM;
 use search::search::search;
 use signature::decoded::DECODED;
+use signature::refusals::UNSOUND;
+use store::layout::TABLE;
 use values::shortest::VALUE_ROOM;
-ghost use mathlib.Core.Path.{_≡_};
-ghost use mathlib.Core.Bool.{true};
 ghost use Prim.Native.Nat.{_+_, _*_, _≤_, _<_};
 ghost use lib.ListN.{length};
-ghost use Rattle.signature.specs.Decoded.{decoded-length};
 ghost use Rattle.signature.specs.Limits.{booking-limit};
 ghost use Rattle.row.specs.Limits.{place-words};
-ghost use Rattle.tree.specs.Limits.{row-limit};
+ghost use Rattle.rowset.specs.Limits.{row-limit};
 ghost use Rattle.path.specs.State.{row-stride};
 ghost use Rattle.search.specs.Search.{Searched};
-ghost use Rattle.loading.specs.Add.{rows-room};
-ghost use Rattle.opening.specs.Open.{OpenedAs};
-ghost use Rattle.table.specs.Limits.{limits, table-length, witness-length};
+ghost use Rattle.table.specs.Limits.{limits, witness-length};
 ghost use Rattle.table.specs.Gap.{GapCall, ShowsGap};
+ghost use Rattle.entering.specs.Enter.{GivenEnter};
 ghost use Rattle.compiling.specs.Compile.{InTable};
+ghost use Rattle.gap.specs.Answer.{GapsAs, TriedAs};
 ghost use Rattle.gap.specs.Rows.{rows-in};
 
 // The call's number, and the booking's length in words.
@@ -32,13 +33,10 @@ pub struct Shown {
     pub len: usize,
 }
 
-// Opens the table. The workspace is free again behind it, so that it does not add to the search's.
-fn open_table(ss: &[u16], long: bool, table: &[u16], t: &mut [u16], lists: &mut [u64]) -> Opened
-    requires { ⌜ (long ≡ true → table-length limits ≤ length (now table)) × (length (now t) ≡ decoded-length) × (rows-room ≤ length (now lists)) ⌝ }
-    ensures { λ o. ⌜ OpenedAs (now (ss .entry)) long (now (table .entry)) o (now (t .exit)) (now (lists .exit)) ⌝ }
-{
-    let mut work = [0u64; ROW_ROOM];
-    open(ss, long, table, t, lists, &mut work)
+// An answer; or that the lists of rows are too small for the table.
+pub enum Tried {
+    Done(Shown),
+    NoRoom,
 }
 
 // A value that no row of the table's rules takes, first in v. `rows` takes the table of their rows.
@@ -68,32 +66,62 @@ fn show(t: &[u16; DECODED], table: &[u16], lists: &[u64], witness: &mut [u16]) -
     m
 }
 
-// The call over a lent signature's table and lists of rows.
-fn gap_in(
-    ss: &[u16],
-    table: &[u16],
-    witness: &mut [u16],
-    t: &mut [u16; DECODED],
-    lists: &mut [u64],
-) -> Shown
-    requires { ⌜ (length (now t) ≡ decoded-length) × (rows-room ≤ length (now lists)) ⌝ }
-    ensures { λ r. ⌜ GapCall limits (now (ss .entry)) (now (table .entry)) (now (witness .entry)) (r .number) (r .len) (now (witness .exit)) ⌝ }
+// The table is not short here, so that it never calls itself, for the reason of `opening::load`.
+fn gap_small(t: &[u16; DECODED], table: &[u16], witness: &mut [u16]) -> Tried
+    requires { ⌜ GivenEnter (now t) (now table) (now witness) ⌝ }
+    ensures { λ r. ⌜ ((g : GivenEnter (now (t .entry)) (now (table .entry)) (now (witness .entry))) → TriedAs (g .load .known .sig) (now (table .entry)) (now (witness .entry)) r (now (witness .exit))) ⌝ }
 {
-    let long = long_enough(table, witness);
-    let o = open_table(ss, long, table, t, lists);
-    match o {
-        Opened::Refused(n) => Shown { number: n, len: 0 },
-        Opened::Begun(_used, _total) => {
-            let len = show(t, table, lists, witness);
-            Shown { number: 0, len }
+    if table.len() < TABLE {
+        return gap_small(t, table, witness);
+    }
+    let mut lists = [0u64; SMALL_ROWS];
+    let r = load_small(t, table, &mut lists);
+    match r {
+        Loaded::NoRoom => Tried::NoRoom,
+        Loaded::Unsound => Tried::Done(Shown {
+            number: UNSOUND,
+            len: 0,
+        }),
+        Loaded::Sound(_used, _total) => {
+            let len = show(t, table, &lists, witness);
+            Tried::Done(Shown { number: 0, len })
         }
     }
 }
 
+// Every table has room, as in `opening::load`.
+fn gap_large(t: &[u16; DECODED], table: &[u16], witness: &mut [u16]) -> Shown
+    requires { ⌜ GivenEnter (now t) (now table) (now witness) ⌝ }
+    ensures { λ r. ⌜ ((g : GivenEnter (now (t .entry)) (now (table .entry)) (now (witness .entry))) → GapsAs (g .load .known .sig) (now (table .entry)) (now (witness .entry)) (r .number) (r .len) (now (witness .exit))) ⌝ }
+{
+    let mut lists = [0u64; ROWS_ROOM];
+    let r = load_large(t, table, &mut lists);
+    match r {
+        Loaded::Sound(_used, _total) => {
+            let len = show(t, table, &lists, witness);
+            Shown { number: 0, len }
+        }
+        Loaded::Unsound => Shown {
+            number: UNSOUND,
+            len: 0,
+        },
+        Loaded::NoRoom => gap_large(t, table, witness),
+    }
+}
+
+// The lists of rows of one size are gone before those of the other come.
 pub fn gap(ss: &[u16], table: &[u16], witness: &mut [u16]) -> Shown
     ensures { λ r. ⌜ GapCall limits (now (ss .entry)) (now (table .entry)) (now (witness .entry)) (r .number) (r .len) (now (witness .exit)) ⌝ }
 {
+    let long = long_enough(table, witness);
     let mut t = [0u16; DECODED];
-    let mut lists = [0u64; ROWS_ROOM];
-    gap_in(ss, table, witness, &mut t, &mut lists)
+    let q = begin(ss, long, &mut t);
+    if q != 0 {
+        return Shown { number: q, len: 0 };
+    }
+    let r = gap_small(&t, table, witness);
+    match r {
+        Tried::Done(s) => s,
+        Tried::NoRoom => gap_large(&t, table, witness),
+    }
 }

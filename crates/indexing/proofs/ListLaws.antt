@@ -2,16 +2,15 @@
 use mathlib.Core.Path.{_≡_, refl, sym, ap, _∙_}
 use mathlib.Core.Logic.{_⊎_, inl, inr}
 use mathlib.Core.List.{List, [], _∷_, _++_, append-assoc, append-nil}
-use mathlib.Core.Option.{Option, some}
-use Prim.Native.Nat.{ℕ, zero, suc, _+_, _-_, _*_, _≤_, _<_}
+use mathlib.Core.Option.{some}
+use Prim.Native.Nat.{ℕ, _+_, _-_, _*_, _≤_, _<_}
 use native.Mathlib.Omega.{arith}
 use lib.ListN.{length, getD, drop, length-append, length-drop, getElem?}
 use lib.Seq.{drop-at, drop-drop}
 use Rattle.signature.specs.Lists.{All, none-left, also}
 use Rattle.signature.specs.Signature.{Signature}
 use Rattle.signature.proofs.ListFacts.{all-at, all-append}
-use Rattle.signature.proofs.KnownFacts.{at-below}
-use Rattle.signature.proofs.Tests.{none≢some, some-inj}
+use Rattle.signature.proofs.Tests.{none≢some}
 use Rattle.pattern.specs.Limits.{pattern-limit}
 use Rattle.row.specs.Row.{Row}
 use Rattle.cell.specs.Coded.{kinds-of, row-code}
@@ -19,22 +18,12 @@ use Rattle.cell.specs.Cursor.{opens-of}
 use Rattle.cell.specs.RowList.{entries}
 use Rattle.cell.proofs.Walk.{word-at}
 use Rattle.builder.proofs.NextLists.{words-filled}
+use Rattle.meeting.proofs.Gathering.{last-or}
 use Rattle.path.specs.Standing.{tag-of}
 use Rattle.path.specs.State.{row-stride}
 use Rattle.signature.specs.Limits.{word-limit}
 use Rattle.path.specs.Rows.{RuleRow, GivenRow, RowIndexed, Before, RowKept, Fit}
 use Rattle.indexing.specs.Indexing.{row-of, GivenList, ListIndexed}
-
--- an element of a list with one more
-last-or : {A : Type 0} (xs : List A) (x : A) (q : ℕ) (y : A) → getElem? (xs ++ (x ∷ [])) q ≡ some y → ((getElem? xs q ≡ some y) × (q < length xs)) ⊎ ((q ≡ length xs) × (x ≡ y))
-last-or [] x zero y e = inr (refl, some-inj x y e)
-last-or [] x (suc q) y e = none≢some e
-last-or (z ∷ xs) x zero y e = inl (e, omega arith)
-last-or (z ∷ xs) x (suc q) y e = go (last-or xs x q y e)
-  where
-    go : ((getElem? xs q ≡ some y) × (q < length xs)) ⊎ ((q ≡ length xs) × (x ≡ y)) → ((getElem? xs q ≡ some y) × (suc q < suc (length xs))) ⊎ ((suc q ≡ suc (length xs)) × (x ≡ y))
-    go (inl (a, l)) = inl (a, omega arith)
-    go (inr (a, b)) = inr (ap suc a, b)
 
 -- a row of the table stays where later rows are filled
 pub placed-same : (sig : Signature) (t a tab tab′ : List ℕ) (r q : ℕ) (e : RuleRow) → length (row-code (kinds-of sig) (e .row) 0) ≤ 3 * pattern-limit → q < r → Before (row-stride * r) tab tab′ → RowKept sig t a tab q e → RowKept sig t a tab′ q e

@@ -18,7 +18,7 @@ use Rattle.cell.proofs.Walk.{word-at}
 use Rattle.path.specs.State.{row-stride}
 use Rattle.signature.specs.Limits.{word-limit}
 use Rattle.path.specs.Rows.{RuleRow, Fit, RowsKept, RowKept}
-use Rattle.tree.specs.Limits.{row-limit}
+use Rattle.rowset.specs.Limits.{row-limit}
 use Rattle.table.specs.Limits.{limits, table-length, rules-at}
 use Rattle.table.specs.Rule.{Rule, default-of}
 use Rattle.store.specs.Laid.{Holds}

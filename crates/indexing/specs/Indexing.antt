@@ -13,7 +13,7 @@ use Rattle.cell.specs.RowList.{entries}
 use Rattle.path.specs.State.{row-stride, default-in}
 use Rattle.signature.specs.Limits.{word-limit}
 use Rattle.path.specs.Rows.{RuleRow, Fit, Before, RowKept, RowsKept}
-use Rattle.tree.specs.Limits.{row-limit}
+use Rattle.rowset.specs.Limits.{row-limit}
 use Rattle.table.specs.Rule.{Rule, default-of}
 use Rattle.loading.specs.Lists.{rows-for, lists-for}
 use Rattle.loading.specs.Load.{InForce, patterns}

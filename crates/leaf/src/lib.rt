@@ -17,7 +17,7 @@ ghost use Rattle.sets.specs.Set.{set-limit};
 ghost use Rattle.path.specs.State.{rule-of, plan-of, row-stride, cell-of, default-in};
 ghost use Rattle.leaf.specs.Leaf.{Leaving, Pairing, Paired, Used, all-pairs, cell-pair, cell-pairs, leaf-of};
 ghost use Rattle.signature.specs.Limits.{word-limit};
-ghost use Rattle.tree.specs.Limits.{row-limit};
+ghost use Rattle.rowset.specs.Limits.{row-limit};
 ghost use Rattle.tree.specs.Tree.{default};
 ghost use Rattle.path.specs.Wrote.{Wrote};
 

@@ -1,14 +1,12 @@
 -- One rule more.
 use mathlib.Core.Path.{_≡_, refl, sym, ap, ap₂, subst, _∙_}
 use mathlib.Core.List.{List, [], _∷_, _++_, append-assoc, append-nil}
-use mathlib.Core.Bool.{Bool, true, false, not, cond, _&&_}
+use mathlib.Core.Bool.{Bool, true, false, cond}
 use Prim.Native.Nat.{ℕ, suc, _+_, _*_, _-_, _<_, _≤_}
 use native.Mathlib.Omega.{arith}
 use lib.Dec.{eqb, leb}
 use lib.ListN.{length, take, drop, length-append}
-use lib.Seq.{drop-at, take-at, length-take-le}
-use Rattle.signature.specs.Decoded.{Known}
-use Rattle.signature.specs.Lists.{any}
+use lib.Seq.{take-at, length-take-le}
 use Rattle.signature.specs.Signature.{Signature}
 use Rattle.signature.proofs.Tests.{eqb-eq, leb-yes, leb-no}
 use Rattle.pattern.specs.Limits.{part-weight-limit}
@@ -17,20 +15,19 @@ use Rattle.pattern.specs.Weight.{weight, weight-by, weight-plus}
 use Rattle.pattern.proofs.PatternBack.{pattern-words}
 use Rattle.pattern.proofs.StandsLaw.{light-weight}
 use Rattle.row.specs.Admitted.{refusal-of-pattern, Passed as PassedWords}
-use Rattle.row.specs.Overlap.{shares}
 use Rattle.row.specs.Row.{rows-plus}
 use Rattle.row.proofs.PassedFacts.{passed-of}
 use Rattle.cell.specs.Coded.{kinds-of}
-use Rattle.cell.specs.RowList.{list-code, from}
-use Rattle.cell.proofs.Walk.{from-is, back, each-append}
+use Rattle.cell.specs.RowList.{list-code}
+use Rattle.cell.proofs.Walk.{back, each-append}
 use Rattle.table.specs.Limits.{limits}
-use Rattle.builder.specs.Build.{row-room}
+use Rattle.builder.specs.Build.{words-room}
 use Rattle.admission.specs.Admission.{GivenWords, admission-of}
 use Rattle.admission.specs.declared.admit.Admission.{Admission}
 use Rattle.admission.specs.declared.admit.Admission.the-variants.{Passed, Refused}
 use Rattle.loading.specs.Add.{weights, GivenPlace, ListPlaced, GivenAdd, goes-with, Stepped, lists-room, row-words}
-use Rattle.loading.specs.Lists.{rows-by, rows-for, list-for, lists-for, GivenLists}
-use Rattle.loading.specs.declared.add.Addition.the-variants.{Added, Unsound}
+use Rattle.loading.specs.Lists.{rows-by, list-for, lists-for}
+use Rattle.loading.specs.declared.add.Addition.the-variants.{Added}
 
 -- what the admission tells of the words
 abbrev Tells : Signature → List ℕ → Admission → Type 0
@@ -48,20 +45,21 @@ tells sig ws = go (eqb (refusal-of-pattern sig ws) 0) refl
 pub front-kept : (o ys : List ℕ) (used : ℕ) → used ≤ length o → take used (back o used ys) ≡ take used o
 front-kept o ys used h = take-at (take used o) (ys ++ drop (length o - used) (drop used o)) used (length-take-le used o h)
 
-module _ {t : List ℕ} {n used total : ℕ} {rows : List ℕ} {m : ℕ} (g : GivenAdd t n used total rows m) where
-  pub used-le : used + 1 + row-room ≤ length rows
-  used-le = omega (arith, g .small, g .light, g .few, g .room)
+module _ {t : List ℕ} {used total : ℕ} {rows : List ℕ} (g : GivenAdd t used total rows) where
+  pub used-le : used ≤ lists-room (limits .weight) (limits .rules)
+  used-le = omega (arith, g .small, g .light, g .few)
 
   pub le : used ≤ length rows
-  le = omega (arith, used-le)
+  le = omega (arith, g .used-is, ap length (g .code-is), length-append (lists-for (g .known .sig) (g .wss)) (g .rest))
 
-  pub words-given : (n' : ℕ) → n' ≡ length rows - used → GivenWords t n' m
-  words-given n' e = record { known = g .known; room = omega (arith, e, used-le); work-room = g .work-room }
+  module _ {ws : List ℕ} {m : ℕ} (has : (used + 1 + words-room (length ws) ≤ length rows) × (words-room (length ws) ≤ m)) where
+    pub words-given : (n' : ℕ) → n' ≡ length rows - used → GivenWords t ws n' m
+    words-given n' e = record { known = g .known; room = omega (arith, e, has .0); work-room = has .1 }
 
-  module _ (ws : List ℕ) (n' : ℕ) (n'-is : n' ≡ length rows - used) (r : Admission) (gave : (q : GivenWords t n' m) → r ≡ admission-of (q .known .sig) ws) where
+  module _ (ws : List ℕ) {m : ℕ} (has : (used + 1 + words-room (length ws) ≤ length rows) × (words-room (length ws) ≤ m)) (n' : ℕ) (n'-is : n' ≡ length rows - used) (r : Admission) (gave : (q : GivenWords t ws n' m) → r ≡ admission-of (q .known .sig) ws) where
     told : Tells (g .known .sig) ws r
     unfolding words-given
-    told = subst (Tells (g .known .sig) ws) (sym (gave (words-given n' n'-is))) (tells (g .known .sig) ws)
+    told = subst (Tells (g .known .sig) ws) (sym (gave (words-given has n' n'-is))) (tells (g .known .sig) ws)
 
     pub refused : (q : ℕ) → r ≡ Refused q → goes-with (g .known .sig) (g .wss) ws ≡ false
     refused q e = let z : eqb (refusal-of-pattern (g .known .sig) ws) 0 ≡ false = subst (Tells (g .known .sig) ws) e told in rw z
@@ -86,7 +84,7 @@ module _ {t : List ℕ} {n used total : ℕ} {rows : List ℕ} {m : ℕ} (g : Gi
 
       module _ (fits : total + w ≤ limits .weight) (n'' m'' : ℕ) (n''-is : n'' ≡ length rows) (m''-is : m'' ≡ m) where
         pub place-given : GivenPlace t ws used n'' m''
-        place-given = record { known = g .known; p = passed .pat; words = pattern-words (g .known .sig) ws (passed .pat) (passed .read); light = passed .light; ranges = passed .ranges; room = omega (arith, n''-is, used-le); work-room = omega (arith, m''-is, g .work-room) }
+        place-given = record { known = g .known; p = passed .pat; words = pattern-words (g .known .sig) ws (passed .pat) (passed .read); light = passed .light; ranges = passed .ranges; room = omega (arith, n''-is, has .0); work-room = omega (arith, m''-is, has .1) }
 
         module _ (o : List ℕ) (kept : take used o ≡ take used rows) (r' : ℕ) (o' : List ℕ) (put : (q : GivenPlace t ws used n'' m'') → ListPlaced (q .known .sig) (q .p) used r' o o') where
           placed : ListPlaced (g .known .sig) (passed .pat) used r' o o'
@@ -106,52 +104,21 @@ module _ {t : List ℕ} {n used total : ℕ} {rows : List ℕ} {m : ℕ} (g : Gi
           code-so : o' ≡ lists-for (g .known .sig) (g .wss) ++ (length L ∷ (L ++ placed .rest))
           code-so = placed .code-is ∙ ap₂ (λ x y. x ++ (length y ∷ (y ++ placed .rest))) front L-is
 
-          size : length o' ≡ used + suc (length L + length (placed .rest))
-          size = ap length code-so ∙ length-append (lists-for (g .known .sig) (g .wss)) (length L ∷ (L ++ placed .rest)) ∙ ap₂ (λ x y. x + suc y) (sym (g .used-is)) (length-append L (placed .rest))
+          light : leb (weight (g .known .sig) ws + weights (g .known .sig) (g .wss)) (limits .weight) ≡ true
+          light = leb-yes (weight (g .known .sig) ws + weights (g .known .sig) (g .wss)) (limits .weight) (omega (arith, so .1, g .total-is, fits))
 
-          pub lists-given : GivenLists t o' n (used + 1)
+          pub added : Stepped (g .known .sig) (g .wss) ws (length rows) m (Added r' (total + w)) o'
           unfolding L
-          lists-given = record {
-            known = g .known;
-            wss = g .wss;
-            rest = length L ∷ (L ++ placed .rest);
-            code-is = code-so;
-            many = g .many;
-            ws = ws;
-            rest′ = placed .rest;
-            within = omega (arith, size);
-            last =
-                from-is o' (used + 1)
-                ∙ ap (drop (used + 1)) (code-so ∙ sym (append-assoc (lists-for (g .known .sig) (g .wss)) (length L ∷ []) (L ++ placed .rest)))
-                ∙ drop-at (lists-for (g .known .sig) (g .wss) ++ (length L ∷ [])) (L ++ placed .rest) (used + 1) (length-append (lists-for (g .known .sig) (g .wss)) (length L ∷ []) ∙ omega (arith, g .used-is));
-          }
-
-          module _ (b : Bool) (shared : (q : GivenLists t o' n (used + 1)) → b ≡ any (λ us. shares (q .known .sig) us (q .ws)) (q .wss)) where
-            shared-so : any (λ us. shares (g .known .sig) us ws) (g .wss) ≡ b
-            unfolding lists-given
-            shared-so = sym (shared lists-given)
-
-            light : leb (weight (g .known .sig) ws + weights (g .known .sig) (g .wss)) (limits .weight) ≡ true
-            light = leb-yes (weight (g .known .sig) ws + weights (g .known .sig) (g .wss)) (limits .weight) (omega (arith, so .1, g .total-is, fits))
-
-            goes-so : goes-with (g .known .sig) (g .wss) ws ≡ not b
-            goes-so = rw (so .0, light, shared-so)
-
-            pub shared-none : b ≡ true → goes-with (g .known .sig) (g .wss) ws ≡ false
-            shared-none h = goes-so ∙ ap not h
-
-            pub added : b ≡ false → Stepped (g .known .sig) (g .wss) ws (Added r' (total + w)) o'
-            unfolding L
-            added h =
-                let W = g .wss in
-                let more : lists-for (g .known .sig) (W ++ (ws ∷ [])) ≡ lists-for (g .known .sig) W ++ (length L ∷ (L ++ [])) = each-append (list-for (g .known .sig)) W (ws ∷ []) in
-                let len : length (lists-for (g .known .sig) (W ++ (ws ∷ []))) ≡ used + 1 + length L = ap length more ∙ length-append (lists-for (g .known .sig) W) (length L ∷ (L ++ [])) ∙ ap (λ z. length (lists-for (g .known .sig) W) + suc (length z)) (append-nil L) ∙ omega (arith, g .used-is) in (
-                  goes-so ∙ ap not h,
-                  omega (arith, so .1, g .total-is),
-                  placed .next ∙ ap (λ z. used + 1 + length z) L-is ∙ sym len,
-                  (placed .rest, code-so ∙ sym (ap (λ z. z ++ placed .rest) more ∙ append-assoc (lists-for (g .known .sig) W) (length L ∷ (L ++ [])) (placed .rest) ∙ ap (λ z. lists-for (g .known .sig) W ++ (length L ∷ z)) (append-assoc L [] (placed .rest)))),
-                  omega (arith, placed .small, weight-is, g .small, length-append W (ws ∷ []), g .many, spread total (weight-plus (passed .pat))),
-                )
-              where
-                spread : (a b : ℕ) → (a + b) * row-words ≡ a * row-words + b * row-words
-                spread a b = omega arith
+          added =
+              let W = g .wss in
+              let more : lists-for (g .known .sig) (W ++ (ws ∷ [])) ≡ lists-for (g .known .sig) W ++ (length L ∷ (L ++ [])) = each-append (list-for (g .known .sig)) W (ws ∷ []) in
+              let len : length (lists-for (g .known .sig) (W ++ (ws ∷ []))) ≡ used + 1 + length L = ap length more ∙ length-append (lists-for (g .known .sig) W) (length L ∷ (L ++ [])) ∙ ap (λ z. length (lists-for (g .known .sig) W) + suc (length z)) (append-nil L) ∙ omega (arith, g .used-is) in (
+                rw (so .0, light),
+                omega (arith, so .1, g .total-is),
+                placed .next ∙ ap (λ z. used + 1 + length z) L-is ∙ sym len,
+                (placed .rest, code-so ∙ sym (ap (λ z. z ++ placed .rest) more ∙ append-assoc (lists-for (g .known .sig) W) (length L ∷ (L ++ [])) (placed .rest) ∙ ap (λ z. lists-for (g .known .sig) W ++ (length L ∷ z)) (append-assoc L [] (placed .rest)))),
+                omega (arith, placed .small, weight-is, g .small, length-append W (ws ∷ []), spread total (weight-plus (passed .pat))),
+              )
+            where
+              spread : (a b : ℕ) → (a + b) * row-words ≡ a * row-words + b * row-words
+              spread a b = omega arith

@@ -1,17 +1,17 @@
 -- The rows of a pattern behind the words that are used.
-use mathlib.Core.Path.{_≡_, refl, sym, ap, ap₂, subst, _∙_}
+use mathlib.Core.Path.{_≡_, ap, ap₂, _∙_}
 use mathlib.Core.List.{List, [], _∷_, _++_, append-assoc}
-use Prim.Native.Nat.{ℕ, suc, _+_, _*_, _-_, _<_, _≤_}
+use Prim.Native.Nat.{ℕ, _+_, _-_, _≤_}
 use native.Mathlib.Numerals.{add-one}
 use native.Mathlib.Omega.{arith}
-use lib.ListN.{length, take, drop, getD, set, length-append, length-take, length-drop, length-set}
+use lib.ListN.{length, take, drop, getD, set, length-append, length-drop}
 use lib.Seq.{take-suc, set-at, length-take-le}
 use Rattle.row.specs.Row.{rows-plus}
 use Rattle.cell.specs.Coded.{kinds-of}
 use Rattle.cell.specs.RowList.{list-code, from}
 use Rattle.cell.proofs.Walk.{from-is, back}
-use Rattle.builder.specs.Build.{GivenWhole, RowsFirst, row-room}
-use Rattle.loading.specs.Add.{GivenPlace, ListPlaced, row-words}
+use Rattle.builder.specs.Build.{GivenWhole, RowsFirst}
+use Rattle.loading.specs.Add.{GivenPlace, ListPlaced}
 
 -- a part to the end
 pub part-length : (o : List ℕ) (i : ℕ) → i ≤ length o → length (from o i) ≡ length o - i
@@ -22,7 +22,7 @@ module _ {t ws : List ℕ} {used n m : ℕ} (g : GivenPlace t ws used n m) where
   at-le = omega (arith, g .room)
 
   pub whole : (n' : ℕ) → n' ≡ n - (used + 1) → GivenWhole t ws n' m
-  whole n' e = record { known = g .known; p = g .p; words = g .words; light = g .light; ranges = g .ranges; room = omega (arith, e, g .room); work-room = g .work-room }
+  whole n' e = record { known = g .known; p = g .p; words = g .words; light = g .light; ranges = g .ranges; room = omega (arith, e, g .words .at-most, g .room); work-room = omega (arith, g .words .at-most, g .work-room) }
 
   module _ (n' : ℕ) (e : n' ≡ n - (used + 1)) (k : ℕ) (ys : List ℕ) (gave : (q : GivenWhole t ws n' m) → RowsFirst (q .known .sig) (q .p) k ys) (l : length ys ≡ n') (o : List ℕ) (o-is : length o ≡ n) where
     first : RowsFirst (g .known .sig) (g .p) k ys

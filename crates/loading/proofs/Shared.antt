@@ -1,29 +1,36 @@
--- One list after the other.
-use mathlib.Core.Path.{_≡_, refl, sym, ap, ap₂, subst, _∙_}
-use mathlib.Core.List.{List, [], _∷_, _++_, map, append-assoc}
+-- The rows of patterns, as lists behind each other: two patterns share a booking where their lists meet.
+use mathlib.Core.Path.{_≡_, refl, sym, ap, ap₂, _∙_}
+use mathlib.Core.List.{List, [], _∷_, _++_, map}
 use mathlib.Core.Option.{Option, none, some}
-use mathlib.Core.Bool.{Bool, true, false, not, _||_}
-use Prim.Native.Nat.{ℕ, zero, suc, _+_, _-_, _<_, _≤_}
+use mathlib.Core.Bool.{Bool, true, false, not, _&&_}
+use Prim.Native.Nat.{ℕ, _+_, _≤_}
 use native.Mathlib.Omega.{arith}
-use lib.ListN.{length, drop, getD, length-append, length-drop}
-use lib.Seq.{drop-at, drop-drop, getD-drop}
+use lib.ListN.{length, length-append, length-map}
 use Rattle.signature.specs.Decoded.{Known}
-use Rattle.signature.specs.Lists.{any, is-empty, somes}
+use Rattle.signature.specs.Lists.{All, none-left, also, all, is-empty, somes}
 use Rattle.signature.specs.Signature.{Signature}
-use Rattle.signature.proofs.Booleans.{or-true}
-use Rattle.pattern.specs.Pattern.{Pattern}
+use Rattle.pattern.specs.Limits.{pattern-limit}
+use Rattle.pattern.specs.Pattern.{Pattern, pattern-code}
 use Rattle.pattern.specs.Read.{read-pattern}
+use Rattle.pattern.specs.Weight.{weight, weight-by}
 use Rattle.pattern.proofs.PatternBack.{pattern-words}
 use Rattle.row.specs.Overlap.{shares, shared-by}
 use Rattle.row.specs.Row.{Row, combine, each}
+use Rattle.row.specs.RowFits.{place-count}
+use Rattle.row.proofs.RowCount.{plus-count}
 use Rattle.cell.specs.Coded.{kinds-of}
-use Rattle.cell.specs.RowList.{from}
-use Rattle.cell.proofs.Walk.{from-is}
+use Rattle.cell.specs.RowList.{Every, each-with, list-code}
 use Rattle.rowlist.specs.Product.{AllTyped}
 use Rattle.rowlist.proofs.Typing.{typed-rows}
-use Rattle.overlap.specs.Lists.{TwoLists}
 use Rattle.rowlist.proofs.Kinded.{kind-zero}
-use Rattle.loading.specs.Lists.{rows-by, rows-for, list-for, lists-for, GivenLists}
+use Rattle.builder.proofs.Rooms.{rows-places}
+use Rattle.table.specs.Limits.{limits}
+use Rattle.table.specs.Rule.{Rule, total-weight}
+use Rattle.table.specs.Sound.{no-shared}
+use Rattle.meeting.specs.Lists.{rows-in, lists-meet, none-by, GivenLists}
+use Rattle.meeting.specs.Rows.{Proper}
+use Rattle.loading.specs.Lists.{rows-by, rows-for, list-for, lists-for}
+use Rattle.loading.specs.Load.{patterns, Ready}
 
 -- two patterns share a booking where their rows meet
 pub shares-rows : (sig : Signature) (us ws : List ℕ) → not (is-empty (somes (each combine (rows-for sig us) (rows-for sig ws)))) ≡ shares sig us ws
@@ -45,90 +52,62 @@ typed-for {t} g ws = go (read-pattern (g .sig) ws) refl
     go none e = tt
     go (some p) e = typed-rows g p true 0 (kind-zero g) (pattern-words (g .sig) ws p e .well-formed)
 
-module _ {t lists : List ℕ} {n at : ℕ} (g : GivenLists t lists n at) where
-  -- j lists are past, the next begins behind the word at i
-  pub record Left (i j : ℕ) : Type 0 where
-    pub todo : List (List ℕ)
-    pub code-is : drop i lists ≡ lists-for (g .known .sig) todo ++ g .rest
-    pub many : j + length todo ≡ n
-    pub within : i ≤ length lists
-    pub same : any (λ us. shares (g .known .sig) us (g .ws)) (g .wss) ≡ any (λ us. shares (g .known .sig) us (g .ws)) todo
+-- and of at most 64 places
+both-proper : {t : List ℕ} (g : Known t) {rs : List Row} → AllTyped (kinds-of (g .sig)) t 0 rs → All (λ r. place-count r ≤ pattern-limit) rs → Every (Proper (kinds-of (g .sig)) t 0) rs
+both-proper g h none-left = tt
+both-proper g h (also r l m) = (record { typed = h .0; few = l }, both-proper g (h .1) m)
 
-  pub start : Left 0 0
-  start = record { todo = g .wss; code-is = g .code-is; many = omega (arith, g .many); within = omega arith; same = refl }
+few-places : (n : ℕ) {rs : List Row} → n ≤ pattern-limit → All (λ r. place-count r ≤ n) rs → All (λ r. place-count r ≤ pattern-limit) rs
+few-places n l none-left = none-left
+few-places n l (also r h m) = also r (omega (arith, h, l)) (few-places n l m)
 
-  module _ (i j : ℕ) (l : Left i j) where
-    pub finished : n ≤ j → false ≡ any (λ us. shares (g .known .sig) us (g .ws)) (g .wss)
-    finished h = sym (l .same ∙ go (l .todo) (l .many))
-      where
-        go : (wss : List (List ℕ)) → j + length wss ≡ n → any (λ us. shares (g .known .sig) us (g .ws)) wss ≡ false
-        go [] e = refl
-        go (ws ∷ wss) e = absurd (omega (arith, e))
+pub proper-for : {t : List ℕ} (g : Known t) (ws : List ℕ) → Every (Proper (kinds-of (g .sig)) t 0) (rows-for (g .sig) ws)
+proper-for g ws = both-proper g (typed-for g ws) (go (read-pattern (g .sig) ws) refl)
+  where
+    go : (o : Option Pattern) → read-pattern (g .sig) ws ≡ o → All (λ r. place-count r ≤ pattern-limit) (rows-by (g .sig) o)
+    go none e = none-left
+    go (some p) e =
+        let w = pattern-words (g .sig) ws p e in
+        few-places (length (pattern-code p)) (omega (arith, ap length (w .is-code), w .at-most)) (rows-places (g .sig) 0 p true (w .well-formed))
 
-    -- the list that is next
-    record Next : Type 0 where
-      pub us : List ℕ
-      pub others : List (List ℕ)
-      pub are : l .todo ≡ us ∷ others
-      pub words : drop i lists ≡ length (list-for (g .known .sig) us) ∷ (list-for (g .known .sig) us ++ (lists-for (g .known .sig) others ++ g .rest))
+-- no more rows than a pattern weighs
+pub few-for : (sig : Signature) (ws : List ℕ) → length (rows-for sig ws) ≤ weight sig ws
+few-for sig ws = go (read-pattern sig ws)
+  where
+    go : (o : Option Pattern) → length (rows-by sig o) ≤ weight-by o
+    go none = omega arith
+    go (some p) = plus-count sig p 0
 
-    module _ (below : j < n) where
-      next : Next
-      next = go (l .todo) refl (l .many) (l .code-is)
-        where
-          go : (wss : List (List ℕ)) → l .todo ≡ wss → j + length wss ≡ n → drop i lists ≡ lists-for (g .known .sig) wss ++ g .rest → Next
-          go [] e m c = absurd (omega (arith, m))
-          go (us ∷ others) e m c = record { us = us; others = others; are = e; words = c ∙ ap (λ z. length (list-for (g .known .sig) us) ∷ z) (append-assoc (list-for (g .known .sig) us) (lists-for (g .known .sig) others) (g .rest)) }
+-- the lists of patterns are those of their rows
+pub lists-are : (sig : Signature) (wss : List (List ℕ)) → lists-for sig wss ≡ each-with (list-code (kinds-of sig) 0) (map (rows-for sig) wss)
+lists-are sig [] = refl
+lists-are sig (ws ∷ wss) = ap (λ (l : List ℕ). length (list-for sig ws) ∷ (list-for sig ws ++ l)) (lists-are sig wss)
 
-      long : i + 1 + length (list-for (g .known .sig) (next .us)) ≤ length lists
-      long =
-          let a = list-for (g .known .sig) (next .us) in
-          let b = lists-for (g .known .sig) (next .others) ++ g .rest in
-          let e : length (drop i lists) ≡ suc (length a + length b) = ap length (next .words) ∙ ap suc (length-append a b) in
-          omega (arith, l .within, length-drop i lists, e)
+pub proper-all : {t : List ℕ} (g : Known t) (wss : List (List ℕ)) → Every (Every (Proper (kinds-of (g .sig)) t 0)) (map (rows-for (g .sig)) wss)
+proper-all g [] = tt
+proper-all g (ws ∷ wss) = (proper-for g ws, proper-all g wss)
 
-      pub there : i + 1 ≤ length lists
-      there = omega (arith, long)
+-- of rules
+pub few-in : (sig : Signature) (rs : List Rule) → length (rows-in (map (rows-for sig) (patterns rs))) ≤ total-weight sig rs
+few-in sig [] = omega arith
+few-in sig (r ∷ rs) = omega (arith, length-append (rows-for sig (r .pattern)) (rows-in (map (rows-for sig) (patterns rs))), few-for sig (r .pattern), few-in sig rs)
 
-      word-is : getD lists i 0 ≡ length (list-for (g .known .sig) (next .us))
-      word-is = ap (λ z. getD lists z 0) (omega arith) ∙ sym (getD-drop i lists 0 0) ∙ ap (λ z. getD z 0 0) (next .words)
+pub none-shared : (sig : Signature) (rs : List Rule) → none-by lists-meet (map (rows-for sig) (patterns rs)) ≡ no-shared sig rs
+none-shared sig [] = refl
+none-shared sig (r ∷ rs) = ap₂ (λ (a b : Bool). a && b) (others rs) (none-shared sig rs)
+  where
+    others : (qs : List Rule) → all (λ ss. not (lists-meet (rows-for sig (r .pattern)) ss)) (map (rows-for sig) (patterns qs)) ≡ all (λ q. not (shares sig (r .pattern) (q .pattern))) qs
+    others [] = refl
+    others (q ∷ qs) = ap₂ (λ (a b : Bool). not a && b) (shares-rows sig (r .pattern) (q .pattern)) (others qs)
 
-      pub past-le : i + 1 + getD lists i 0 ≤ length lists
-      past-le = omega (arith, long, word-is)
-
-      behind : drop (i + 1) lists ≡ list-for (g .known .sig) (next .us) ++ (lists-for (g .known .sig) (next .others) ++ g .rest)
-      behind = sym (drop-drop 1 i lists) ∙ ap (drop 1) (next .words)
-
-      pub two-lists : TwoLists t (from lists (i + 1)) (from lists at)
-      two-lists = record {
-        K = kinds-of (g .known .sig);
-        kind = 0;
-        rs = rows-for (g .known .sig) (next .us);
-        ss = rows-for (g .known .sig) (g .ws);
-        rest-x = lists-for (g .known .sig) (next .others) ++ g .rest;
-        rest-y = g .rest′;
-        code-x = from-is lists (i + 1) ∙ behind;
-        code-y = g .last;
-        typed-r = typed-for (g .known) (next .us);
-        typed-s = typed-for (g .known) (g .ws);
-      }
-
-      module _ (r : Bool) (gave : (q : TwoLists t (from lists (i + 1)) (from lists at)) → r ≡ not (is-empty (somes (each combine (q .rs) (q .ss))))) where
-        said : r ≡ shares (g .known .sig) (next .us) (g .ws)
-        unfolding two-lists
-        said = gave two-lists ∙ shares-rows (g .known .sig) (next .us) (g .ws)
-
-        any-first : any (λ us. shares (g .known .sig) us (g .ws)) (g .wss) ≡ (r || any (λ us. shares (g .known .sig) us (g .ws)) (next .others))
-        any-first = l .same ∙ ap (any (λ us. shares (g .known .sig) us (g .ws))) (next .are) ∙ ap (λ z. z || any (λ us. shares (g .known .sig) us (g .ws)) (next .others)) (sym said)
-
-        pub found : r ≡ true → true ≡ any (λ us. shares (g .known .sig) us (g .ws)) (g .wss)
-        found e = sym (any-first ∙ ap (λ z. z || any (λ us. shares (g .known .sig) us (g .ws)) (next .others)) e)
-
-        pub past : r ≡ false → Left (i + 1 + getD lists i 0) (j + 1)
-        past e = record {
-          todo = next .others;
-          code-is = sym (drop-drop (getD lists i 0) (i + 1) lists) ∙ ap (drop (getD lists i 0)) behind ∙ drop-at (list-for (g .known .sig) (next .us)) (lists-for (g .known .sig) (next .others) ++ g .rest) (getD lists i 0) (sym word-is);
-          many = omega (arith, l .many, ap length (next .are));
-          within = past-le;
-          same = any-first ∙ ap (λ z. z || any (λ us. shares (g .known .sig) us (g .ws)) (next .others)) e;
-        }
+abbrev pub rules-lists : {t : List ℕ} (g : Known t) (rs : List Rule) {used total : ℕ} {rows : List ℕ} → Ready (g .sig) rs used total rows → total-weight (g .sig) rs ≤ limits .weight → (n : ℕ) → n ≡ length rs → GivenLists t rows n
+rules-lists g rs r l n e = record {
+  K = kinds-of (g .sig);
+  kind = 0;
+  rss = map (rows-for (g .sig)) (patterns rs);
+  rest = r .rest;
+  code-is = r .code-is ∙ ap (λ (z : List ℕ). z ++ r .rest) (lists-are (g .sig) (patterns rs));
+  many = e ∙ sym (length-map (patterns rs) (rows-for (g .sig)) ∙ length-map rs (λ r. r .pattern));
+  proper = proper-all g (patterns rs);
+  few = omega (arith, few-in (g .sig) rs, l);
+}

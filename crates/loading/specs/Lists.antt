@@ -1,16 +1,13 @@
 -- Lists of rows of several patterns, as words.
-use mathlib.Core.Path.{_≡_}
-use mathlib.Core.List.{List, [], _++_}
+use mathlib.Core.List.{List, []}
 use mathlib.Core.Option.{Option, none, some}
-use Prim.Native.Nat.{ℕ, _≤_}
-use lib.ListN.{length}
-use Rattle.signature.specs.Decoded.{Known}
+use Prim.Native.Nat.{ℕ}
 use Rattle.signature.specs.Signature.{Signature}
 use Rattle.pattern.specs.Pattern.{Pattern}
 use Rattle.pattern.specs.Read.{read-pattern}
 use Rattle.row.specs.Row.{Row, rows-plus}
 use Rattle.cell.specs.Coded.{kinds-of}
-use Rattle.cell.specs.RowList.{list-code, each-with, from}
+use Rattle.cell.specs.RowList.{list-code, each-with}
 
 -- the rows of the pattern that was read
 abbrev pub rows-by : Signature → Option Pattern → List Row
@@ -28,15 +25,3 @@ list-for sig ws = list-code (kinds-of sig) 0 (rows-for sig ws)
 -- list behind list, each behind the number of its words
 abbrev pub lists-for : Signature → List (List ℕ) → List ℕ
 lists-for sig wss = each-with (list-for sig) wss
-
--- n lists in front, and one that begins at a word
-pub record GivenLists (t lists : List ℕ) (n at : ℕ) : Type 0 where
-  pub known : Known t
-  pub wss : List (List ℕ)
-  pub rest : List ℕ
-  pub code-is : lists ≡ lists-for (known .sig) wss ++ rest
-  pub many : length wss ≡ n
-  pub ws : List ℕ
-  pub rest′ : List ℕ
-  pub within : at ≤ length lists
-  pub last : from lists at ≡ list-for (known .sig) ws ++ rest′

@@ -2,28 +2,21 @@
 use mathlib.Core.Path.{_≡_}
 use mathlib.Core.List.{List, _++_, map}
 use mathlib.Core.Option.{none, some}
-use mathlib.Core.Bool.{Bool, _&&_}
 use Prim.Native.Nat.{ℕ, _≤_}
-use lib.Dec.{eqb, leb}
 use lib.ListN.{length}
 use Rattle.signature.specs.Decoded.{Known}
-use Rattle.signature.specs.Lists.{all}
 use Rattle.signature.specs.Signature.{Signature}
-use Rattle.row.specs.Admitted.{refusal-of-pattern}
 use Rattle.table.specs.Limits.{limits, table-length}
 use Rattle.table.specs.Rule.{Rule, total-weight}
-use Rattle.table.specs.Sound.{sound, no-shared}
-use Rattle.builder.specs.Build.{row-room}
-use Rattle.loading.specs.Add.{rows-room, lists-room}
+use Rattle.table.specs.Sound.{sound}
+use Rattle.loading.specs.Add.{lists-room}
 use Rattle.loading.specs.Lists.{lists-for}
 use Rattle.loading.specs.declared.load.Loaded.{Loaded}
-use Rattle.loading.specs.declared.load.Loaded.the-variants.{Sound, Unsound}
+use Rattle.loading.specs.declared.load.Loaded.the-variants.{Sound, Unsound, NoRoom}
 
-pub record GivenLoad (t table : List ℕ) (n m : ℕ) : Type 0 where
+pub record GivenLoad (t table : List ℕ) : Type 0 where
   pub known : Known t
   pub long : table-length limits ≤ length table
-  pub room : rows-room ≤ n
-  pub work-room : row-room ≤ m
 
 -- the patterns of rules
 abbrev pub patterns : List Rule → List (List ℕ)
@@ -44,6 +37,8 @@ pub record InForce (t table : List ℕ) (used total : ℕ) (rows : List ℕ) : T
   pub is-sound : sound limits (known .sig) table ≡ some rs
   pub ready : Ready (known .sig) rs used total rows
 
-abbrev pub LoadedAs : Signature → List ℕ → Loaded → List ℕ → Type 0
-LoadedAs sig table Unsound rows = sound limits sig table ≡ none
-LoadedAs sig table (Sound used total) rows = (rs : List Rule) × (sound limits sig table ≡ some rs) × Ready sig rs used total rows
+-- whether the table is sound, with the lists of its rules' rows; no room tells P, and nothing of the table
+abbrev pub LoadedAs : Type 0 → Signature → List ℕ → Loaded → List ℕ → Type 0
+LoadedAs P sig table NoRoom rows = P
+LoadedAs P sig table Unsound rows = sound limits sig table ≡ none
+LoadedAs P sig table (Sound used total) rows = (rs : List Rule) × (sound limits sig table ≡ some rs) × Ready sig rs used total rows

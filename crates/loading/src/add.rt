@@ -1,14 +1,17 @@
 // One rule more: the checks of its pattern, and its rows behind those of the rules before it.
-use crate::lists::some_shares;
 use admission::admit::Admission;
 use admission::admit::admit;
+use builder::build::ROOM_UNIT;
 use builder::build::ROW_ROOM;
 use builder::build::build;
+use builder::build::words_room;
 use cell::cell::CELL;
 use pattern::limits::PATTERN_WORDS;
 use store::layout::RULES;
+ghost use Prim.Native.Nat.{_≤_};
 ghost use lib.ListN.{length};
-ghost use Rattle.loading.specs.Add.{GivenPlace, ListPlaced, GivenAdd, Stepped};
+ghost use Rattle.table.specs.Limits.{limits};
+ghost use Rattle.loading.specs.Add.{lists-room, RoomTold, GivenPlace, ListPlaced, GivenAdd, Stepped};
 
 // What the rules of a table may weigh in all.
 pub const WEIGHT: u16 = 256;
@@ -19,10 +22,31 @@ pub const ROWS_ROOM: usize = WEIGHT as usize * (1 + CELL * PATTERN_WORDS)
     + 1
     + ROW_ROOM;
 
-// The words used and the weight, with the rule; or that no sound table has it.
+// The smaller workspaces that a call tries first, enough for most tables: of the rows, and for patterns of at most 8 words.
+pub const SMALL_ROWS: usize = 5120;
+
+pub const SMALL_WORK: usize = 8 * ROOM_UNIT;
+
+// The words used and the weight, with the rule; or that no sound table has it; or that the slices are too small.
 pub enum Addition {
     Added(usize, u16),
     Unsound,
+    NoRoom,
+}
+
+// Whether slices of so many words have room for a pattern of n words behind those that are used.
+pub fn has_room(n: usize, used: usize, rows: usize, work: usize) -> bool
+    requires { ⌜ used ≤ lists-room (limits .weight) (limits .rules) ⌝ }
+    ensures { λ r. ⌜ RoomTold n used rows work r ⌝ }
+{
+    let room = words_room(n);
+    if rows < used + 1 + room {
+        return false;
+    }
+    if work < room {
+        return false;
+    }
+    true
 }
 
 // The list of a pattern's rows, behind its number of words, from an index on; the index behind it.
@@ -39,15 +63,17 @@ pub fn place(t: &[u16], p: &[u16], used: usize, rows: &mut [u64], work: &mut [u6
 pub(crate) fn add(
     t: &[u16],
     p: &[u16],
-    n: u16,
     used: usize,
     weight: u16,
     rows: &mut [u64],
     work: &mut [u64],
 ) -> Addition
-    requires { ⌜ GivenAdd (now t) n used weight (now rows) (length (now work)) ⌝ }
-    ensures { λ r. ⌜ ((g : GivenAdd (now (t .entry)) n used weight (now (rows .entry)) (length (now (work .entry)))) → Stepped (g .known .sig) (g .wss) (now (p .entry)) r (now (rows .exit))) ⌝ }
+    requires { ⌜ GivenAdd (now t) used weight (now rows) ⌝ }
+    ensures { λ r. ⌜ ((g : GivenAdd (now (t .entry)) used weight (now (rows .entry))) → Stepped (g .known .sig) (g .wss) (now (p .entry)) (length (now (rows .entry))) (length (now (work .entry))) r (now (rows .exit))) ⌝ }
 {
+    if !has_room(p.len(), used, rows.len(), work.len()) {
+        return Addition::NoRoom;
+    }
     let Admission::Passed(w) = admit(t, p, &mut rows[used..], work) else {
         return Addition::Unsound;
     };
@@ -56,8 +82,5 @@ pub(crate) fn add(
         return Addition::Unsound;
     }
     let end = place(t, p, used, rows, work);
-    if some_shares(t, rows, n, used + 1) {
-        return Addition::Unsound;
-    }
     Addition::Added(end, total)
 }

@@ -1,4 +1,3 @@
 // The rows of all rules of a table, list behind list.
 pub mod add;
-mod lists;
 pub mod load;

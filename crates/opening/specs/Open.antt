@@ -3,31 +3,31 @@ use mathlib.Core.Path.{_≡_}
 use mathlib.Core.List.{List}
 use mathlib.Core.Option.{some}
 use mathlib.Core.Bool.{Bool, true}
-use Prim.Native.Nat.{ℕ, _≤_}
-use lib.ListN.{length}
-use Rattle.signature.specs.Decoded.{Known, decoded-length}
-use Rattle.table.specs.Calls.{Start, refused, begin, start}
-use Rattle.table.specs.Limits.{limits, table-length}
+use Prim.Native.Nat.{ℕ}
+use Rattle.signature.specs.Decoded.{Known}
+use Rattle.signature.specs.Read.{read-signature}
+use Rattle.table.specs.Calls.{refused, begin, start, long-table}
+use Rattle.table.specs.Limits.{limits}
 use Rattle.table.specs.Rule.{Rule}
 use Rattle.table.specs.Sound.{sound}
-use Rattle.builder.specs.Build.{row-room}
-use Rattle.loading.specs.Add.{rows-room}
-use Rattle.loading.specs.Load.{InForce, Ready}
-use Rattle.opening.specs.declared.open.Opened.{Opened}
-use Rattle.opening.specs.declared.open.Opened.the-variants.{Begun, Refused}
 
-pub record GivenOpen (long : Bool) (table : List ℕ) (l n m : ℕ) : Type 0 where
-  pub decoded-room : l ≡ decoded-length
-  pub table-long : long ≡ true → table-length limits ≤ length table
-  pub room : rows-room ≤ n
-  pub work-room : row-room ≤ m
+-- the table of a lawful signature
+pub record Lawful (ss t : List ℕ) : Type 0 where
+  pub known : Known t
+  pub read : read-signature ss ≡ some (known .sig)
 
--- none of 1 to 3 applies, and these rules are in force
-pub record Started (ss : List ℕ) (long : Bool) (table : List ℕ) (used total : ℕ) (t rows : List ℕ) : Type 0 where
-  pub force : InForce t table used total rows
-  pub started : start limits ss long table ≡ begin (force .known .sig) (force .rs)
-  pub is-long : long ≡ true
+-- the first of 1 and 2 that applies, or 0
+pub record BeginsAs (ss : List ℕ) (long : Bool) (r : ℕ) (t : List ℕ) : Type 0 where
+  pub begins : r ≡ 0 → Lawful ss t × (long ≡ true)
+  pub refuses : (r ≡ 0 → ⊥) → (table : List ℕ) → start limits ss long table ≡ refused r
 
-abbrev pub OpenedAs : List ℕ → Bool → List ℕ → Opened → List ℕ → List ℕ → Type 0
-OpenedAs ss long table (Refused n) t rows = start limits ss long table ≡ refused n
-OpenedAs ss long table (Begun used total) t rows = Started ss long table used total t rows
+-- the rules of a sound table
+pub record Ruled (t table : List ℕ) : Type 0 where
+  pub known : Known t
+  pub rs : List Rule
+  pub is-sound : sound limits (known .sig) table ≡ some rs
+
+-- the first of 1 to 3 that applies to a lent table, or 0: then its rules are in force
+pub record OpenedAs (ss table : List ℕ) (r : ℕ) (t : List ℕ) : Type 0 where
+  pub begun : r ≡ 0 → (g : Ruled t table) × (start limits ss (long-table limits table) table ≡ begin (g .known .sig) (g .rs))
+  pub turned-down : (r ≡ 0 → ⊥) → start limits ss (long-table limits table) table ≡ refused r

@@ -1,2 +1,4 @@
-// Where every call on a table starts: refusals 1 to 3, and the rows of the rules in force.
+// Where every call on a table starts: refusals 1 to 3.
+pub mod begin;
+pub mod load;
 pub mod open;

@@ -1,39 +1,75 @@
-// The signature decoded, and the table's rules loaded.
-use decoding::decode::decode;
+// Refusals 1 to 3 of a call that needs no rows.
+use crate::begin::begin;
+use crate::load::load_large;
+use crate::load::load_small;
+use loading::add::ROWS_ROOM;
+use loading::add::SMALL_ROWS;
 use loading::load::Loaded;
-use loading::load::load;
-use signature::refusals::SIGNATURE_UNLAWFUL;
-use signature::refusals::TOO_SHORT;
 use signature::refusals::UNSOUND;
+use store::layout::TABLE;
+ghost use mathlib.Core.Path.{_≡_};
+ghost use mathlib.Core.List.{List};
+ghost use Prim.Native.Nat.{ℕ};
 ghost use lib.ListN.{length};
-ghost use Rattle.opening.specs.Open.{GivenOpen, OpenedAs};
+ghost use Rattle.signature.specs.Decoded.{decoded-length};
+ghost use Rattle.signature.specs.Lists.{is-some};
+ghost use Rattle.table.specs.Limits.{limits};
+ghost use Rattle.table.specs.Sound.{sound};
+ghost use Rattle.loading.specs.Load.{GivenLoad, LoadedAs};
+ghost use Rattle.opening.specs.Open.{OpenedAs};
 
-// The words used for the rows and the weight of all rules; or the refusal.
-pub enum Opened {
-    Begun(usize, u16),
-    Refused(u16),
+// No lent table is short here, so that it never calls itself, for the reason of `load_large`.
+fn sound_small(t: &[u16], table: &[u16]) -> Loaded
+    requires { ⌜ GivenLoad (now t) (now table) ⌝ }
+    ensures { λ r. ⌜ ((g : GivenLoad (now (t .entry)) (now (table .entry))) → (rows : List ℕ) × LoadedAs (Unit {0}) (g .known .sig) (now (table .entry)) r rows) ⌝ }
+{
+    let mut rows = [0u64; SMALL_ROWS];
+    let r = load_small(t, table, &mut rows);
+    if table.len() < TABLE {
+        return sound_small(t, table);
+    }
+    r
 }
 
-// `long` says that the lent table, and a lent witness buffer, are long enough.
-pub fn open(
-    ss: &[u16],
-    long: bool,
-    table: &[u16],
-    t: &mut [u16],
-    rows: &mut [u64],
-    work: &mut [u64],
-) -> Opened
-    requires { ⌜ GivenOpen long (now table) (length (now t)) (length (now rows)) (length (now work)) ⌝ }
-    ensures { λ r. ⌜ OpenedAs (now (ss .entry)) long (now (table .entry)) r (now (t .exit)) (now (rows .exit)) ⌝ }
+// Every table has room, as in `load_large`.
+fn sound_large(t: &[u16], table: &[u16]) -> bool
+    requires { ⌜ GivenLoad (now t) (now table) ⌝ }
+    ensures { λ r. ⌜ ((g : GivenLoad (now (t .entry)) (now (table .entry))) → r ≡ is-some (sound limits (g .known .sig) (now (table .entry)))) ⌝ }
 {
-    if !decode(ss, t) {
-        return Opened::Refused(SIGNATURE_UNLAWFUL);
+    let mut rows = [0u64; ROWS_ROOM];
+    let r = load_large(t, table, &mut rows);
+    match r {
+        Loaded::Sound(_used, _total) => true,
+        Loaded::Unsound => false,
+        Loaded::NoRoom => sound_large(t, table),
     }
-    if !long {
-        return Opened::Refused(TOO_SHORT);
+}
+
+// Whether a table is sound. The arrays of one size are gone before those of the other come.
+fn is_sound(t: &[u16], table: &[u16]) -> bool
+    requires { ⌜ GivenLoad (now t) (now table) ⌝ }
+    ensures { λ r. ⌜ ((g : GivenLoad (now (t .entry)) (now (table .entry))) → r ≡ is-some (sound limits (g .known .sig) (now (table .entry)))) ⌝ }
+{
+    let r = sound_small(t, table);
+    match r {
+        Loaded::Sound(_used, _total) => true,
+        Loaded::Unsound => false,
+        Loaded::NoRoom => sound_large(t, table),
     }
-    let Loaded::Sound(used, total) = load(t, table, rows, work) else {
-        return Opened::Refused(UNSOUND);
-    };
-    Opened::Begun(used, total)
+}
+
+// The signature decoded into t, and 0; or the refusal.
+pub fn open(ss: &[u16], table: &[u16], t: &mut [u16]) -> u16
+    requires { ⌜ length (now t) ≡ decoded-length ⌝ }
+    ensures { λ r. ⌜ OpenedAs (now (ss .entry)) (now (table .entry)) r (now (t .exit)) ⌝ }
+{
+    let long = table.len() >= TABLE;
+    let r = begin(ss, long, t);
+    if r != 0 {
+        return r;
+    }
+    if !is_sound(t, table) {
+        return UNSOUND;
+    }
+    0
 }

@@ -153,24 +153,3 @@ module _ {ar x y : List ℕ} (g : RowByList ar x y) (at : ℕ) where
     pub end1 : getD y at 0 ≤ 0 → false ≡ not (is-empty (with-each (g .r) (g .ss)))
     unfolding row-task
     end1 z = sym (end (row-task g) at m z) ∙ any-ones (g .r) (g .ss)
-
-module _ {ar x y : List ℕ} (g : TwoLists ar x y) (at : ℕ) where
-  unfoldable row-by-list : (r : Row) → Head (list-task g) at r → RowByList ar (from x (at + 1)) y
-  unfolding list-task
-  row-by-list r h = record { K = g .K; kind = g .kind; r = r; ss = g .ss; rest-x = h .rest; rest-y = g .rest-y; code-x = h .code-is; code-y = g .code-y; typed-r = h .typed; typed-s = g .typed-s }
-
-  module _ (m : Now (list-task g) at) where
-    pub given2 : 0 < getD x at 0 → RowByList ar (from x (at + 1)) y
-    given2 h = let q = head (list-task g) at m h in row-by-list (q .0) (q .1)
-
-    pub found2 : 0 < getD x at 0 → ((q : RowByList ar (from x (at + 1)) y) → true ≡ not (is-empty (with-each (q .r) (q .ss)))) → true ≡ not (is-empty (somes (each combine (g .rs) (g .ss))))
-    unfolding list-task row-by-list
-    found2 h f = sym (found (list-task g) at m h (λ s q. f (row-by-list s q))) ∙ any-each (g .rs) (g .ss)
-
-    pub past2 : 0 < getD x at 0 → ((q : RowByList ar (from x (at + 1)) y) → false ≡ not (is-empty (with-each (q .r) (q .ss)))) → Now (list-task g) (at + 1 + getD x at 0) × (at + 1 + getD x at 0 ≤ length x)
-    unfolding list-task row-by-list
-    past2 h f = past (list-task g) at m h (λ s q. f (row-by-list s q))
-
-    pub end2 : getD x at 0 ≤ 0 → false ≡ not (is-empty (somes (each combine (g .rs) (g .ss))))
-    unfolding list-task
-    end2 z = sym (end (list-task g) at m z) ∙ any-each (g .rs) (g .ss)

@@ -1,5 +1,4 @@
-// Whether two lists of rows share a booking; the least value under an allowed constructor.
+// Whether two rows share a booking; the least value under an allowed constructor.
 pub mod least;
-pub mod lists;
 pub mod pair;
 pub mod promises;

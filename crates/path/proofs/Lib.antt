@@ -1,4 +1,3 @@
-pub mod AliveLaws
 pub mod HeadSets
 pub mod IndexLaws
 pub mod StandingLaws

@@ -1,4 +1,3 @@
-pub mod Alive
 pub mod Rows
 pub mod Standing
 pub mod State

@@ -11,7 +11,7 @@ use Rattle.signature.specs.Signature.{Signature}
 use Rattle.pattern.specs.Limits.{pattern-limit}
 use Rattle.cell.specs.Cell.{cell-width}
 use Rattle.cell.specs.Cursor.{opens-of}
-use Rattle.tree.specs.Limits.{row-limit}
+use Rattle.rowset.specs.Limits.{row-limit}
 use Rattle.tree.specs.Tree.{Line, inserts}
 use Rattle.path.specs.Standing.{At, tag-of, vars-of, allowed-of}
 use Rattle.path.specs.Variables.{variables}

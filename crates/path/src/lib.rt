@@ -1,3 +1,2 @@
-// The rows of rules on a path of a tree: which are alive, and where their words stand.
-pub mod alive;
+// The rows of rules on a path of a tree: where their words stand.
 pub mod rows;

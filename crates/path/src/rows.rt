@@ -3,7 +3,7 @@ use cell::cell::CELL;
 use cell::cell::Cell;
 use cell::cell::cell_at;
 use pattern::limits::PATTERN_WORDS;
-use tree::words::ROWS;
+use rowset::set::ROWS;
 ghost use mathlib.Core.Path.{_≡_};
 ghost use Prim.Native.Nat.{_+_, _*_, _≤_};
 ghost use lib.ListN.{length};

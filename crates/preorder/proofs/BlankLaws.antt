@@ -14,13 +14,13 @@ use Rattle.signature.proofs.Tests.{eqb-no, true≢false}
 use Rattle.tree.proofs.RunFacts.{some-word}
 use Rattle.tree.specs.Tree.{Tree, skip}
 use Rattle.tree.specs.Words.{words, layout}
-use Rattle.path.specs.Alive.{member}
+use Rattle.rowset.specs.Member.{member}
 use Rattle.path.specs.State.{Raised, real-of, own-of, default-in}
 use Rattle.column.specs.Column.{Column}
 use Rattle.visits.specs.Blank.{Blank}
 use Rattle.path.specs.Wrote.{Wrote}
 use Rattle.preorder.specs.Node.{Given, tree-of}
-use Rattle.path.proofs.AliveLaws.{member-is}
+use Rattle.rowset.proofs.MemberLaws.{member-is}
 use Rattle.preorder.proofs.CallLaws.{cols}
 use Rattle.preorder.proofs.NodeLaws.{skip-given, tree-skip}
 

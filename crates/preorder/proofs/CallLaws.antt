@@ -12,7 +12,7 @@ use Rattle.signature.specs.Limits.{kind-limit}
 use Rattle.signature.specs.Lists.{All, also}
 use Rattle.signature.proofs.ListFacts.{same-lists}
 use Rattle.tree.specs.Tree.{Tree, default, hit, skip}
-use Rattle.path.specs.Alive.{member, FirstAlive}
+use Rattle.rowset.specs.Member.{member, FirstIn}
 use Rattle.path.specs.State.{Raised, Lowered, Kept, real-of, cell-of, own-of, rule-of, plan-of, default-in, bound, one-if}
 use Rattle.column.specs.Column.{Column, Looking}
 use Rattle.leaf.specs.Leaf.{Leaving}
@@ -90,7 +90,7 @@ module _ {t a rows : List ℕ} {n : ℕ} {s cur vis : List ℕ} {ncols vn base :
   pub skip-child : (g : Given t a rows n s cur vis ncols vn base (length o)) → res ≡ kind-limit → (len2 : ℕ) → len2 < length o → Given t a rows n s cur2 vis2 (ncols - 1) (vn + 1) (base + 1) len2
   skip-child g z len2 l = let k = cols g pos in skip-given g re cur2 vis2 (k .k) res (k .rest) (k .is) (k .there) h (column-of g) z w lc lv len2 l
 
-  pub skip-result : (g : Given t a rows n s cur vis ncols vn base (length o)) (fuel : ℕ) → res ≡ kind-limit → r < n → FirstAlive s n r → 0 < length o → length o < fuel
+  pub skip-result : (g : Given t a rows n s cur vis ncols vn base (length o)) (fuel : ℕ) → res ≡ kind-limit → r < n → FirstIn s n r → 0 < length o → length o < fuel
       → ((g2 : Given t a rows n s cur2 vis2 (ncols - 1) (vn + 1) (base + 1) (length (take (length (set o 0 3) - 1) (drop 1 (set o 0 3))))) (f2 : ℕ) → length (take (length (set o 0 3) - 1) (drop 1 (set o 0 3))) < f2
       → Wrote (tree-of g2 (default-in rows) f2) (base + 1) u (take (length (set o 0 3) - 1) (drop 1 (set o 0 3))) ys)
       → Wrote (tree-of g (default-in rows) fuel) base (u + 1) o (take 1 (set o 0 3) ++ (ys ++ drop (length (set o 0 3) - 1) (drop 1 (set o 0 3))))
@@ -118,7 +118,7 @@ module _ {t a rows : List ℕ} {n : ℕ} {s cur vis : List ℕ} {ncols vn base :
   pub branch-child : (g : Given t a rows n s cur vis ncols vn base (length o)) → ¬ (res ≡ kind-limit) → Branching t a rows n s re cur2 vis2 ncols vn base (length o) res
   branch-child g z = let k = cols g pos in let e : res ≡ k .k = column-of g .kind z in branch-given g re cur2 vis2 res (k .rest) (k .is ∙ ap (λ (y : ℕ). y ∷ k .rest) (sym e)) h w lc lv
 
-  pub branch-result : (g : Given t a rows n s cur vis ncols vn base (length o)) (fuel : ℕ) → ¬ (res ≡ kind-limit) → r < n → FirstAlive s n r → length o < fuel
+  pub branch-result : (g : Given t a rows n s cur vis ncols vn base (length o)) (fuel : ℕ) → ¬ (res ≡ kind-limit) → r < n → FirstIn s n r → length o < fuel
       → ((b : Branching t a rows n s re cur2 vis2 ncols vn base (length o) res) (f2 : ℕ) → length o ≤ f2 → Wrote (branch-of b (default-in rows) f2) base u o ys)
       → Wrote (tree-of g (default-in rows) fuel) base u o ys
   branch-result g zero z i x f call = absurd (omega arith)
@@ -134,10 +134,10 @@ pub at-most : (T : Tree) (base u : ℕ) (o o2 : List ℕ) → Wrote T base u o o
 at-most T base u o o2 w = omega (arith, w .much)
 
 module _ {t a rows : List ℕ} {n : ℕ} {s cur vis : List ℕ} {ncols vn base : ℕ} {o : List ℕ} (g : Given t a rows n s cur vis ncols vn base (length o)) where
-  pub none-result : (fuel r u : ℕ) (o2 : List ℕ) → length o < fuel → r ≡ n → FirstAlive s n r → Wrote (default (default-in rows)) 0 u o o2 → Wrote (tree-of g (default-in rows) fuel) base u o o2
-  none-result fuel r u o2 f e x w = rw (tree-none g (default-in rows) fuel (omega arith) (subst (λ (y : ℕ). FirstAlive s n y) e x)) (record { much = w .much; wrote = w .wrote })
+  pub none-result : (fuel r u : ℕ) (o2 : List ℕ) → length o < fuel → r ≡ n → FirstIn s n r → Wrote (default (default-in rows)) 0 u o o2 → Wrote (tree-of g (default-in rows) fuel) base u o o2
+  none-result fuel r u o2 f e x w = rw (tree-none g (default-in rows) fuel (omega arith) (subst (λ (y : ℕ). FirstIn s n y) e x)) (record { much = w .much; wrote = w .wrote })
 
-  pub leaf-result : (fuel r u : ℕ) (o2 : List ℕ) → length o < fuel → r < n → FirstAlive s n r → ncols ≡ 0
+  pub leaf-result : (fuel r u : ℕ) (o2 : List ℕ) → length o < fuel → r < n → FirstIn s n r → ncols ≡ 0
       → Wrote (hit (rule-of rows r) (plan-of rows r) (bound a rows vis r (getD cur r 0))) 0 u o o2 → Wrote (tree-of g (default-in rows) fuel) base u o o2
   leaf-result fuel r u o2 f i x c w = rw (tree-hit g (default-in rows) fuel r (omega arith) i x c) (record { much = w .much; wrote = w .wrote })
 

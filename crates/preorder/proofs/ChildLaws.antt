@@ -16,7 +16,7 @@ use Rattle.signature.proofs.ListFacts.{all-append, all-first}
 use Rattle.pattern.specs.Limits.{pattern-limit}
 use Rattle.tree.specs.Tree.{Line, taken, after, compile}
 use Rattle.signature.proofs.Tests.{le-of}
-use Rattle.path.specs.Alive.{member}
+use Rattle.rowset.specs.Member.{member}
 use Rattle.path.specs.Standing.{allowed-of}
 use Rattle.path.specs.State.{State, real-of, kept-of, cell-of, one-if, Kept}
 use Rattle.column.specs.Column.{Keeping, has-child}

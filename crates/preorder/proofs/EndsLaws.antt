@@ -18,7 +18,7 @@ use Rattle.signature.proofs.Tests.{eqb-eq, eqb-ne, eqb-no, le-of, true≢false}
 use Rattle.sets.specs.Set.{bit, heads-width}
 use Rattle.tree.specs.Tree.{Line, holds, just-one, is-end, branches}
 use Rattle.tree.proofs.EndFacts.{number-heads, split-branches, test-branches}
-use Rattle.path.specs.Alive.{member}
+use Rattle.rowset.specs.Member.{member}
 use Rattle.path.specs.Standing.{allowed-of}
 use Rattle.path.specs.State.{options, State, real-of, cell-of, own-of, one-if}
 use Rattle.path.proofs.StateLaws.{row-holds}

@@ -13,7 +13,7 @@ use Rattle.sets.specs.Set.{members}
 use Rattle.tree.proofs.RunFacts.{some-word}
 use Rattle.tree.specs.Tree.{Tree, branch, children}
 use Rattle.tree.specs.Words.{words, words-all}
-use Rattle.path.specs.Alive.{member}
+use Rattle.rowset.specs.Member.{member}
 use Rattle.path.specs.State.{Kept, kept-of, default-in}
 use Rattle.path.specs.Wrote.{Wrote}
 use Rattle.preorder.specs.Front.{heads-in, front-of, front-length}

@@ -18,7 +18,7 @@ use Rattle.pattern.specs.Limits.{pattern-limit}
 use Rattle.rowlist.proofs.Kinded.{sized-kind}
 use Rattle.tree.proofs.RunFacts.{some-word}
 use Rattle.tree.specs.Tree.{Tree, Line, default, hit, skip, refined, taken, passed, after, compile, branches, branch, children}
-use Rattle.path.specs.Alive.{member, FirstAlive}
+use Rattle.rowset.specs.Member.{member, FirstIn}
 use Rattle.path.specs.Standing.{At, refined-cell, tag-of, allowed-of}
 use Rattle.path.specs.State.{options, State, RowIs, LineAt, Raised, real-of, cell-of, own-of, stop-of, rule-of, plan-of, bound, one-if}
 use Rattle.column.specs.Column.{Column, tag-at}
@@ -64,14 +64,14 @@ module _ (sig : Signature) (t a rows : List ℕ) (n : ℕ) where
 
 module _ {t a rows : List ℕ} {n : ℕ} {s cur vis : List ℕ} {ncols vn base len : ℕ} (g : Given t a rows n s cur vis ncols vn base len) where
   -- no line
-  pub tree-none : (dft fuel : ℕ) → 0 < fuel → FirstAlive s n n → tree-of g dft fuel ≡ default dft
+  pub tree-none : (dft fuel : ℕ) → 0 < fuel → FirstIn s n n → tree-of g dft fuel ≡ default dft
   tree-none dft zero h x = absurd (omega arith)
   tree-none dft (suc fuel) h x =
       let e : lines g ≡ [] = somes-none (g .f) 0 n (λ r i l. row-dead (g .known .sig) t a rows n _ (g .f r) vis r (getD cur r 0) (g .ks) (g .state r (omega arith)) (x .before r (omega arith))) in
       rw e
 
   -- the first line
-  pub first-line : (r : ℕ) → r < n → FirstAlive s n r → (l : Line) × FirstIs l (lines g) × LineAt (g .known .sig) t a rows n vis r (getD cur r 0) (g .ks) l × (g .f r ≡ some l)
+  pub first-line : (r : ℕ) → r < n → FirstIn s n r → (l : Line) × FirstIs l (lines g) × LineAt (g .known .sig) t a rows n vis r (getD cur r 0) (g .ks) l × (g .f r ≡ some l)
   first-line r h x =
       let v = row-alive (g .known .sig) t a rows n (member s r) (g .f r) vis r (getD cur r 0) (g .ks) (g .state r h) (x .there h) in
       (v .line, somes-first (g .f) 0 n r (v .line) (omega arith) (omega arith) (v .is) (λ q i l. row-dead (g .known .sig) t a rows n _ (g .f q) vis q (getD cur q 0) (g .ks) (g .state q (omega arith)) (x .before q l)), v .at, v .is)
@@ -91,7 +91,7 @@ module _ {t a rows : List ℕ} {n : ℕ} {s cur vis : List ℕ} {ncols vn base l
           none≢some (sym e ∙ v .is)
 
   -- no column
-  pub tree-hit : (dft fuel r : ℕ) → 0 < fuel → r < n → FirstAlive s n r → ncols ≡ 0 → tree-of g dft fuel ≡ hit (rule-of rows r) (plan-of rows r) (bound a rows vis r (getD cur r 0))
+  pub tree-hit : (dft fuel r : ℕ) → 0 < fuel → r < n → FirstIn s n r → ncols ≡ 0 → tree-of g dft fuel ≡ hit (rule-of rows r) (plan-of rows r) (bound a rows vis r (getD cur r 0))
   tree-hit dft zero r z h x c = absurd (omega arith)
   tree-hit dft (suc fuel) r z h x c =
       let w = first-line r h x in
@@ -188,7 +188,7 @@ module _ {t a rows : List ℕ} {n : ℕ} {s cur vis : List ℕ} {ncols vn base l
 
   pub tree-skip : (re cur2 vis2 : List ℕ) (k res : ℕ) (ks : List ℕ) (e : g .ks ≡ k ∷ ks) (u : k < g .known .decoded .n) (h : (r : ℕ) → r < n → member re r ≡ real-of rows (member s) cur ncols r)
       (c : Column (g .known .sig) a rows n re cur k res) (z : res ≡ kind-limit) (w : Raised n (member re) vn cur vis cur2 vis2) (lc : length cur2 ≡ length cur) (lv : length vis2 ≡ length vis) (len2 : ℕ) (l : len2 < len)
-      (dft fuel r : ℕ) → r < n → FirstAlive s n r → tree-of g dft (suc fuel) ≡ skip (tree-of (skip-given re cur2 vis2 k res ks e u h c z w lc lv len2 l) dft fuel)
+      (dft fuel r : ℕ) → r < n → FirstIn s n r → tree-of g dft (suc fuel) ≡ skip (tree-of (skip-given re cur2 vis2 k res ks e u h c z w lc lv len2 l) dft fuel)
   unfolding skip-given
   tree-skip re cur2 vis2 k res ks e u h c z w lc lv len2 l dft fuel r i x =
       let v = first-line r i x in
@@ -204,7 +204,7 @@ module _ {t a rows : List ℕ} {n : ℕ} {s cur vis : List ℕ} {ncols vn base l
 
   pub tree-branch : (re cur2 vis2 : List ℕ) (k res : ℕ) (ks : List ℕ) (e : g .ks ≡ k ∷ ks) (u : k < g .known .decoded .n) (h : (r : ℕ) → r < n → member re r ≡ real-of rows (member s) cur ncols r)
       (c : Column (g .known .sig) a rows n re cur k res) (z : ¬ (res ≡ kind-limit)) (w : Raised n (member re) vn cur vis cur2 vis2) (lc : length cur2 ≡ length cur) (lv : length vis2 ≡ length vis)
-      (dft fuel r : ℕ) → r < n → FirstAlive s n r → tree-of g dft (suc fuel) ≡ branch-of (branch-given re cur2 vis2 k ks e h w lc lv) dft fuel
+      (dft fuel r : ℕ) → r < n → FirstIn s n r → tree-of g dft (suc fuel) ≡ branch-of (branch-given re cur2 vis2 k ks e h w lc lv) dft fuel
   unfolding branch-given
   tree-branch re cur2 vis2 k res ks e u h c z w lc lv dft fuel r i x =
       let v = first-line r i x in

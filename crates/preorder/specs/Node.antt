@@ -9,8 +9,8 @@ use Rattle.signature.specs.Lists.{All, somes}
 use Rattle.signature.specs.Signature.{arguments}
 use Rattle.pattern.specs.Limits.{pattern-limit}
 use Rattle.tree.specs.Tree.{Tree, Line, taken, after, compile, branches, branch, children}
-use Rattle.tree.specs.Limits.{row-limit}
-use Rattle.path.specs.Alive.{member}
+use Rattle.rowset.specs.Limits.{row-limit}
+use Rattle.rowset.specs.Member.{member}
 use Rattle.path.specs.State.{options, State, Raised, Kept, real-of, Indexed, default-in}
 use Rattle.signature.specs.Limits.{word-limit}
 use Rattle.path.specs.Wrote.{Wrote}

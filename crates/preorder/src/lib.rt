@@ -9,11 +9,11 @@ use front::front as put_front;
 use front::front_words;
 use leaf::default_leaf;
 use leaf::leaf;
-use path::alive::SET_WORDS;
-use path::alive::first_alive;
 use path::rows::CURSORS;
 use path::rows::INDEX_ROOM;
 use path::rows::VISITS;
+use rowset::set::SET_WORDS;
+use rowset::set::first_in;
 use sets::heads::lowest;
 use sets::heads::size;
 use sets::heads::without;
@@ -102,7 +102,7 @@ fn visit(
     if out.len() == 0 {
         return 1;
     }
-    let r = first_alive(s, n);
+    let r = first_in(s, n);
     if r == n {
         return default_leaf(rows, out);
     }

@@ -5,7 +5,7 @@ use mathlib.Core.Option.{Option, none, some}
 use mathlib.Core.Bool.{Bool, _&&_, not, _||_}
 use Prim.Native.Nat.{ℕ}
 use lib.Dec.{eqb}
-use Rattle.signature.specs.Lists.{any, is-some, require, memb, is-empty, keep}
+use Rattle.signature.specs.Lists.{any, is-some, require, memb, is-empty, keep, somes}
 use Rattle.signature.specs.Signature.{Signature}
 use Rattle.signature.proofs.Members.{any-append, any-map, some-both, some-when, meet-sym, somes-some, any-swap, any-ext}
 use Rattle.signature.proofs.Tests.{eqb-sym}
@@ -31,13 +31,17 @@ mutual
   combines-sym (rcons r rs) rnil = refl
   combines-sym (rcons r rs) (rcons s ss) = some-both (combine r s) (combines rs ss) rcons ∙ ap₂ _&&_ (combine-sym r s) (combines-sym rs ss) ∙ sym (some-both (combine s r) (combines ss rs) rcons)
 
+-- some row of the one list with some row of the other, either way
+pub lists-flip : (rs ss : List Row) → not (is-empty (somes (each combine rs ss))) ≡ any (λ s. any (λ r. is-some (combine s r)) rs) ss
+lists-flip rs ss =
+    somes-some (each combine rs ss) ∙ any-each is-some combine rs ss ∙ any-swap (λ r s. is-some (combine r s)) rs ss
+    ∙ any-ext (λ s. any (λ r. is-some (combine r s)) rs) (λ s. any (λ r. is-some (combine s r)) rs) (λ s. any-ext (λ r. is-some (combine r s)) (λ r. is-some (combine s r)) (λ r. combine-sym r s) rs) ss
+
 pub overlap-sym : (sig : Signature) (k : ℕ) (p q : Pattern) → overlap sig k p q ≡ overlap sig k q p
 overlap-sym sig k p q =
     let rs = rows-plus sig k p in
     let ss = rows-plus sig k q in
-    somes-some (each combine rs ss) ∙ any-each is-some combine rs ss ∙ any-swap (λ r s. is-some (combine r s)) rs ss
-    ∙ any-ext (λ s. any (λ r. is-some (combine r s)) rs) (λ s. any (λ r. is-some (combine s r)) rs) (λ s. any-ext (λ r. is-some (combine r s)) (λ r. is-some (combine s r)) (λ r. combine-sym r s) rs) ss
-    ∙ sym (any-each is-some combine ss rs) ∙ sym (somes-some (each combine ss rs))
+    lists-flip rs ss ∙ sym (any-each is-some combine ss rs) ∙ sym (somes-some (each combine ss rs))
 
 pub shares-sym : (sig : Signature) (us ws : List ℕ) → shares sig us ws ≡ shares sig ws us
 shares-sym sig us ws = go (read-pattern sig us) (read-pattern sig ws)

@@ -65,7 +65,7 @@ pub(crate) fn append_each(x: &[u64], y: &[u64], out: &mut [u64]) -> usize
 }
 
 // How many rows a list has.
-pub(crate) fn count(y: &[u64]) -> usize
+pub fn count(y: &[u64]) -> usize
     requires { ⌜ ListFirst (now y) ⌝ }
     ensures { λ r. ⌜ ((g : ListFirst (now (y .entry))) → r ≡ length (g .rows)) ⌝ }
 {

@@ -14,8 +14,8 @@ use Rattle.row.specs.RowFits.{row-fits}
 use Rattle.cell.specs.Coded.{kinds-of, row-code}
 use Rattle.cell.specs.RowList.{from}
 use Rattle.cell.proofs.Walk.{from-is}
-use Rattle.tree.specs.Limits.{row-limit}
-use Rattle.path.specs.Alive.{member}
+use Rattle.rowset.specs.Limits.{row-limit}
+use Rattle.rowset.specs.Member.{member}
 use Rattle.path.specs.State.{row-stride, start-of}
 use Rattle.overlap.specs.Pair.{TwoRows}
 use Rattle.witness.specs.Pair.{Proper}

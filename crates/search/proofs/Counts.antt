@@ -6,7 +6,7 @@ use Prim.Native.Nat.{ℕ, zero, suc, _+_, _≤_, _<_}
 use native.Mathlib.Omega.{arith}
 use lib.Dec.{eqb}
 use Rattle.signature.proofs.Tests.{true≢false, eqb-eq, eqb-ne}
-use Rattle.path.specs.Alive.{member}
+use Rattle.rowset.specs.Member.{member}
 use Rattle.search.specs.Look.{Within, count}
 
 one-most : (b b′ : Bool) → (b′ ≡ true → b ≡ true) → cond b′ 1 0 ≤ cond b 1 0

@@ -14,7 +14,7 @@ use Rattle.signature.proofs.Tests.{true≢false, eqb-eq, eqb-ne}
 use Rattle.row.specs.Row.{Row}
 use Rattle.row.specs.RowFits.{Good, row-fits}
 use Rattle.sets.specs.Set.{bit}
-use Rattle.tree.specs.Limits.{row-limit}
+use Rattle.rowset.specs.Limits.{row-limit}
 use Rattle.path.specs.Rows.{Before}
 use Rattle.views.specs.View.{kept-of, with-cell, agrees, edge, Closed, view}
 use Rattle.views.proofs.Laws.{laws}

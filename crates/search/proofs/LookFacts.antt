@@ -18,7 +18,7 @@ use Rattle.row.specs.RowFits.{row-fits}
 use Rattle.row.proofs.Kept.{kept-fits}
 use Rattle.row.proofs.RowMeet.{combine-fits}
 use Rattle.cell.specs.RowList.{from}
-use Rattle.path.specs.Alive.{member, set-words}
+use Rattle.rowset.specs.Member.{member, set-words}
 use Rattle.path.specs.State.{start-of}
 use Rattle.values.specs.Shortest.{GivenRow, Taken}
 use Rattle.search.specs.Search.{Missed}

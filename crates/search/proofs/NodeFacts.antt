@@ -1,17 +1,18 @@
 -- What a node of the search has found, by what was seen there and by its branches.
+use borrow.Author.Tests.{lt-ltb}
 use mathlib.Core.Path.{_≡_, refl, _∙_, sym}
 use mathlib.Core.List.{List}
 use mathlib.Core.Bool.{Bool, true, false, cond}
 use Prim.Native.Nat.{ℕ, _≤_, _<_}
 use native.Mathlib.Omega.{arith}
-use lib.Dec.{eqb}
+use lib.Dec.{eqb, ltb}
 use lib.ListN.{length}
 use Rattle.signature.specs.Signature.{Signature}
 use Rattle.signature.specs.Value.{Value}
 use Rattle.signature.proofs.Tests.{true≢false, eqb-eq, eqb-self}
 use Rattle.row.specs.Row.{Row}
-use Rattle.tree.specs.Limits.{row-limit}
-use Rattle.path.specs.Alive.{member}
+use Rattle.rowset.specs.Limits.{row-limit}
+use Rattle.rowset.specs.Member.{member}
 use Rattle.search.specs.Search.{GivenTable, Missed, Searched}
 use Rattle.search.specs.Branch.{path-length, on-path}
 use Rattle.search.specs.Look.{Within, GivenNode, GivenLeave, TakenBy, FreeValue, NodeFound}
@@ -86,14 +87,14 @@ pub found-back : {path path′ : List ℕ} {depth depth′ : ℕ} {sig : Signatu
 found-back ep ed F = rw (ep, ed) F
 
 -- at the root every row may take a value
-abbrev pub to-root : {t a rows : List ℕ} {n : ℕ} → GivenTable t a rows n → (s path : List ℕ) (q o w : ℕ) → ((r : ℕ) → r < n → member s r ≡ true) → length path ≡ path-length → 12288 ≤ q → 12480 ≤ o → 4121 ≤ w → GivenNode t a rows n s path 0 q o w
+abbrev pub to-root : {t a rows : List ℕ} {n : ℕ} → GivenTable t a rows n → (s path : List ℕ) (q o w : ℕ) → ((r : ℕ) → r < row-limit → member s r ≡ ltb r n) → length path ≡ path-length → 12288 ≤ q → 12480 ≤ o → 4121 ≤ w → GivenNode t a rows n s path 0 q o w
 to-root {n = n} g s path q o w h len lq lo lw = record {
   branch = record {
     table = g;
     path-is = record { long = len; most = omega arith; there = λ i l. absurd (omega (arith, l)) };
     rooms = record { for-cube = lq; for-both = lo };
   };
-  complete = λ r v l k p f. h r l;
+  complete = λ r v l k p f. h r (omega (arith, l, g .few)) ∙ lt-ltb r n l;
   fewer = omega (arith, count-most s n);
   room = lw;
 }

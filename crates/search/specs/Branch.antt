@@ -13,7 +13,7 @@ use Rattle.row.specs.Row.{Row, free, open-row}
 use Rattle.row.specs.RowFits.{Good, row-fits}
 use Rattle.cell.specs.Cell.{cell-width}
 use Rattle.cell.specs.Coded.{kinds-of, row-code}
-use Rattle.tree.specs.Limits.{row-limit}
+use Rattle.rowset.specs.Limits.{row-limit}
 use Rattle.views.specs.View.{kept-of, height, view}
 use Rattle.search.specs.Search.{GivenTable}
 

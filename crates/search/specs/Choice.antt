@@ -9,7 +9,7 @@ use Rattle.signature.specs.Value.{Value, code}
 use Rattle.row.specs.Row.{Row, combine}
 use Rattle.row.specs.RowFits.{Good, row-fits}
 use Rattle.cell.specs.Coded.{kinds-of, row-code}
-use Rattle.path.specs.Alive.{member}
+use Rattle.rowset.specs.Member.{member}
 use Rattle.search.specs.Search.{GivenTable}
 use Rattle.search.specs.Branch.{row-at}
 

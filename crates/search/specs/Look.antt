@@ -11,7 +11,7 @@ use Rattle.signature.specs.Value.{Value, code, size}
 use Rattle.row.specs.Limits.{place-words}
 use Rattle.row.specs.Row.{Row}
 use Rattle.row.specs.RowFits.{row-fits}
-use Rattle.path.specs.Alive.{member, set-words}
+use Rattle.rowset.specs.Member.{member, set-words}
 use Rattle.path.specs.Rows.{Before}
 use Rattle.views.specs.View.{kept-of, agrees, Closed}
 use Rattle.search.specs.Search.{Missed}

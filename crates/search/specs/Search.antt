@@ -15,7 +15,7 @@ use Rattle.row.specs.Row.{Row}
 use Rattle.row.specs.RowFits.{fits-some}
 use Rattle.cell.specs.Coded.{kinds-of, row-code}
 use Rattle.witness.specs.Pair.{Proper}
-use Rattle.tree.specs.Limits.{row-limit}
+use Rattle.rowset.specs.Limits.{row-limit}
 use Rattle.path.specs.State.{row-stride, start-of}
 
 -- row r of the table of rows is e: its words begin at a word of a

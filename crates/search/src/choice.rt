@@ -1,16 +1,16 @@
 // The rows that meet a branch, and one of them to leave.
 use overlap::pair::rows_meet;
-use path::alive::SET_WORDS;
-use path::alive::has;
-use path::alive::put;
 use path::rows::start_of;
+use rowset::set::SET_WORDS;
+use rowset::set::has;
+use rowset::set::put;
 ghost use mathlib.Core.Path.{_≡_};
 ghost use mathlib.Core.Bool.{_&&_};
 ghost use Prim.Native.Nat.{_<_};
 ghost use lib.ListN.{length};
 ghost use Rattle.signature.specs.Lists.{is-some};
 ghost use Rattle.row.specs.Row.{combine};
-ghost use Rattle.path.specs.Alive.{member, set-words};
+ghost use Rattle.rowset.specs.Member.{member, set-words};
 ghost use Rattle.search.specs.Branch.{row-at};
 ghost use Rattle.search.specs.Choice.{GivenMeeting, Meeting};
 

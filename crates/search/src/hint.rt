@@ -2,9 +2,9 @@
 use crate::choice::meets;
 use crate::cube::VIEW_ROOM;
 use cell::cell::Out;
-use path::alive::SET_WORDS;
 use path::rows::start_of;
 use pattern::limits::PATTERN_WORDS;
+use rowset::set::SET_WORDS;
 use sets::set::has;
 use sets::set::lowest;
 use sets::set::size;

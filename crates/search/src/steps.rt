@@ -1,9 +1,9 @@
 // The steps of a path.
-use tree::words::ROWS;
+use rowset::set::ROWS;
 ghost use mathlib.Core.Path.{_≡_};
 ghost use Prim.Native.Nat.{_+_, _*_, _<_};
 ghost use lib.ListN.{length, set};
-ghost use Rattle.tree.specs.Limits.{row-limit};
+ghost use Rattle.rowset.specs.Limits.{row-limit};
 ghost use Rattle.search.specs.Branch.{step-width, path-length};
 
 // A row, its open cells, and the cell at which it is left.

@@ -1,13 +1,13 @@
 // A row that takes a value.
-use path::alive::SET_WORDS;
-use path::alive::has;
 use path::rows::start_of;
+use rowset::set::SET_WORDS;
+use rowset::set::has;
 use values::takes::takes;
 ghost use mathlib.Core.Path.{_≡_};
 ghost use mathlib.Core.Bool.{_&&_};
 ghost use Prim.Native.Nat.{_<_};
 ghost use Rattle.row.specs.RowFits.{row-fits};
-ghost use Rattle.path.specs.Alive.{member};
+ghost use Rattle.rowset.specs.Member.{member};
 ghost use Rattle.search.specs.Branch.{row-at};
 ghost use Rattle.search.specs.Choice.{GivenTaker, Taker};
 

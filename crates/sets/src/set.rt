@@ -52,6 +52,13 @@ pub fn join(a: u64, b: u64) -> u64
     a | b
 }
 
+// The members of a that are not in b.
+pub fn minus(a: u64, b: u64) -> u64
+    ensures { λ r. ⌜ ((j : ℕ) → bit r j ≡ cond (eqb (bit b j) 1) 0 (bit a j)) ⌝ }
+{
+    a & !b
+}
+
 pub fn size(s: u64) -> u32
     ensures { λ r. ⌜ (r ≡ length (members s)) × (r ≡ 0 → (j : ℕ) → bit s j ≡ 0) ⌝ }
 {

@@ -1,1 +1,3 @@
+pub mod Lows
+pub mod RuleRows
 pub mod Sharers

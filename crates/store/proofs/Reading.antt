@@ -6,14 +6,15 @@ use mathlib.Core.Bool.{Bool, true, false, _&&_}
 use Prim.Native.Nat.{ℕ, zero, suc, _+_, _-_, _≤_, _<_}
 use native.Mathlib.Numerals.{add-one}
 use native.Mathlib.Omega.{arith}
+use lib.Bits.{bitOr, or-zero-l, or-zero-r, or-add-and, and-le-r}
 use lib.Dec.{eqb, ltb, leb}
 use lib.ListN.{length, getD, take, drop, length-drop, drop-of-length-le}
 use lib.Seq.{length-take-le, take-nil, drop-cons, getD-take, drop-drop}
 use Rattle.signature.specs.Lists.{all, require, is-some, _>>=_}
 use Rattle.signature.proofs.ListFacts.{split-none, split-some}
 use Rattle.signature.proofs.Members.{some-when}
-use Rattle.signature.proofs.Booleans.{and-false}
-use Rattle.signature.proofs.Tests.{eqb-no, ltb-yes, ltb-no, leb-yes, leb-no}
+use Rattle.signature.proofs.Booleans.{and-assoc, and-false, and-true}
+use Rattle.signature.proofs.Tests.{eqb-eq, eqb-ne, eqb-no, ltb-yes, ltb-no, leb-yes, leb-no}
 use Rattle.tree.specs.Limits.{last-number}
 use Rattle.table.specs.Limits.{limits, table-length, rules-length, rules-at}
 use Rattle.table.specs.Rule.{Rule}
@@ -50,18 +51,27 @@ module _ (n m a b l : ℕ) (ws : List ℕ) where
   one-more : m < a → a ≤ last-number → l ≤ length ws → is-some (read-rules (suc n) m (a ∷ (b ∷ (l ∷ ws)))) ≡ is-some (read-rules n a (drop l ws))
   one-more h k f = rw (ltb-yes m a h, leb-yes a last-number k, split-some l ws f) (is-some-on (read-rules n a (drop l ws)) _)
 
--- zeros, one word after the other
-module _ (ws : List ℕ) (i : ℕ) where
-  pub zero-not : i < length ws → 0 < getD ws i 0 → all (λ w. eqb w 0) (drop i ws) ≡ false
-  zero-not l h = ap (all (λ w. eqb w 0)) (drop-cons ws i 0 l) ∙ rw (eqb-no (getD ws i 0) 0 (λ e. omega arith))
+-- zeros, by all bits
+or-zero : (a b : ℕ) → eqb (bitOr a b) 0 ≡ (eqb a 0 && eqb b 0)
+or-zero a b = go (eqb a 0) (eqb b 0) refl refl
+  where
+    go : (x y : Bool) → eqb a 0 ≡ x → eqb b 0 ≡ y → eqb (bitOr a b) 0 ≡ (eqb a 0 && eqb b 0)
+    go true y p q = ap (λ z. eqb (bitOr z b) 0) (eqb-eq a 0 p) ∙ ap (λ z. eqb z 0) (or-zero-l b) ∙ sym (ap (λ z. z && eqb b 0) p)
+    go false true p q = ap (λ z. eqb (bitOr a z) 0) (eqb-eq b 0 q) ∙ ap (λ z. eqb z 0) (or-zero-r a) ∙ sym (ap (λ z. eqb a 0 && z) q ∙ and-true (eqb a 0))
+    go false false p q = eqb-no (bitOr a b) 0 (λ e. eqb-ne a 0 p (omega (arith, or-add-and a b, and-le-r a b))) ∙ sym (ap₂ _&&_ p q)
 
-  pub zero-on : i < length ws → getD ws i 0 ≤ 0 → all (λ w. eqb w 0) (drop i ws) ≡ all (λ w. eqb w 0) (drop (i + 1) ws)
-  zero-on l h =
-      let z : getD ws i 0 ≡ 0 = omega arith in
-      ap (all (λ w. eqb w 0)) (drop-cons ws i 0 l) ∙ rw (z, add-one i)
+module _ (ws : List ℕ) (bits i : ℕ) where
+  -- the bits of the words before i, and the words from there on
+  abbrev pub Zeros : Type 0
+  Zeros = all (λ w. eqb w 0) ws ≡ (eqb bits 0 && all (λ w. eqb w 0) (drop i ws))
 
-  pub zero-end : length ws ≤ i → all (λ w. eqb w 0) (drop i ws) ≡ true
-  zero-end l = ap (all (λ w. eqb w 0)) (drop-of-length-le ws l)
+  pub zeros-on : i < length ws → Zeros → all (λ w. eqb w 0) ws ≡ (eqb (bitOr bits (getD ws i 0)) 0 && all (λ w. eqb w 0) (drop (i + 1) ws))
+  zeros-on l h =
+      let e : all (λ w. eqb w 0) (drop i ws) ≡ (eqb (getD ws i 0) 0 && all (λ w. eqb w 0) (drop (i + 1) ws)) = ap (all (λ w. eqb w 0)) (drop-cons ws i 0 l) ∙ rw (add-one i) in
+      h ∙ ap (λ z. eqb bits 0 && z) e ∙ and-assoc (eqb bits 0) (eqb (getD ws i 0) 0) (all (λ w. eqb w 0) (drop (i + 1) ws)) ∙ ap (λ z. z && all (λ w. eqb w 0) (drop (i + 1) ws)) (sym (or-zero bits (getD ws i 0)))
+
+  pub zeros-end : length ws ≤ i → Zeros → eqb bits 0 ≡ all (λ w. eqb w 0) ws
+  zeros-end l h = sym (h ∙ ap (λ z. eqb bits 0 && z) (ap (all (λ w. eqb w 0)) (drop-of-length-le ws l)) ∙ and-true (eqb bits 0))
 
 -- the words of a table
 drop-take : (m n : ℕ) (ws : List ℕ) → drop m (take n ws) ≡ take (n - m) (drop m ws)

@@ -58,18 +58,17 @@ fn rule_from(table: &[u16], at: usize, last: u16) -> Head
     Head::At(number, from + len)
 }
 
-// Whether every word is 0.
+// Whether every word is 0. With no way out before the end the words are taken eight at a time.
 pub fn zeros(w: &[u16]) -> bool
     ensures { λ r. ⌜ r ≡ all (λ x. eqb x 0) (now (w .entry)) ⌝ }
 {
+    let mut bits: u16 = 0;
     let mut i = 0;
     while i < w.len() {
-        if w[i] > 0 {
-            return false;
-        }
+        bits = bits | w[i];
         i += 1;
     }
-    true
+    bits == 0
 }
 
 // Whether the table has that layout.

@@ -2,7 +2,7 @@
 use Prim.Native.Nat.{ℕ, _+_, _*_}
 use Rattle.signature.specs.Limits.{booking-limit, argument-limit}
 use Rattle.pattern.specs.Limits.{pattern-limit}
-use Rattle.tree.specs.Limits.{row-limit}
+use Rattle.rowset.specs.Limits.{row-limit}
 
 pub record Limits : Type 0 where
   -- "at most 64 rules"

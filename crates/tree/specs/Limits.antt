@@ -8,7 +8,3 @@ last-number = 999
 -- 14: "The tree exceeds the lent slice or 32,768 words"
 abbrev pub tree-limit : ℕ
 tree-limit = 32768
-
--- how many rows all rules have at most: as many as they weigh, and sound are "rules weighing at most 256 in all"
-abbrev pub row-limit : ℕ
-row-limit = 256

@@ -21,6 +21,3 @@ pub const SPLIT_WORDS: usize = 2;
 pub const LAST_NUMBER: u16 = 999;
 
 pub const TREE_LIMIT: usize = 32768;
-
-// the rows of all rules: no more than the rules may weigh in all
-pub const ROWS: usize = 256;

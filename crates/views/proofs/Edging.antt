@@ -13,12 +13,12 @@ use Rattle.row.specs.RowFits.{Goods, goods-nil, goods-cons, place-count, places
 use Rattle.sets.specs.Set.{bit}
 use Rattle.sets.proofs.SetLaws.{bit-zero}
 use Rattle.cell.specs.declared.cell.Cell.{Cell}
-use Rattle.cell.specs.Coded.{kinds-of, row-code}
+use Rattle.cell.specs.Coded.{row-code}
 use Rattle.cell.specs.Cursor.{cell-at, opens-of}
-use Rattle.cell.specs.RowList.{from}
 use Rattle.witness.proofs.Behind.{_behind_}
+use Rattle.meeting.specs.Part.{GivenPart}
 use Rattle.views.specs.View.{kept-of, edge, edges}
-use Rattle.views.specs.Write.{GivenPart, GivenRow, Frontier}
+use Rattle.views.specs.Write.{GivenRow, Frontier}
 use Rattle.views.proofs.Opened.{open-bit, kept-bit}
 use Rattle.views.proofs.Standing.{below, ended}
 use Rattle.views.proofs.Walking.{Walks, ahead, few-left, start as started}
@@ -55,9 +55,9 @@ Now g opened at left m = (i : ℕ) × (ks : List ℕ) × (todo : Rows) × (found
 pub record Turn {t row : List ℕ} (g : GivenRow t row) (opened at left m : ℕ) : Type 0 where
   pub see : at + 3 ≤ length row
   pub small : at / 3 < 64
-  pub given : GivenPart t (from row at)
-  pub some : (n : ℕ) → ((q : GivenPart t (from row at)) → n ≡ length (row-code (kinds-of (q .known .sig)) (q .r) (q .kind))) → 3 ≤ n
-  pub open-turn : (m′ n : ℕ) → eqb (bit opened (at / 3)) 1 ≡ true → ((j : ℕ) → bit m′ j ≡ cond (eqb j (at / 3)) 1 (bit m j)) → ((q : GivenPart t (from row at)) → n ≡ length (row-code (kinds-of (q .known .sig)) (q .r) (q .kind))) → Now g opened (at + n) (left - 1) m′
+  pub given : GivenPart t row at
+  pub some : (n : ℕ) → ((q : GivenPart t row at) → n ≡ at + length (row-code (q .K) (q .r) (q .kind))) → at + 3 ≤ n
+  pub open-turn : (m′ n : ℕ) → eqb (bit opened (at / 3)) 1 ≡ true → ((j : ℕ) → bit m′ j ≡ cond (eqb j (at / 3)) 1 (bit m j)) → ((q : GivenPart t row at) → n ≡ at + length (row-code (q .K) (q .r) (q .kind))) → Now g opened n (left - 1) m′
   pub kept-turn : (x : Cell) (w : ℕ) → eqb (bit opened (at / 3)) 1 ≡ false → x ≡ cell-at row at → w ≡ opens-of t (x .tag) → Now g opened (at + 3) (left - 1 + w) m
 
 cond-or : (a b : Bool) (n : ℕ) → n ≡ cond b 1 0 → cond a 1 n ≡ cond (a || b) 1 0

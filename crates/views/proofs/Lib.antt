@@ -7,7 +7,6 @@ pub mod Leave
 pub mod Missed
 pub mod Opened
 pub mod Outer
-pub mod Parting
 pub mod Standing
 pub mod Viewing
 pub mod Walking

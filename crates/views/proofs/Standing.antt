@@ -129,7 +129,7 @@ pub record Front {t : List ℕ} (g : Known t) (row rest : List ℕ) (at left : �
   -- the rows below it are next
   pub into : (w : ℕ) → w ≡ opens-of t (tag-of k r) → Stands (g .sig) row rest (at + 3) (left - 1 + w) (below-kinds (g .sig) r ++ ks) (below r behind todo)
   -- or they are passed
-  pub past : (n : ℕ) → n ≡ length (row-code (kinds-of (g .sig)) r k) → Stands (g .sig) row rest (at + n) (left - 1) ks todo
+  pub past : (n : ℕ) → n ≡ at + length (row-code (kinds-of (g .sig)) r k) → Stands (g .sig) row rest n (left - 1) ks todo
 
 pub start : {t row : List ℕ} (g : GivenPart t row) → Stands (g .known .sig) row (g .rest) 0 1 (g .kind ∷ []) (rcons (g .r) rnil)
 start g = record {
@@ -163,7 +163,7 @@ module _ {t : List ℕ} (g : Known t) (row rest : List ℕ) (at left : ℕ) wher
         };
         past = λ n en. record {
           good = hs;
-          code-is = sym (drop-drop n at row) ∙ ap (drop n) e ∙ drop-at (row-code K r k) (tail ++ rest) n (sym en);
+          code-is = ap (λ (z : ℕ). drop z row) en ∙ sym (drop-drop (length (row-code K r k)) at row) ∙ ap (drop (length (row-code K r k))) e ∙ drop-at (row-code K r k) (tail ++ rest) (length (row-code K r k)) refl;
           within = omega (arith, length-drop at row, simp length-append at (ap length e), en, m .within);
           left-is = omega (arith, m .left-is);
         };

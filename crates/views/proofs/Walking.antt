@@ -10,10 +10,10 @@ use Rattle.cell.specs.Cell.{all-words}
 use Rattle.cell.specs.declared.cell.Cell.{Cell}
 use Rattle.cell.specs.Coded.{kinds-of, all-cells, row-code}
 use Rattle.cell.specs.Cursor.{cell-at, opens-of}
-use Rattle.cell.specs.RowList.{from}
-use Rattle.cell.proofs.Walk.{from-is}
 use Rattle.witness.proofs.Behind.{_behind_, places-behind}
-use Rattle.views.specs.Write.{GivenPart, GivenRow}
+use Rattle.witness.proofs.Pairs.{typed-good}
+use Rattle.meeting.specs.Part.{GivenPart}
+use Rattle.views.specs.Write.{GivenRow}
 use Rattle.views.proofs.Standing.{Stands, Front, front, few, start as started, below, below-kinds, places-below, code-length}
 
 pub record Walks {t row : List ℕ} (g : GivenRow t row) (at left i : ℕ) (ks : List ℕ) (todo : Rows) : Type 0 where
@@ -27,10 +27,10 @@ pub record Ahead {t row : List ℕ} (g : GivenRow t row) (at left i k : ℕ) (ks
   pub index : at / 3 ≡ i
   pub small : i < 64
   pub places : i + place-count r + places-count todo ≤ 64
-  pub given : GivenPart t (from row at)
+  pub given : GivenPart t row at
   pub into : (c : Cell) (w : ℕ) → c ≡ cell-at row at → w ≡ opens-of t (c .tag) → Walks g (at + 3) (left - 1 + w) (suc i) (below-kinds (g .part .known .sig) r ++ ks) (below r behind todo)
-  pub some : (n : ℕ) → ((q : GivenPart t (from row at)) → n ≡ length (row-code (kinds-of (q .known .sig)) (q .r) (q .kind))) → 3 ≤ n
-  pub past : (n : ℕ) → ((q : GivenPart t (from row at)) → n ≡ length (row-code (kinds-of (q .known .sig)) (q .r) (q .kind))) → Walks g (at + n) (left - 1) (i + place-count r) ks todo
+  pub some : (n : ℕ) → ((q : GivenPart t row at) → n ≡ at + length (row-code (q .K) (q .r) (q .kind))) → at + 3 ≤ n
+  pub past : (n : ℕ) → ((q : GivenPart t row at) → n ≡ at + length (row-code (q .K) (q .r) (q .kind))) → Walks g n (left - 1) (i + place-count r) ks todo
 
 module _ {t row : List ℕ} (g : GivenRow t row) where
   pub start : Walks g 0 1 0 (g .part .kind ∷ []) (rcons (g .part .r) rnil)
@@ -40,7 +40,7 @@ module _ {t row : List ℕ} (g : GivenRow t row) where
   ahead at left i {k} {ks} {r} {todo} a b m =
       let K = kinds-of (g .part .known .sig) in
       let F = front (g .part .known) row (g .part .rest) at left a b (m .stands) in
-      let q : GivenPart t (from row at) = record { known = g .part .known; kind = k; r = r; rest = all-words (all-cells K todo ks) ++ g .part .rest; good = a; code-is = from-is row at ∙ F .code-is } in
+      let q : GivenPart t row at = record { K = K; kind = k; r = r; there = record { rest = all-words (all-cells K todo ks) ++ g .part .rest; code-is = F .code-is; within = m .stands .within; typed = typed-good (g .part .known) a } } in
       let p = places-below r in
       record {
         front = F;

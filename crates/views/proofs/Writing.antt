@@ -22,13 +22,13 @@ use Rattle.cell.specs.declared.cell.Out.{Out}
 use Rattle.cell.specs.declared.cell.Out.the-variants.{Dropped, Kept}
 use Rattle.cell.specs.Coded.{kinds-of, row-code}
 use Rattle.cell.specs.Cursor.{cell-at, cell-of, opens-of, put-cell}
-use Rattle.cell.specs.RowList.{from}
 use Rattle.cell.proofs.CursorFacts.{cell-words}
 use Rattle.cell.proofs.Turns.{put-more}
 use Rattle.rowlist.proofs.Kinded.{within-kind, few-heads}
 use Rattle.witness.proofs.Behind.{_behind_}
+use Rattle.meeting.specs.Part.{GivenPart}
 use Rattle.views.specs.View.{kept-of, outside, view, views}
-use Rattle.views.specs.Write.{GivenPart, GivenView, GivenCell, Outside, Viewed, cell-kind, view-of}
+use Rattle.views.specs.Write.{GivenView, GivenCell, Outside, Viewed, cell-kind, view-of}
 use Rattle.views.proofs.Opened.{open-bit, kept-bit}
 use Rattle.views.proofs.Outer.{open-view, none-outside, some-outside, outside-cell}
 use Rattle.views.proofs.Standing.{below, below-kinds, tag-of, vars-of, allowed-of, top-code, kind-few}
@@ -58,13 +58,13 @@ pub record Turn {t row o₀ : List ℕ} (g : GivenView t row o₀) (opened left 
   pub see : at + 3 ≤ length row
   pub small : at / 3 < 64
   pub room : n + 3 ≤ length o₀
-  pub given : GivenPart t (from row at)
+  pub given : GivenPart t row at
   pub cell : (c : Cell) → c ≡ cell-at row at → GivenCell t (c .tag)
-  pub some : (m : ℕ) → ((q : GivenPart t (from row at)) → m ≡ length (row-code (kinds-of (q .known .sig)) (q .r) (q .kind))) → 3 ≤ m
+  pub some : (m : ℕ) → ((q : GivenPart t row at) → m ≡ at + length (row-code (q .K) (q .r) (q .kind))) → at + 3 ≤ m
   pub tag-fits : (c r : Cell) (b : Bool) → c ≡ cell-at row at → Outside t c b r → first-word (r .tag) (r .vars) < 2 ^ 64
   pub none-there : (c r : Cell) (b : Bool) → eqb (bit opened (at / 3)) 1 ≡ true → c ≡ cell-at row at → b ≡ eqb (at / 3) left → Outside t c b r → number-of (r .allowed) ≡ 0 → (v : Value) → row-fits (view-of (g .given) opened left) v ≡ false
   pub open-turn : (c r : Cell) (b : Bool) (m : ℕ) → eqb (bit opened (at / 3)) 1 ≡ true → c ≡ cell-at row at → b ≡ eqb (at / 3) left → Outside t c b r → ¬ (number-of (r .allowed) ≡ 0)
-      → ((q : GivenPart t (from row at)) → m ≡ length (row-code (kinds-of (q .known .sig)) (q .r) (q .kind))) → Now g opened left (at + m) (n + 3) (todo - 1) (put-cell o n r)
+      → ((q : GivenPart t row at) → m ≡ at + length (row-code (q .K) (q .r) (q .kind))) → Now g opened left m (n + 3) (todo - 1) (put-cell o n r)
   pub kept-turn : (c : Cell) (w : ℕ) → eqb (bit opened (at / 3)) 1 ≡ false → c ≡ cell-at row at → w ≡ opens-of t (c .tag) → Now g opened left (at + 3) (n + 3) (todo - 1 + w) (put-cell o n c)
 
 -- the words that are kept

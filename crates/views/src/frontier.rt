@@ -1,8 +1,8 @@
 // The first cells of a row that are not kept.
-use crate::part::part_words;
 use cell::cell::CELL;
 use cell::cell::cell_at;
 use cell::cell::opens;
+use meeting::part::part_end;
 use sets::set::has;
 use sets::set::with;
 ghost use Rattle.views.specs.Write.{GivenRow, Frontier};
@@ -19,7 +19,7 @@ pub fn frontier(t: &[u16], row: &[u64], opened: u64) -> u64
         let i = (at / CELL) as u32;
         if has(opened, i) {
             m = with(m, i);
-            at += part_words(t, &row[at..]);
+            at = part_end(t, row, at);
             left -= 1;
             continue;
         }

@@ -1,5 +1,4 @@
 // A row left at one of its cells: in words, and at which cells it can be left.
 pub mod frontier;
-mod part;
 pub mod promises;
 pub mod view;

@@ -1,5 +1,4 @@
 // A row left at one of its cells.
-use crate::part::part_words;
 use cell::cell::CELL;
 use cell::cell::Cell;
 use cell::cell::KIND_TAG;
@@ -7,6 +6,7 @@ use cell::cell::Out;
 use cell::cell::cell_at;
 use cell::cell::opens;
 use cell::cell::put;
+use meeting::part::part_end;
 use sets::heads::full;
 use sets::heads::is_empty;
 use sets::heads::minus;
@@ -68,7 +68,7 @@ pub fn view(t: &[u16], row: &[u64], opened: u64, left: usize, out: &mut [u64]) -
             }
             put(out, n, rest);
             n += CELL;
-            at += part_words(t, &row[at..]);
+            at = part_end(t, row, at);
             todo -= 1;
             continue;
         }

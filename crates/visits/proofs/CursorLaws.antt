@@ -10,7 +10,7 @@ use lib.ListN.{length, getD, set, length-set}
 use lib.Seq.{getD-set-same, getD-set-other}
 use Rattle.signature.proofs.Tests.{eqb-eq, eqb-ne, true≢false}
 use Rattle.pattern.specs.Limits.{pattern-limit}
-use Rattle.path.specs.Alive.{member, FirstAlive}
+use Rattle.rowset.specs.Member.{member, FirstIn}
 use Rattle.path.specs.State.{one-if, Lifted, Dropped, Raised, Lowered, visit-of, own-of, own-if}
 use Rattle.visits.specs.Blank.{Blank}
 
@@ -159,7 +159,7 @@ pub record Top (rows s cur : List ℕ) (n ncols m r : ℕ) : Type 0 where
   pub most : m ≤ ncols
   pub above : (q : ℕ) → q < r → member s q ≡ true → own-of rows q (getD cur q 0) ≤ m
 
-pub top-start : (rows s cur : List ℕ) (n ncols r : ℕ) → FirstAlive s n r → Top rows s cur n ncols 0 r
+pub top-start : (rows s cur : List ℕ) (n ncols r : ℕ) → FirstIn s n r → Top rows s cur n ncols 0 r
 top-start rows s cur n ncols r f = record { most = omega arith; above = λ q l e. true≢false (sym e ∙ f .before q l) }
 
 pub top-next : (rows s cur : List ℕ) (n ncols m r o : ℕ) → Top rows s cur n ncols m r → o ≡ own-if rows (member s r) r (getD cur r 0) → (member s r ≡ true → own-of rows r (getD cur r 0) ≤ ncols) → Top rows s cur n ncols (max m o) (r + 1)
@@ -181,12 +181,12 @@ top-next rows s cur n ncols m r o w e h = go (member s r) refl
         there q l a true j = true≢false (sym a ∙ ap (member s) (eqb-eq q r j) ∙ z)
         there q l a false j = omega (arith, w .above q (omega (arith, eqb-ne q r j)) a)
 
-pub top-all : (rows s cur : List ℕ) (n ncols m r f : ℕ) → Top rows s cur n ncols m r → n ≤ r → f < n → FirstAlive s n f → Blank rows n s cur ncols (ncols - m)
+pub top-all : (rows s cur : List ℕ) (n ncols m r f : ℕ) → Top rows s cur n ncols m r → n ≤ r → f < n → FirstIn s n f → Blank rows n s cur ncols (ncols - m)
 top-all rows s cur n ncols m r f w l h x = record {
   most = omega arith;
   virt = λ q i e. omega (arith, w .above q (omega arith) e, w .most);
   some = λ i. (f, h, x);
 }
 
-pub blank-none : (rows s cur : List ℕ) (n ncols r : ℕ) → r ≡ n → FirstAlive s n r → Blank rows n s cur ncols 0
+pub blank-none : (rows s cur : List ℕ) (n ncols r : ℕ) → r ≡ n → FirstIn s n r → Blank rows n s cur ncols 0
 blank-none rows s cur n ncols r i x = record { most = omega arith; virt = λ q l e. true≢false (sym e ∙ x .before q (omega arith)); some = λ l. absurd (omega arith) }

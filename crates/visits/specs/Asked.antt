@@ -5,8 +5,8 @@ use mathlib.Core.Bool.{true}
 use Prim.Native.Nat.{ℕ, _+_, _*_, _≤_, _<_}
 use lib.ListN.{length, getD}
 use Rattle.pattern.specs.Limits.{pattern-limit}
-use Rattle.tree.specs.Limits.{row-limit}
-use Rattle.path.specs.Alive.{member, set-words}
+use Rattle.rowset.specs.Limits.{row-limit}
+use Rattle.rowset.specs.Member.{member, set-words}
 use Rattle.path.specs.State.{row-stride, own-of}
 use Rattle.signature.specs.Limits.{word-limit}
 

@@ -1,18 +1,18 @@
 // The cursors of the rows on a path: which rows have a cell in a column, and what raises and lowers them.
-use path::alive::SET_WORDS;
-use path::alive::first_alive;
-use path::alive::has;
-use path::alive::put;
 use path::rows::OWN;
 use path::rows::ROW;
 use pattern::limits::PATTERN_WORDS;
+use rowset::set::SET_WORDS;
+use rowset::set::first_in;
+use rowset::set::has;
+use rowset::set::put;
 ghost use mathlib.Core.Path.{_≡_};
 ghost use mathlib.Core.Bool.{true};
 ghost use Prim.Native.Nat.{ℕ, _+_, _*_, _≤_, _<_, max};
 ghost use lib.ListN.{length, getD};
 ghost use Rattle.pattern.specs.Limits.{pattern-limit};
-ghost use Rattle.tree.specs.Limits.{row-limit};
-ghost use Rattle.path.specs.Alive.{member};
+ghost use Rattle.rowset.specs.Limits.{row-limit};
+ghost use Rattle.rowset.specs.Member.{member};
 ghost use Rattle.path.specs.State.{real-of, Raised, Lowered, row-stride, own-if, own-of, Lifted, Dropped};
 ghost use Rattle.visits.specs.Asked.{RowThere, RowsThere, RowsWithin, RowRises, RowsRise};
 ghost use Rattle.visits.specs.Blank.{Blank};
@@ -74,7 +74,7 @@ pub fn blank(rows: &[u16], n: usize, s: &[u64; SET_WORDS], cur: &[u8], ncols: us
     requires { ⌜ RowsWithin (now rows) n (now s) (now cur) ncols ⌝ }
     ensures { λ b. ⌜ Blank (now (rows .entry)) n (now (s .entry)) (now (cur .entry)) ncols b ⌝ }
 {
-    let mut r = first_alive(s, n);
+    let mut r = first_in(s, n);
     if r == n {
         return 0;
     }

@@ -8,7 +8,7 @@ use lib.Dec.{eqb, leb}
 use Rattle.signature.proofs.Tests.{leb-yes, leb-no}
 use Rattle.tree.specs.Limits.{last-number}
 use Rattle.table.specs.Limits.{limits}
-use Rattle.table.specs.Calls.{Withdraw, start, refused, long-table, withdraw-number, withdraw-table}
+use Rattle.table.specs.Calls.{Withdraw, withdraw-number, withdraw-table}
 use Rattle.table.specs.Refusals.{withdrawal-refusal}
 use Rattle.table.specs.Rule.{Rule, default-of, held, stored, take-out}
 use Rattle.store.specs.Change.{GivenTake}
@@ -17,9 +17,7 @@ use Rattle.store.specs.Place.{FoundAt, HeldAt, FreeAt}
 use Rattle.store.specs.declared.find.Found.{Found}
 use Rattle.store.specs.declared.find.Found.the-variants.{Held, Free}
 use Rattle.store.proofs.LaidFacts.{sound-holds}
-use Rattle.opening.specs.Open.{OpenedAs, Started}
-use Rattle.opening.specs.declared.open.Opened.{Opened}
-use Rattle.opening.specs.declared.open.Opened.the-variants.{Begun, Refused}
+use Rattle.opening.specs.Open.{OpenedAs, Ruled}
 use Rattle.withdrawing.specs.Withdraw.{withdrawn}
 
 -- a refusal leaves the table
@@ -56,21 +54,22 @@ module _ {table : List ℕ} (g : (rs : List Rule) × Holds limits table rs) (n :
             let z : withdrawal-refusal n (g .0) ≡ 0 = refusal-is ∙ ap (λ b. cond (not b) 6 0) (found .is-held) in
             (sym z, t take-given ∙ sym (ap (λ k. cond (eqb k 0) (stored limits (default-of table) (take-out n (g .0)) table) table) z))
 
-module _ (ss table t rows : List ℕ) (n : ℕ) (o : Opened) (open-so : OpenedAs ss (long-table limits table) table o t rows) where
-  pub turned-down : (k : ℕ) → o ≡ Refused k → Withdraw limits ss n table k table
-  turned-down k e =
-      let z : start limits ss (long-table limits table) table ≡ refused k = subst (λ x. OpenedAs ss (long-table limits table) table x t rows) e open-so in
+module _ (ss table t : List ℕ) (n k : ℕ) (open-so : OpenedAs ss table k t) where
+  pub turned-down : (k ≡ 0 → ⊥) → Withdraw limits ss n table k table
+  turned-down f =
+      let z = open-so .turned-down f in
       record { number-is = sym (ap (λ x. withdraw-number x n) z); table-is = sym (ap (λ x. withdraw-table limits x n table) z) }
 
-  module _ (used total : ℕ) (e : o ≡ Begun used total) where
-    begun : Started ss (long-table limits table) table used total t rows
-    begun = subst (λ x. OpenedAs ss (long-table limits table) table x t rows) e open-so
+  module _ (e : k ≡ 0) where
+    abbrev force : Ruled t table
+    force = open-so .begun e .0
 
     pub in-table : (rs : List Rule) × Holds limits table rs
-    in-table = (begun .force .rs, sound-holds (begun .force .known .sig) table (begun .force .rs) (begun .force .is-sound))
+    in-table = (force .rs, sound-holds (force .known .sig) table (force .rs) (force .is-sound))
 
     pub withdrawn-so : (r : ℕ) (after : List ℕ) → ((g : (rs : List Rule) × Holds limits table rs) → (r ≡ withdrawal-refusal n (g .0)) × (after ≡ withdrawn n (g .0) table)) → Withdraw limits ss n table r after
     unfolding in-table
     withdrawn-so r after f =
         let q = f in-table in
-        record { number-is = q .0 ∙ sym (ap (λ x. withdraw-number x n) (begun .started)); table-is = q .1 ∙ sym (ap (λ x. withdraw-table limits x n table) (begun .started)) }
+        let z = open-so .begun e .1 in
+        record { number-is = q .0 ∙ sym (ap (λ x. withdraw-number x n) z); table-is = q .1 ∙ sym (ap (λ x. withdraw-table limits x n table) z) }

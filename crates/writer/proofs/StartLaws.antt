@@ -1,22 +1,22 @@
 -- Where the writer begins: every row alive at its first cell, one column of kind 0.
+use borrow.Author.Tests.{lt-ltb}
 use mathlib.Core.Path.{_≡_, refl, sym, ap, subst, _∙_}
 use mathlib.Core.List.{List, [], _∷_, map}
-use mathlib.Core.Option.{Option, none, some}
-use mathlib.Core.Bool.{true}
-use Prim.Native.Nat.{ℕ, zero, suc, _+_, _-_, _*_, _≤_, _<_}
+use mathlib.Core.Option.{Option, some}
+use Prim.Native.Nat.{ℕ, zero, suc, _+_, _*_, _≤_, _<_}
 use native.Mathlib.Omega.{arith}
-use lib.ListN.{length, getD, drop, length-append, length-drop, getElem?}
-use Rattle.signature.specs.Decoded.{Known}
+use lib.Dec.{ltb}
+use lib.ListN.{length, getD, length-append, length-drop, getElem?}
 use Rattle.signature.specs.Lists.{none-left, also, somes, _>>=_}
 use Rattle.signature.proofs.LawfulFacts.{kinds-above}
 use Rattle.signature.proofs.KnownFacts.{at-some}
 use Rattle.signature.proofs.ListFacts.{all-at}
 use Rattle.pattern.specs.Limits.{pattern-limit}
 use Rattle.cell.specs.Coded.{kinds-of, row-code}
-use Rattle.tree.specs.Limits.{tree-limit, row-limit}
+use Rattle.tree.specs.Limits.{tree-limit}
+use Rattle.rowset.specs.Limits.{row-limit}
 use Rattle.tree.specs.Tree.{Line, Tree, compile}
-use Rattle.path.specs.Alive.{member}
-use Rattle.path.specs.Standing.{At}
+use Rattle.rowset.specs.Member.{member}
 use Rattle.path.specs.State.{row-stride, default-in, options, Indexed, LineAt, State}
 use Rattle.path.specs.Rows.{RuleRow, line-of, RowKept, Fit}
 use Rattle.writer.specs.Write.{GivenRows, tree-of-rows}
@@ -77,10 +77,10 @@ module _ {t a tab : List ℕ} {n : ℕ} (g : GivenRows t a tab n) where
         binds-are = refl;
       }
 
-  start-state : (s cur vis : List ℕ) → ((r : ℕ) → r < n → member s r ≡ true) → ((r : ℕ) → r < n → getD cur r 0 ≡ 0) → State (g .known .sig) t a tab n (member s) cur vis (0 ∷ []) start-lines
-  start-state s cur vis m z r l = let w = row-at r l in rw (m r l, z r l, w .there) (line-at vis r w)
+  start-state : (s cur vis : List ℕ) → ((r : ℕ) → r < row-limit → member s r ≡ ltb r n) → ((r : ℕ) → r < n → getD cur r 0 ≡ 0) → State (g .known .sig) t a tab n (member s) cur vis (0 ∷ []) start-lines
+  start-state s cur vis m z r l = let w = row-at r l in rw (m r (omega (arith, l, g .few)) ∙ lt-ltb r n l, z r l, w .there) (line-at vis r w)
 
-  module _ (s cur vis : List ℕ) (long : row-stride * row-limit < length tab) (cursors : n ≤ length cur) (visits : pattern-limit * n ≤ length vis) (m : (r : ℕ) → r < n → member s r ≡ true) (z : (r : ℕ) → r < n → getD cur r 0 ≡ 0) (len : ℕ) (small : len ≤ tree-limit) where
+  module _ (s cur vis : List ℕ) (long : row-stride * row-limit < length tab) (cursors : n ≤ length cur) (visits : pattern-limit * n ≤ length vis) (m : (r : ℕ) → r < row-limit → member s r ≡ ltb r n) (z : (r : ℕ) → r < n → getD cur r 0 ≡ 0) (len : ℕ) (small : len ≤ tree-limit) where
     pub start-given : Given t a tab n s cur vis 1 0 0 len
     start-given = record {
       known = g .known;

@@ -7,7 +7,8 @@ use lib.Dec.{leb}
 use lib.ListN.{length, drop}
 use Rattle.signature.specs.Decoded.{Known}
 use Rattle.signature.specs.Lists.{All}
-use Rattle.tree.specs.Limits.{row-limit, tree-limit}
+use Rattle.tree.specs.Limits.{tree-limit}
+use Rattle.rowset.specs.Limits.{row-limit}
 use Rattle.tree.specs.Tree.{Tree, compile}
 use Rattle.tree.specs.Words.{words, layout}
 use Rattle.path.specs.Rows.{RuleRow, line-of, Fit, RowsKept}

@@ -1,40 +1,24 @@
 // The tree of the rows of a set of rules.
-use path::alive::SET_WORDS;
-use path::alive::put;
 use path::rows::CURSORS;
 use path::rows::INDEX_ROOM;
 use path::rows::VISITS;
 use preorder::node;
+use rowset::set::first_rows;
 use signature::decoded::DECODED;
 use tree::words::TREE_LIMIT;
 ghost use mathlib.Core.Path.{_≡_};
-ghost use mathlib.Core.Bool.{true};
 ghost use mathlib.Core.List.{_++_};
 ghost use Prim.Native.Nat.{ℕ, _*_, _≤_, _<_, min};
 ghost use lib.ListN.{length, getD, take, drop};
 ghost use Rattle.pattern.specs.Limits.{pattern-limit};
-ghost use Rattle.tree.specs.Limits.{row-limit, tree-limit};
-ghost use Rattle.path.specs.Alive.{member};
+ghost use Rattle.tree.specs.Limits.{tree-limit};
+ghost use Rattle.rowset.specs.Limits.{row-limit};
 ghost use Rattle.path.specs.State.{row-stride};
 ghost use Rattle.writer.specs.Write.{GivenRows, TreeWritten};
 
 pub enum Written {
     Done(usize),
     TooLarge,
-}
-
-// The set of the first n rows.
-fn all_rows(n: usize) -> [u64; SET_WORDS]
-    requires { ⌜ n ≤ row-limit ⌝ }
-    ensures { λ s. ⌜ ((r : ℕ) → r < n → member s r ≡ true) ⌝ }
-{
-    let mut s = [0; SET_WORDS];
-    let mut r = 0;
-    while r < n {
-        put(&mut s, r, true);
-        r += 1;
-    }
-    s
 }
 
 // The cursors of the first n rows at their first cells.
@@ -86,7 +70,7 @@ pub fn write(
     ensures { λ w. ⌜ TreeWritten (now (t .entry)) (now (a .entry)) (now (rows .entry)) n (now (out .entry)) w (now (out .exit)) ⌝ }
 {
     clear(cur, n);
-    let s = all_rows(n);
+    let s = first_rows(n);
     let most = limit(out.len());
     let u = node(t, a, rows, n, &s, cur, vis, 1, 0, 0, &mut tree[..most]);
     if u > most {

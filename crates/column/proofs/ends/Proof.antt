@@ -3,7 +3,7 @@ use mathlib.Core.Path.{_≡_}
 use Prim.Native.Nat.{ℕ, _-_, _≤_}
 use native.Mathlib.Omega.{arith}
 use Rattle.sets.specs.Heads.{number-of}
-use Rattle.path.specs.Alive.{member}
+use Rattle.rowset.specs.Member.{member}
 use Rattle.column.specs.Column.{edge-of}
 use Rattle.column.proofs.ColumnLaws.{EndsOf, ends-first, ends-next, ends-last}
 use borrow.Author.Needs.{needs}

@@ -3,7 +3,7 @@ use mathlib.Core.Path.{sym, _∙_}
 use native.Mathlib.Omega.{arith}
 use Rattle.signature.proofs.KnownFacts.{long}
 use Rattle.sets.specs.Heads.{number-of}
-use Rattle.path.specs.Alive.{member}
+use Rattle.rowset.specs.Member.{member}
 use Rattle.column.specs.Column.{end-of}
 use Rattle.column.proofs.ColumnLaws.{few-heads, level-heads, other-heads}
 use borrow.Author.Needs.{needs}

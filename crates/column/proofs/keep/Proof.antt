@@ -3,9 +3,9 @@ use mathlib.Core.Path.{_≡_, refl, _∙_}
 use Prim.Native.Nat.{ℕ, _-_, _≤_}
 use native.Mathlib.Omega.{arith}
 use lib.ListN.{length}
-use Rattle.path.specs.Alive.{member}
+use Rattle.rowset.specs.Member.{member}
 use Rattle.path.specs.State.{kept-of}
-use Rattle.path.proofs.AliveLaws.{Filled, filled-next}
+use Rattle.rowset.proofs.MemberLaws.{Filled, filled-next}
 use Rattle.column.proofs.keep.Statement.{statement}
 use Rattle.column.proofs.keep.Tie as tie
 

@@ -1,7 +1,7 @@
 -- `row_kind` meets its contract.
 use mathlib.Core.Path.{sym, _∙_}
 use native.Mathlib.Omega.{arith}
-use Rattle.path.specs.Alive.{member}
+use Rattle.rowset.specs.Member.{member}
 use Rattle.column.specs.Column.{tag-at, allowed-at}
 use Rattle.column.proofs.ColumnLaws.{seen-from, saw-from, saw-out}
 use borrow.Author.Needs.{needs}

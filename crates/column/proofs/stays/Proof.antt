@@ -3,7 +3,7 @@ use mathlib.Core.Path.{sym, _∙_}
 use native.Mathlib.Omega.{arith}
 use lib.ListN.{getD}
 use Prim.Native.Nat.{_-_}
-use Rattle.path.specs.Alive.{member}
+use Rattle.rowset.specs.Member.{member}
 use Rattle.column.proofs.ColumnLaws.{stays-allowed, stays-excluded, stays-virtual}
 use borrow.Author.Needs.{needs}
 use Rattle.column.proofs.stays.Statement.{statement}

@@ -4,7 +4,7 @@ use native.Mathlib.Omega.{arith}
 use lib.ListN.{getD}
 use Prim.Native.Nat.{_-_}
 use Rattle.sets.specs.Heads.{number-of}
-use Rattle.path.specs.Alive.{member}
+use Rattle.rowset.specs.Member.{member}
 use Rattle.column.proofs.ColumnLaws.{edges-in, no-edges}
 use borrow.Author.Needs.{needs}
 use Rattle.column.proofs.with_edges.Statement.{statement}

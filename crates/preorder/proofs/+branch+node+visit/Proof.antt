@@ -8,7 +8,7 @@ use lib.ListN.{length, set, take, drop, length-set, length-take, length-drop}
 use Rattle.signature.proofs.KnownFacts.{long}
 use Rattle.sets.specs.Heads.{number-of}
 use Rattle.sets.specs.Set.{bit, members}
-use Rattle.path.specs.Alive.{member}
+use Rattle.rowset.specs.Member.{member}
 use Rattle.path.specs.State.{Kept, default-in}
 use Rattle.preorder.specs.Front.{front-of, heads-in}
 use Rattle.preorder.specs.Node.{Branching, child-of}
@@ -36,7 +36,7 @@ use Rattle.column.proofs.heads.Reads as heads-reads
 use Rattle.column.proofs.keep.Reads as keep-reads
 use Rattle.leaf.proofs.default_leaf.Reads as default-leaf-reads
 use Rattle.leaf.proofs.leaf.Reads as leaf-reads
-use Rattle.path.proofs.alive.first_alive.Reads as first-alive-reads
+use Rattle.rowset.proofs.set.first_in.Reads as first-in-reads
 use Rattle.preorder.proofs.front.front.Reads as front-reads
 use Rattle.preorder.proofs.front.front_words.Reads as front-words-reads
 use Rattle.preorder.proofs.skips.Reads as skips-reads
@@ -198,8 +198,8 @@ pub +branch+node+visit-spec : {M : Type 1} → statement M
     (λ c. same-len-mid (c .before .before .before .before .before .before .before .before .before .before .before .blank .result) (length (c .before .before .before .before .before .before .before .before .skips .last .0) - c .before .before .before .before .before .before .before .before .before .before .before .blank .result) (c .before .before .before .before .before .before .before .before .skips .last .0) (c .before .before .visit .last .1 .1 .1 .1 .1 .1 .1 .1 .1 .1 .0) (c .before .before .visit .kept .1 .1 .1 .1 .1 .1 .1 .1 .1 .1 .0) ∙ c .before .before .before .before .before .before .before .before .skips .kept .0)
     (λ c. record { wrote = (λ g fuel h. blank-wrote _ g (c .before .before .before .before .before .before .before .before .before .before .before .blank .result) (c .before .before .before .before .before .before .before .before .before .before .before .blank .ensures) (c .before .before .before .before .before .before .before .before .skips .last .0) (omega (arith, c .before .before .before .before .before .before .before .before .before .before .if1 .left)) (c .before .before .before .before .before .before .before .before .skips .ensures) (c .before .before .visit .result) (c .before .before .visit .last .1 .1 .1 .1 .1 .1 .1 .1 .1 .1 .0) (c .before .before .visit .ensures .wrote) fuel h); kept = record { cursors = c .before .before .visit .ensures .kept .cursors; visits = c .before .before .visit .ensures .kept .visits; long = c .before .before .visit .ensures .kept .long } }))
     λ t. visit-lts.spec (
-      first-alive-reads.Asked,
-      first-alive-reads.Learnt,
+      first-in-reads.Asked,
+      first-in-reads.Learnt,
       default-leaf-reads.Asked,
       default-leaf-reads.Learnt,
       leaf-reads.Asked,
@@ -223,10 +223,10 @@ pub +branch+node+visit-spec : {M : Type 1} → statement M
     (λ c κs. c .before .before .before .pre .1 .few)
     (λ c κs. c .before .before .before .before .before .before .before .pre .1 .ok .whole)
     (λ c. c .before .before .default-leaf .kept .1 .0)
-    (λ c. record { wrote = (λ g fuel h. none-result g fuel _ _ _ h (c .before .before .before .before .before .if2 .taken) (c .before .before .before .before .before .before .first-alive .ensures) (c .before .before .default-leaf .ensures)); kept = record { cursors = refl; visits = (λ r q h l. refl); long = refl } })
-    (λ c κs. (leaving (c .before .before .before .before .before .before .before .before .before .before .before .before .pre .1) _ (omega (arith, c .before .before .before .before .before .before .before .before .first-alive .ensures .most, c .before .before .before .before .before .before .before .if2 .left)) (c .before .before .before .before .before .before .before .before .first-alive .ensures .there (omega (arith, c .before .before .before .before .before .before .before .before .first-alive .ensures .most, c .before .before .before .before .before .before .before .if2 .left))), omega (arith, c .before .before .before .before .before .before .before .before .before .before .before .before .pre .1 .links-fit)))
+    (λ c. record { wrote = (λ g fuel h. none-result g fuel _ _ _ h (c .before .before .before .before .before .if2 .taken) (c .before .before .before .before .before .before .first-in .ensures) (c .before .before .default-leaf .ensures)); kept = record { cursors = refl; visits = (λ r q h l. refl); long = refl } })
+    (λ c κs. (leaving (c .before .before .before .before .before .before .before .before .before .before .before .before .pre .1) _ (omega (arith, c .before .before .before .before .before .before .before .before .first-in .ensures .most, c .before .before .before .before .before .before .before .if2 .left)) (c .before .before .before .before .before .before .before .before .first-in .ensures .there (omega (arith, c .before .before .before .before .before .before .before .before .first-in .ensures .most, c .before .before .before .before .before .before .before .if2 .left))), omega (arith, c .before .before .before .before .before .before .before .before .before .before .before .before .pre .1 .links-fit)))
     (λ c. c .before .before .leaf .kept .1 .1 .1 .1 .1 .0)
-    (λ c. record { wrote = (λ g fuel h. leaf-result g fuel _ _ _ h (omega (arith, c .before .before .before .before .before .before .before .before .before .before .before .first-alive .ensures .most, c .before .before .before .before .before .before .before .before .before .before .if2 .left)) (c .before .before .before .before .before .before .before .before .before .before .before .first-alive .ensures) (c .before .before .before .before .before .before .before .before .before .if3 .taken) (c .before .before .leaf .ensures)); kept = record { cursors = refl; visits = (λ r q h l. refl); long = refl } })
+    (λ c. record { wrote = (λ g fuel h. leaf-result g fuel _ _ _ h (omega (arith, c .before .before .before .before .before .before .before .before .before .before .before .first-in .ensures .most, c .before .before .before .before .before .before .before .before .before .before .if2 .left)) (c .before .before .before .before .before .before .before .before .before .before .before .first-in .ensures) (c .before .before .before .before .before .before .before .before .before .if3 .taken) (c .before .before .leaf .ensures)); kept = record { cursors = refl; visits = (λ r q h l. refl); long = refl } })
     (λ c. refl)
     (λ c κs. (c .before .before .before .before .before .before .before .before .before .before .pre .1 .few, c .before .before .before .before .before .before .before .before .before .before .pre .1 .cursors, c .before .before .before .before .before .before .before .before .before .before .pre .1 .ok .long, (λ r l e. c .before .before .before .before .before .before .before .before .before .before .pre .1 .low r l), refl))
     (λ c κs. let k = cols (c .before .before .before .before .before .before .before .before .before .before .before .before .before .before .before .before .before .pre .1) (omega (arith, c .before .before .before .before .before .before .before .before .before .before .before .if3 .left)) in looking (c .before .before .before .before .before .before .before .before .before .before .before .before .before .before .before .before .before .pre .1) _ (k .k) (k .rest) (k .is) (k .there) (c .before .before .before .before .before .before .real .ensures))
@@ -238,12 +238,12 @@ pub +branch+node+visit-spec : {M : Type 1} → statement M
     (λ c. simp length-set (omega (arith, c .before .before .before .before .before .before .before .before .before .before .before .before .before .before .before .before .before .before .before .before .before .before .if1 .left)))
     (λ c. simp length-set (omega (arith, c .before .before .before .before .before .before .before .before .before .before .before .before .before .before .before .before .before .before .before .before .before .before .if1 .left)))
     (λ c. omega arith)
-    (λ c κs. (simp (length-take, length-drop, length-set) (omega (arith, c .before .before .before .before .before .before .before .before .before .before .before .before .before .before .before .before .before .before .before .before .before .before .before .before .before .before .pre .0, c .before .before .before .before .before .before .before .before .before .before .before .before .before .before .before .before .before .before .before .before .before .before .before .if1 .left)), skip-child (c .before .before .before .before .before .before .before .before .before .before .before .before .before .before .before .real .last .1 .1 .1 .1 .1 .0) (c .before .before .before .before .raise .last .0) (c .before .before .before .before .raise .last .1 .0) (c .before .before .before .before .before .before .before .before .before .before .before .before .before .before .before .before .before .before .before .before .before .before .before .before .before .before .args .out .now) [] (c .before .before .before .before .before .before .before .before .column .result) 0 (c .before .before .before .before .before .before .before .before .before .before .before .before .before .before .before .before .before .before .before .before .before .before .first-alive .result) (c .before .before .before .before .before .before .before .before .before .before .before .before .before .before .before .real .ensures) (c .before .before .before .before .before .before .before .before .column .ensures) (c .before .before .before .before .raise .ensures) (c .before .before .before .before .raise .kept .0) (c .before .before .before .before .raise .kept .1 .0) (omega (arith, c .before .before .before .before .before .before .before .before .before .before .before .before .before .before .before .before .before .before .before .before .if3 .left)) (c .before .before .before .before .before .before .before .before .before .before .before .before .before .before .before .before .before .before .before .before .before .before .before .before .before .before .pre .1) (c .before .before .before .if4 .taken) _ (simp (length-take, length-drop, length-set) (omega (arith, c .before .before .before .before .before .before .before .before .before .before .before .before .before .before .before .before .before .before .before .before .before .before .before .if1 .left)))))
+    (λ c κs. (simp (length-take, length-drop, length-set) (omega (arith, c .before .before .before .before .before .before .before .before .before .before .before .before .before .before .before .before .before .before .before .before .before .before .before .before .before .before .pre .0, c .before .before .before .before .before .before .before .before .before .before .before .before .before .before .before .before .before .before .before .before .before .before .before .if1 .left)), skip-child (c .before .before .before .before .before .before .before .before .before .before .before .before .before .before .before .real .last .1 .1 .1 .1 .1 .0) (c .before .before .before .before .raise .last .0) (c .before .before .before .before .raise .last .1 .0) (c .before .before .before .before .before .before .before .before .before .before .before .before .before .before .before .before .before .before .before .before .before .before .before .before .before .before .args .out .now) [] (c .before .before .before .before .before .before .before .before .column .result) 0 (c .before .before .before .before .before .before .before .before .before .before .before .before .before .before .before .before .before .before .before .before .before .before .first-in .result) (c .before .before .before .before .before .before .before .before .before .before .before .before .before .before .before .real .ensures) (c .before .before .before .before .before .before .before .before .column .ensures) (c .before .before .before .before .raise .ensures) (c .before .before .before .before .raise .kept .0) (c .before .before .before .before .raise .kept .1 .0) (omega (arith, c .before .before .before .before .before .before .before .before .before .before .before .before .before .before .before .before .before .before .before .before .if3 .left)) (c .before .before .before .before .before .before .before .before .before .before .before .before .before .before .before .before .before .before .before .before .before .before .before .before .before .before .pre .1) (c .before .before .before .if4 .taken) _ (simp (length-take, length-drop, length-set) (omega (arith, c .before .before .before .before .before .before .before .before .before .before .before .before .before .before .before .before .before .before .before .before .before .before .before .if1 .left)))))
     (λ c κs. (c .before .before .before .before .before .before .before .before .before .before .before .before .before .before .before .before .before .before .before .before .before .before .before .before .before .before .before .before .before .before .before .pre .1 .few, omega (arith, c .before .before .before .before .before .before .before .before .before .before .before .before .before .before .before .before .before .before .before .before .before .before .before .before .before .before .before .before .before .before .before .pre .1 .cursors, c .before .before .before .before .before .before .before .before .before .raise .kept .0, ap length (c .before .before .before .before .node .ensures .kept .cursors)), λ r l e. lower-ok _ _ _ _ _ _ _ _ (c .before .before .before .before .before .before .before .before .before .raise .ensures) (c .before .before .before .before .node .ensures .kept .cursors) r l e))
-    (λ c. omega (arith, skip-fits (c .before .before .before .before .before .before .before .before .before .before .before .before .before .before .before .before .before .before .before .before .before .real .last .1 .1 .1 .1 .1 .0) (c .before .before .before .before .before .before .before .before .before .before .raise .last .0) (c .before .before .before .before .before .before .before .before .before .before .raise .last .1 .0) (c .before .before .before .before .before .before .before .before .before .before .before .before .before .before .before .before .before .before .before .before .before .before .before .before .before .before .before .before .before .before .before .before .args .out .now) (c .before .before .before .before .before .node .last .1 .1 .1 .1 .1 .1 .1 .1 .1 .1 .0) (c .before .before .before .before .before .before .before .before .before .before .before .before .before .before .column .result) (c .before .before .before .before .before .node .result) (c .before .before .before .before .before .before .before .before .before .before .before .before .before .before .before .before .before .before .before .before .before .before .before .before .before .before .before .before .first-alive .result) (c .before .before .before .before .before .before .before .before .before .before .before .before .before .before .before .before .before .before .before .before .before .real .ensures) (c .before .before .before .before .before .before .before .before .before .before .before .before .before .before .column .ensures) (c .before .before .before .before .before .before .before .before .before .before .raise .ensures) (c .before .before .before .before .before .before .before .before .before .before .raise .kept .0) (c .before .before .before .before .before .before .before .before .before .before .raise .kept .1 .0) (omega (arith, c .before .before .before .before .before .before .before .before .before .before .before .before .before .before .before .before .before .before .before .before .before .before .before .before .before .before .if3 .left)) (c .before .before .before .before .before .before .before .before .before .before .before .before .before .before .before .before .before .before .before .before .before .before .before .before .before .before .before .before .before .before .before .before .pre .1) (c .before .before .before .before .before .before .before .before .before .if4 .taken) (omega (arith, c .before .before .before .before .before .before .before .before .before .before .before .before .before .before .before .before .before .before .before .before .before .before .before .before .before .before .before .before .before .if1 .left)) (c .before .before .before .before .before .node .ensures .wrote), c .before .before .before .before .before .before .before .before .before .before .before .before .before .before .before .before .before .before .before .before .before .before .before .before .before .before .before .before .before .before .before .before .pre .1 .links-fit))
+    (λ c. omega (arith, skip-fits (c .before .before .before .before .before .before .before .before .before .before .before .before .before .before .before .before .before .before .before .before .before .real .last .1 .1 .1 .1 .1 .0) (c .before .before .before .before .before .before .before .before .before .before .raise .last .0) (c .before .before .before .before .before .before .before .before .before .before .raise .last .1 .0) (c .before .before .before .before .before .before .before .before .before .before .before .before .before .before .before .before .before .before .before .before .before .before .before .before .before .before .before .before .before .before .before .before .args .out .now) (c .before .before .before .before .before .node .last .1 .1 .1 .1 .1 .1 .1 .1 .1 .1 .0) (c .before .before .before .before .before .before .before .before .before .before .before .before .before .before .column .result) (c .before .before .before .before .before .node .result) (c .before .before .before .before .before .before .before .before .before .before .before .before .before .before .before .before .before .before .before .before .before .before .before .before .before .before .before .before .first-in .result) (c .before .before .before .before .before .before .before .before .before .before .before .before .before .before .before .before .before .before .before .before .before .real .ensures) (c .before .before .before .before .before .before .before .before .before .before .before .before .before .before .column .ensures) (c .before .before .before .before .before .before .before .before .before .before .raise .ensures) (c .before .before .before .before .before .before .before .before .before .before .raise .kept .0) (c .before .before .before .before .before .before .before .before .before .before .raise .kept .1 .0) (omega (arith, c .before .before .before .before .before .before .before .before .before .before .before .before .before .before .before .before .before .before .before .before .before .before .before .before .before .before .if3 .left)) (c .before .before .before .before .before .before .before .before .before .before .before .before .before .before .before .before .before .before .before .before .before .before .before .before .before .before .before .before .before .before .before .before .pre .1) (c .before .before .before .before .before .before .before .before .before .if4 .taken) (omega (arith, c .before .before .before .before .before .before .before .before .before .before .before .before .before .before .before .before .before .before .before .before .before .before .before .before .before .before .before .before .before .if1 .left)) (c .before .before .before .before .before .node .ensures .wrote), c .before .before .before .before .before .before .before .before .before .before .before .before .before .before .before .before .before .before .before .before .before .before .before .before .before .before .before .before .before .before .before .before .pre .1 .links-fit))
     (λ c. same-len-mid 1 (length (set (c .before .before .before .before .before .before .before .before .before .before .before .before .before .before .before .before .before .before .before .before .before .before .before .before .before .before .before .before .before .before .before .before .args .out .now) 0 3) - 1) (set (c .before .before .before .before .before .before .before .before .before .before .before .before .before .before .before .before .before .before .before .before .before .before .before .before .before .before .before .before .before .before .before .before .args .out .now) 0 3) (c .before .before .before .before .before .node .last .1 .1 .1 .1 .1 .1 .1 .1 .1 .1 .0) (c .before .before .before .before .before .node .kept .1 .1 .1 .1 .1 .1 .1 .1 .1 .1 .0) ∙ length-set (c .before .before .before .before .before .before .before .before .before .before .before .before .before .before .before .before .before .before .before .before .before .before .before .before .before .before .before .before .before .before .before .before .args .out .now) 0 3)
-    (λ c. record { wrote = (λ g fuel h. skip-result (c .before .before .before .before .before .before .before .before .before .before .before .before .before .before .before .before .before .before .before .before .before .real .last .1 .1 .1 .1 .1 .0) (c .before .before .before .before .before .before .before .before .before .before .raise .last .0) (c .before .before .before .before .before .before .before .before .before .before .raise .last .1 .0) (c .before .before .before .before .before .before .before .before .before .before .before .before .before .before .before .before .before .before .before .before .before .before .before .before .before .before .before .before .before .before .before .before .args .out .now) (c .before .before .before .before .before .node .last .1 .1 .1 .1 .1 .1 .1 .1 .1 .1 .0) (c .before .before .before .before .before .before .before .before .before .before .before .before .before .before .column .result) (c .before .before .before .before .before .node .result) (c .before .before .before .before .before .before .before .before .before .before .before .before .before .before .before .before .before .before .before .before .before .before .before .before .before .before .before .before .first-alive .result) (c .before .before .before .before .before .before .before .before .before .before .before .before .before .before .before .before .before .before .before .before .before .real .ensures) (c .before .before .before .before .before .before .before .before .before .before .before .before .before .before .column .ensures) (c .before .before .before .before .before .before .before .before .before .before .raise .ensures) (c .before .before .before .before .before .before .before .before .before .before .raise .kept .0) (c .before .before .before .before .before .before .before .before .before .before .raise .kept .1 .0) (omega (arith, c .before .before .before .before .before .before .before .before .before .before .before .before .before .before .before .before .before .before .before .before .before .before .before .before .before .before .if3 .left)) g fuel (c .before .before .before .before .before .before .before .before .before .if4 .taken) (omega (arith, c .before .before .before .before .before .before .before .before .before .before .before .before .before .before .before .before .before .before .before .before .before .before .before .before .before .before .before .before .first-alive .ensures .most, c .before .before .before .before .before .before .before .before .before .before .before .before .before .before .before .before .before .before .before .before .before .before .before .before .before .before .before .if2 .left)) (c .before .before .before .before .before .before .before .before .before .before .before .before .before .before .before .before .before .before .before .before .before .before .before .before .before .before .before .before .first-alive .ensures) (omega (arith, c .before .before .before .before .before .before .before .before .before .before .before .before .before .before .before .before .before .before .before .before .before .before .before .before .before .before .before .before .before .if1 .left)) h (c .before .before .before .before .before .node .ensures .wrote)); kept = record { cursors = restored _ _ _ _ _ _ _ _ _ (c .before .before .before .before .before .before .before .before .before .before .raise .ensures) (c .before .before .before .before .before .node .ensures .kept .cursors) (c .lower .ensures) (c .lower .kept .0 ∙ ap length (c .before .before .before .before .before .node .ensures .kept .cursors) ∙ c .before .before .before .before .before .before .before .before .before .before .raise .kept .0); visits = kept-through (c .before .before .before .before .before .before .before .before .before .before .before .before .before .before .before .before .before .before .before .before .before .before .before .before .before .before .before .before .before .before .before .before .args .n) (c .before .before .before .before .before .before .before .before .before .before .before .before .before .before .before .before .before .before .before .before .before .before .before .before .before .before .before .before .before .before .before .before .args .v) (member (c .before .before .before .before .before .before .before .before .before .before .before .before .before .before .before .before .before .before .before .before .before .real .last .1 .1 .1 .1 .1 .0)) (c .before .before .before .before .before .before .before .before .before .before .before .before .before .before .before .before .before .before .before .before .before .before .before .before .before .before .before .before .before .before .before .before .args .cur .now) (c .before .before .before .before .before .before .before .before .before .before .before .before .before .before .before .before .before .before .before .before .before .before .before .before .before .before .before .before .before .before .before .before .args .vis .now) (c .before .before .before .before .before .before .before .before .before .before .raise .last .0) (c .before .before .before .before .before .before .before .before .before .before .raise .last .1 .0) (c .before .before .before .before .before .node .last .1 .1 .1 .1 .1 .1 .0) (c .before .before .before .before .before .before .before .before .before .before .raise .ensures) (c .before .before .before .before .before .node .ensures .kept .visits); long = c .before .before .before .before .before .node .ensures .kept .long ∙ c .before .before .before .before .before .before .before .before .before .before .raise .kept .1 .0 } })
-    (λ c κs. (omega (arith, c .before .before .before .before .before .before .before .before .before .before .before .before .before .before .before .before .before .before .before .before .before .before .before .before .before .before .before .pre .0), branch-child (c .before .before .before .before .before .before .before .before .before .before .before .before .before .before .before .before .real .last .1 .1 .1 .1 .1 .0) (c .before .before .before .before .before .raise .last .0) (c .before .before .before .before .before .raise .last .1 .0) (c .before .before .before .before .before .before .before .before .before .before .before .before .before .before .before .before .before .before .before .before .before .before .before .before .before .before .before .args .out .now) [] (c .before .before .before .before .before .before .before .before .before .column .result) 0 (c .before .before .before .before .before .before .before .before .before .before .before .before .before .before .before .before .before .before .before .before .before .before .before .first-alive .result) (c .before .before .before .before .before .before .before .before .before .before .before .before .before .before .before .before .real .ensures) (c .before .before .before .before .before .before .before .before .before .column .ensures) (c .before .before .before .before .before .raise .ensures) (c .before .before .before .before .before .raise .kept .0) (c .before .before .before .before .before .raise .kept .1 .0) (omega (arith, c .before .before .before .before .before .before .before .before .before .before .before .before .before .before .before .before .before .before .before .before .before .if3 .left)) (c .before .before .before .before .before .before .before .before .before .before .before .before .before .before .before .before .before .before .before .before .before .before .before .before .before .before .before .pre .1) (c .before .before .before .before .if4 .left)))
+    (λ c. record { wrote = (λ g fuel h. skip-result (c .before .before .before .before .before .before .before .before .before .before .before .before .before .before .before .before .before .before .before .before .before .real .last .1 .1 .1 .1 .1 .0) (c .before .before .before .before .before .before .before .before .before .before .raise .last .0) (c .before .before .before .before .before .before .before .before .before .before .raise .last .1 .0) (c .before .before .before .before .before .before .before .before .before .before .before .before .before .before .before .before .before .before .before .before .before .before .before .before .before .before .before .before .before .before .before .before .args .out .now) (c .before .before .before .before .before .node .last .1 .1 .1 .1 .1 .1 .1 .1 .1 .1 .0) (c .before .before .before .before .before .before .before .before .before .before .before .before .before .before .column .result) (c .before .before .before .before .before .node .result) (c .before .before .before .before .before .before .before .before .before .before .before .before .before .before .before .before .before .before .before .before .before .before .before .before .before .before .before .before .first-in .result) (c .before .before .before .before .before .before .before .before .before .before .before .before .before .before .before .before .before .before .before .before .before .real .ensures) (c .before .before .before .before .before .before .before .before .before .before .before .before .before .before .column .ensures) (c .before .before .before .before .before .before .before .before .before .before .raise .ensures) (c .before .before .before .before .before .before .before .before .before .before .raise .kept .0) (c .before .before .before .before .before .before .before .before .before .before .raise .kept .1 .0) (omega (arith, c .before .before .before .before .before .before .before .before .before .before .before .before .before .before .before .before .before .before .before .before .before .before .before .before .before .before .if3 .left)) g fuel (c .before .before .before .before .before .before .before .before .before .if4 .taken) (omega (arith, c .before .before .before .before .before .before .before .before .before .before .before .before .before .before .before .before .before .before .before .before .before .before .before .before .before .before .before .before .first-in .ensures .most, c .before .before .before .before .before .before .before .before .before .before .before .before .before .before .before .before .before .before .before .before .before .before .before .before .before .before .before .if2 .left)) (c .before .before .before .before .before .before .before .before .before .before .before .before .before .before .before .before .before .before .before .before .before .before .before .before .before .before .before .before .first-in .ensures) (omega (arith, c .before .before .before .before .before .before .before .before .before .before .before .before .before .before .before .before .before .before .before .before .before .before .before .before .before .before .before .before .before .if1 .left)) h (c .before .before .before .before .before .node .ensures .wrote)); kept = record { cursors = restored _ _ _ _ _ _ _ _ _ (c .before .before .before .before .before .before .before .before .before .before .raise .ensures) (c .before .before .before .before .before .node .ensures .kept .cursors) (c .lower .ensures) (c .lower .kept .0 ∙ ap length (c .before .before .before .before .before .node .ensures .kept .cursors) ∙ c .before .before .before .before .before .before .before .before .before .before .raise .kept .0); visits = kept-through (c .before .before .before .before .before .before .before .before .before .before .before .before .before .before .before .before .before .before .before .before .before .before .before .before .before .before .before .before .before .before .before .before .args .n) (c .before .before .before .before .before .before .before .before .before .before .before .before .before .before .before .before .before .before .before .before .before .before .before .before .before .before .before .before .before .before .before .before .args .v) (member (c .before .before .before .before .before .before .before .before .before .before .before .before .before .before .before .before .before .before .before .before .before .real .last .1 .1 .1 .1 .1 .0)) (c .before .before .before .before .before .before .before .before .before .before .before .before .before .before .before .before .before .before .before .before .before .before .before .before .before .before .before .before .before .before .before .before .args .cur .now) (c .before .before .before .before .before .before .before .before .before .before .before .before .before .before .before .before .before .before .before .before .before .before .before .before .before .before .before .before .before .before .before .before .args .vis .now) (c .before .before .before .before .before .before .before .before .before .before .raise .last .0) (c .before .before .before .before .before .before .before .before .before .before .raise .last .1 .0) (c .before .before .before .before .before .node .last .1 .1 .1 .1 .1 .1 .0) (c .before .before .before .before .before .before .before .before .before .before .raise .ensures) (c .before .before .before .before .before .node .ensures .kept .visits); long = c .before .before .before .before .before .node .ensures .kept .long ∙ c .before .before .before .before .before .before .before .before .before .before .raise .kept .1 .0 } })
+    (λ c κs. (omega (arith, c .before .before .before .before .before .before .before .before .before .before .before .before .before .before .before .before .before .before .before .before .before .before .before .before .before .before .before .pre .0), branch-child (c .before .before .before .before .before .before .before .before .before .before .before .before .before .before .before .before .real .last .1 .1 .1 .1 .1 .0) (c .before .before .before .before .before .raise .last .0) (c .before .before .before .before .before .raise .last .1 .0) (c .before .before .before .before .before .before .before .before .before .before .before .before .before .before .before .before .before .before .before .before .before .before .before .before .before .before .before .args .out .now) [] (c .before .before .before .before .before .before .before .before .before .column .result) 0 (c .before .before .before .before .before .before .before .before .before .before .before .before .before .before .before .before .before .before .before .before .before .before .before .first-in .result) (c .before .before .before .before .before .before .before .before .before .before .before .before .before .before .before .before .real .ensures) (c .before .before .before .before .before .before .before .before .before .column .ensures) (c .before .before .before .before .before .raise .ensures) (c .before .before .before .before .before .raise .kept .0) (c .before .before .before .before .before .raise .kept .1 .0) (omega (arith, c .before .before .before .before .before .before .before .before .before .before .before .before .before .before .before .before .before .before .before .before .before .if3 .left)) (c .before .before .before .before .before .before .before .before .before .before .before .before .before .before .before .before .before .before .before .before .before .before .before .before .before .before .before .pre .1) (c .before .before .before .before .if4 .left)))
     (λ c κs. (c .before .before .before .before .before .before .before .before .before .before .before .before .before .before .before .before .before .before .before .before .before .before .before .before .before .before .before .before .before .before .before .before .pre .1 .few, omega (arith, c .before .before .before .before .before .before .before .before .before .before .before .before .before .before .before .before .before .before .before .before .before .before .before .before .before .before .before .before .before .before .before .before .pre .1 .cursors, c .before .before .before .before .before .before .before .before .before .before .raise .kept .0, ap length (c .before .before .before .before .branch .ensures .kept .cursors)), λ r l e. lower-ok _ _ _ _ _ _ _ _ (c .before .before .before .before .before .before .before .before .before .before .raise .ensures) (c .before .before .before .before .branch .ensures .kept .cursors) r l e))
     (λ c. c .before .before .before .before .before .branch .kept .1 .1 .1 .1 .1 .1 .1 .1 .1 .1 .1 .0)
-    (λ c. record { wrote = (λ g fuel h. branch-result (c .before .before .before .before .before .before .before .before .before .before .before .before .before .before .before .before .before .before .before .before .before .before .real .last .1 .1 .1 .1 .1 .0) (c .before .before .before .before .before .before .before .before .before .before .before .raise .last .0) (c .before .before .before .before .before .before .before .before .before .before .before .raise .last .1 .0) (c .before .before .before .before .before .before .before .before .before .before .before .before .before .before .before .before .before .before .before .before .before .before .before .before .before .before .before .before .before .before .before .before .before .args .out .now) (c .before .before .before .before .before .branch .last .1 .1 .1 .1 .1 .1 .1 .1 .1 .1 .1 .0) (c .before .before .before .before .before .before .before .before .before .before .before .before .before .before .before .column .result) (c .before .before .before .before .before .branch .result) (c .before .before .before .before .before .before .before .before .before .before .before .before .before .before .before .before .before .before .before .before .before .before .before .before .before .before .before .before .before .first-alive .result) (c .before .before .before .before .before .before .before .before .before .before .before .before .before .before .before .before .before .before .before .before .before .before .real .ensures) (c .before .before .before .before .before .before .before .before .before .before .before .before .before .before .before .column .ensures) (c .before .before .before .before .before .before .before .before .before .before .before .raise .ensures) (c .before .before .before .before .before .before .before .before .before .before .before .raise .kept .0) (c .before .before .before .before .before .before .before .before .before .before .before .raise .kept .1 .0) (omega (arith, c .before .before .before .before .before .before .before .before .before .before .before .before .before .before .before .before .before .before .before .before .before .before .before .before .before .before .before .if3 .left)) g fuel (c .before .before .before .before .before .before .before .before .before .before .if4 .left) (omega (arith, c .before .before .before .before .before .before .before .before .before .before .before .before .before .before .before .before .before .before .before .before .before .before .before .before .before .before .before .before .before .first-alive .ensures .most, c .before .before .before .before .before .before .before .before .before .before .before .before .before .before .before .before .before .before .before .before .before .before .before .before .before .before .before .before .if2 .left)) (c .before .before .before .before .before .before .before .before .before .before .before .before .before .before .before .before .before .before .before .before .before .before .before .before .before .before .before .before .before .first-alive .ensures) h (c .before .before .before .before .before .branch .ensures .wrote)); kept = record { cursors = restored _ _ _ _ _ _ _ _ _ (c .before .before .before .before .before .before .before .before .before .before .before .raise .ensures) (c .before .before .before .before .before .branch .ensures .kept .cursors) (c .lower2 .ensures) (c .lower2 .kept .0 ∙ ap length (c .before .before .before .before .before .branch .ensures .kept .cursors) ∙ c .before .before .before .before .before .before .before .before .before .before .before .raise .kept .0); visits = kept-through (c .before .before .before .before .before .before .before .before .before .before .before .before .before .before .before .before .before .before .before .before .before .before .before .before .before .before .before .before .before .before .before .before .before .args .n) (c .before .before .before .before .before .before .before .before .before .before .before .before .before .before .before .before .before .before .before .before .before .before .before .before .before .before .before .before .before .before .before .before .before .args .v) (member (c .before .before .before .before .before .before .before .before .before .before .before .before .before .before .before .before .before .before .before .before .before .before .real .last .1 .1 .1 .1 .1 .0)) (c .before .before .before .before .before .before .before .before .before .before .before .before .before .before .before .before .before .before .before .before .before .before .before .before .before .before .before .before .before .before .before .before .before .args .cur .now) (c .before .before .before .before .before .before .before .before .before .before .before .before .before .before .before .before .before .before .before .before .before .before .before .before .before .before .before .before .before .before .before .before .before .args .vis .now) (c .before .before .before .before .before .before .before .before .before .before .before .raise .last .0) (c .before .before .before .before .before .before .before .before .before .before .before .raise .last .1 .0) (c .before .before .before .before .before .branch .last .1 .1 .1 .1 .1 .1 .1 .0) (c .before .before .before .before .before .before .before .before .before .before .before .raise .ensures) (c .before .before .before .before .before .branch .ensures .kept .visits); long = c .before .before .before .before .before .branch .ensures .kept .long ∙ c .before .before .before .before .before .before .before .before .before .before .before .raise .kept .1 .0 } })
+    (λ c. record { wrote = (λ g fuel h. branch-result (c .before .before .before .before .before .before .before .before .before .before .before .before .before .before .before .before .before .before .before .before .before .before .real .last .1 .1 .1 .1 .1 .0) (c .before .before .before .before .before .before .before .before .before .before .before .raise .last .0) (c .before .before .before .before .before .before .before .before .before .before .before .raise .last .1 .0) (c .before .before .before .before .before .before .before .before .before .before .before .before .before .before .before .before .before .before .before .before .before .before .before .before .before .before .before .before .before .before .before .before .before .args .out .now) (c .before .before .before .before .before .branch .last .1 .1 .1 .1 .1 .1 .1 .1 .1 .1 .1 .0) (c .before .before .before .before .before .before .before .before .before .before .before .before .before .before .before .column .result) (c .before .before .before .before .before .branch .result) (c .before .before .before .before .before .before .before .before .before .before .before .before .before .before .before .before .before .before .before .before .before .before .before .before .before .before .before .before .before .first-in .result) (c .before .before .before .before .before .before .before .before .before .before .before .before .before .before .before .before .before .before .before .before .before .before .real .ensures) (c .before .before .before .before .before .before .before .before .before .before .before .before .before .before .before .column .ensures) (c .before .before .before .before .before .before .before .before .before .before .before .raise .ensures) (c .before .before .before .before .before .before .before .before .before .before .before .raise .kept .0) (c .before .before .before .before .before .before .before .before .before .before .before .raise .kept .1 .0) (omega (arith, c .before .before .before .before .before .before .before .before .before .before .before .before .before .before .before .before .before .before .before .before .before .before .before .before .before .before .before .if3 .left)) g fuel (c .before .before .before .before .before .before .before .before .before .before .if4 .left) (omega (arith, c .before .before .before .before .before .before .before .before .before .before .before .before .before .before .before .before .before .before .before .before .before .before .before .before .before .before .before .before .before .first-in .ensures .most, c .before .before .before .before .before .before .before .before .before .before .before .before .before .before .before .before .before .before .before .before .before .before .before .before .before .before .before .before .if2 .left)) (c .before .before .before .before .before .before .before .before .before .before .before .before .before .before .before .before .before .before .before .before .before .before .before .before .before .before .before .before .before .first-in .ensures) h (c .before .before .before .before .before .branch .ensures .wrote)); kept = record { cursors = restored _ _ _ _ _ _ _ _ _ (c .before .before .before .before .before .before .before .before .before .before .before .raise .ensures) (c .before .before .before .before .before .branch .ensures .kept .cursors) (c .lower2 .ensures) (c .lower2 .kept .0 ∙ ap length (c .before .before .before .before .before .branch .ensures .kept .cursors) ∙ c .before .before .before .before .before .before .before .before .before .before .before .raise .kept .0); visits = kept-through (c .before .before .before .before .before .before .before .before .before .before .before .before .before .before .before .before .before .before .before .before .before .before .before .before .before .before .before .before .before .before .before .before .before .args .n) (c .before .before .before .before .before .before .before .before .before .before .before .before .before .before .before .before .before .before .before .before .before .before .before .before .before .before .before .before .before .before .before .before .before .args .v) (member (c .before .before .before .before .before .before .before .before .before .before .before .before .before .before .before .before .before .before .before .before .before .before .real .last .1 .1 .1 .1 .1 .0)) (c .before .before .before .before .before .before .before .before .before .before .before .before .before .before .before .before .before .before .before .before .before .before .before .before .before .before .before .before .before .before .before .before .before .args .cur .now) (c .before .before .before .before .before .before .before .before .before .before .before .before .before .before .before .before .before .before .before .before .before .before .before .before .before .before .before .before .before .before .before .before .before .args .vis .now) (c .before .before .before .before .before .before .before .before .before .before .before .raise .last .0) (c .before .before .before .before .before .before .before .before .before .before .before .raise .last .1 .0) (c .before .before .before .before .before .branch .last .1 .1 .1 .1 .1 .1 .1 .0) (c .before .before .before .before .before .before .before .before .before .before .before .raise .ensures) (c .before .before .before .before .before .branch .ensures .kept .visits); long = c .before .before .before .before .before .branch .ensures .kept .long ∙ c .before .before .before .before .before .before .before .before .before .before .before .raise .kept .1 .0 } })

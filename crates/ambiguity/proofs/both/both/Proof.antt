@@ -3,7 +3,7 @@ use mathlib.Core.Path.{refl}
 use native.Mathlib.Omega.{arith}
 use Rattle.sets.specs.Heads.{number-of}
 use borrow.Author.Needs.{needs}
-use Rattle.ambiguity.proofs.Two.{kind-small, few-of-kind, full-so, first-given, first-bounds, second-given, lists-at, two-lists, answered}
+use Rattle.ambiguity.proofs.Two.{kind-small, few-of-kind, full-so, first-given, first-bounds, second-given, two-lists, answered}
 use Rattle.ambiguity.proofs.both.both.Statement.{statement}
 use Rattle.ambiguity.proofs.both.both.Tie as tie
 
@@ -26,7 +26,7 @@ both-spec =
     (λ c. omega (arith, first-bounds (c .before .before .before .before .before .before .before .before .before .before .before .before .before .before .before .pre) (number-of (c .before .before .before .before .before .before .before .before .before .full .result)) (full-so (c .before .before .before .before .before .before .before .before .before .before .before .before .before .before .before .args .t .now) (c .before .before .before .before .before .before .before .before .before .before .before .before .before .before .before .args .k) (number-of (c .before .before .before .before .before .before .before .before .before .full .result)) (c .before .before .before .before .before .before .before .before .before .before .count-of .result) (c .before .before .before .before .before .before .before .before .before .before .count-of .ensures) (c .before .before .before .before .before .before .before .before .before .full .ensures)) (c .before .before .before .before .before .before .rows .result .used) (c .before .before .before .before .before .before .rows .result .read) (c .before .before .before .before .before .before .rows .last .1 .1 .1 .1 .1 .0) (c .before .before .before .before .before .before .rows .ensures) .1))
     (λ c. search needs)
     (λ c κs. second-given (c .before .before .before .before .before .before .before .before .before .before .before .before .before .before .before .before .before .pre) (number-of (c .before .before .before .before .before .before .before .before .before .before .before .full .result)) (full-so (c .before .before .before .before .before .before .before .before .before .before .before .before .before .before .before .before .before .args .t .now) (c .before .before .before .before .before .before .before .before .before .before .before .before .before .before .before .before .before .args .k) (number-of (c .before .before .before .before .before .before .before .before .before .before .before .full .result)) (c .before .before .before .before .before .before .before .before .before .before .before .before .count-of .result) (c .before .before .before .before .before .before .before .before .before .before .before .before .count-of .ensures) (c .before .before .before .before .before .before .before .before .before .before .before .full .ensures)) (c .before .before .before .before .before .before .before .before .rows .result .used) (c .before .before .before .before .before .before .before .before .rows .result .read) (c .before .before .before .before .before .before .before .before .rows .last .1 .1 .1 .1 .1 .0) (c .before .before .before .before .before .before .before .before .rows .ensures) _ _ (c .before .before .before .before .before .before .before .before .rows .kept .1 .1 .1 .1 .1 .0) refl (c .before .before .before .before .before .before .before .before .rows .kept .1 .1 .1 .1 .1 .1 .0))
-    (λ c κs. (lists-at (c .before .before .before .before .before .before .before .before .before .before .before .before .before .before .before .before .before .before .before .before .before .before .before .pre) (number-of (c .before .before .before .before .before .before .before .before .before .before .before .before .before .before .before .before .before .full .result)) (full-so (c .before .before .before .before .before .before .before .before .before .before .before .before .before .before .before .before .before .before .before .before .before .before .before .args .t .now) (c .before .before .before .before .before .before .before .before .before .before .before .before .before .before .before .before .before .before .before .before .before .before .before .args .k) (number-of (c .before .before .before .before .before .before .before .before .before .before .before .before .before .before .before .before .before .full .result)) (c .before .before .before .before .before .before .before .before .before .before .before .before .before .before .before .before .before .before .count-of .result) (c .before .before .before .before .before .before .before .before .before .before .before .before .before .before .before .before .before .before .count-of .ensures) (c .before .before .before .before .before .before .before .before .before .before .before .before .before .before .before .before .before .full .ensures)) (c .before .before .before .before .before .before .before .before .before .before .before .before .before .before .rows .result .used) (c .before .before .before .before .before .before .before .before .before .before .before .before .before .before .rows .result .read) (c .before .before .before .before .before .before .before .before .before .before .before .before .before .before .rows .last .1 .1 .1 .1 .1 .0) (c .before .before .before .before .before .before .before .before .before .before .before .before .before .before .rows .ensures) _ _ (c .before .before .before .before .before .rows2 .result .used) (c .before .before .before .before .before .rows2 .result .read) (c .before .before .before .before .before .before .before .before .before .before .before .before .before .before .rows .kept .1 .1 .1 .1 .1 .0) refl (c .before .before .before .before .before .before .before .before .before .before .before .before .before .before .rows .kept .1 .1 .1 .1 .1 .1 .0) (c .before .before .before .before .before .rows2 .last .1 .1 .1 .1 .1 .0) (c .before .before .before .before .before .rows2 .ensures), two-lists (c .before .before .before .before .before .before .before .before .before .before .before .before .before .before .before .before .before .before .before .before .before .before .before .pre) (number-of (c .before .before .before .before .before .before .before .before .before .before .before .before .before .before .before .before .before .full .result)) (full-so (c .before .before .before .before .before .before .before .before .before .before .before .before .before .before .before .before .before .before .before .before .before .before .before .args .t .now) (c .before .before .before .before .before .before .before .before .before .before .before .before .before .before .before .before .before .before .before .before .before .before .before .args .k) (number-of (c .before .before .before .before .before .before .before .before .before .before .before .before .before .before .before .before .before .full .result)) (c .before .before .before .before .before .before .before .before .before .before .before .before .before .before .before .before .before .before .count-of .result) (c .before .before .before .before .before .before .before .before .before .before .before .before .before .before .before .before .before .before .count-of .ensures) (c .before .before .before .before .before .before .before .before .before .before .before .before .before .before .before .before .before .full .ensures)) (c .before .before .before .before .before .before .before .before .before .before .before .before .before .before .rows .result .used) (c .before .before .before .before .before .before .before .before .before .before .before .before .before .before .rows .result .read) (c .before .before .before .before .before .before .before .before .before .before .before .before .before .before .rows .last .1 .1 .1 .1 .1 .0) (c .before .before .before .before .before .before .before .before .before .before .before .before .before .before .rows .ensures) _ _ (c .before .before .before .before .before .rows2 .result .used) (c .before .before .before .before .before .rows2 .result .read) (c .before .before .before .before .before .before .before .before .before .before .before .before .before .before .rows .kept .1 .1 .1 .1 .1 .0) refl (c .before .before .before .before .before .before .before .before .before .before .before .before .before .before .rows .kept .1 .1 .1 .1 .1 .1 .0) (c .before .before .before .before .before .rows2 .last .1 .1 .1 .1 .1 .0) (c .before .before .before .before .before .rows2 .ensures)))
+    (λ c κs. let e = c .before .before .before .before .before .before .before .before .before .before .before .before .before .before .before .before .before .before .before .before .before .before .before .before in let f = c .before .before .before .before .before .before .before .before .before .before .before .before .before .before .before .before .before .before .full in let n = c .before .before .before .before .before .before .before .before .before .before .before .before .before .before .before .before .before .before .before .count-of in let r = c .before .before .before .before .before .before .before .before .before .before .before .before .before .before .before .rows in let s = c .before .before .before .before .before .before .rows2 in two-lists (e .pre) (number-of (f .result)) (full-so (e .args .t .now) (e .args .k) (number-of (f .result)) (n .result) (n .ensures) (f .ensures)) (r .result .used) (r .result .read) (r .last .1 .1 .1 .1 .1 .0) (r .ensures) _ _ (s .result .used) (s .result .read) (r .kept .1 .1 .1 .1 .1 .0) refl (r .kept .1 .1 .1 .1 .1 .1 .0) (s .last .1 .1 .1 .1 .1 .0) (s .ensures) _ (s .kept .1 .1 .1 .1 .1 .1 .0))
     (λ c. search needs)
     (λ c. search needs)
-    (λ c g. answered g (number-of (c .before .before .before .before .before .before .before .before .before .before .before .before .before .before .before .before .before .before .full .result)) (full-so (c .before .before .before .before .before .before .before .before .before .before .before .before .before .before .before .before .before .before .before .before .before .before .before .before .args .t .now) (c .before .before .before .before .before .before .before .before .before .before .before .before .before .before .before .before .before .before .before .before .before .before .before .before .args .k) (number-of (c .before .before .before .before .before .before .before .before .before .before .before .before .before .before .before .before .before .before .full .result)) (c .before .before .before .before .before .before .before .before .before .before .before .before .before .before .before .before .before .before .before .count-of .result) (c .before .before .before .before .before .before .before .before .before .before .before .before .before .before .before .before .before .before .before .count-of .ensures) (c .before .before .before .before .before .before .before .before .before .before .before .before .before .before .before .before .before .before .full .ensures)) (c .before .before .before .before .before .before .before .before .before .before .before .before .before .before .before .rows .result .used) (c .before .before .before .before .before .before .before .before .before .before .before .before .before .before .before .rows .result .read) (c .before .before .before .before .before .before .before .before .before .before .before .before .before .before .before .rows .last .1 .1 .1 .1 .1 .0) (c .before .before .before .before .before .before .before .before .before .before .before .before .before .before .before .rows .ensures) _ _ (c .before .before .before .before .before .before .rows2 .result .used) (c .before .before .before .before .before .before .rows2 .result .read) (c .before .before .before .before .before .before .before .before .before .before .before .before .before .before .before .rows .kept .1 .1 .1 .1 .1 .0) refl (c .before .before .before .before .before .before .before .before .before .before .before .before .before .before .before .rows .kept .1 .1 .1 .1 .1 .1 .0) (c .before .before .before .before .before .before .rows2 .last .1 .1 .1 .1 .1 .0) (c .before .before .before .before .before .before .rows2 .ensures) _ (c .meet-at .ensures)))
+    (λ c g. let e = c .before .before .before .before .before .before .before .before .before .before .before .before .before .before .before .before .before .before .before .before .before .before .before .before .before .before .before in let f = c .before .before .before .before .before .before .before .before .before .before .before .before .before .before .before .before .before .before .before .before .before .full in let n = c .before .before .before .before .before .before .before .before .before .before .before .before .before .before .before .before .before .before .before .before .before .before .count-of in let r = c .before .before .before .before .before .before .before .before .before .before .before .before .before .before .before .before .before .before .rows in let s = c .before .before .before .before .before .before .before .before .before .rows2 in answered g (number-of (f .result)) (full-so (e .args .t .now) (e .args .k) (number-of (f .result)) (n .result) (n .ensures) (f .ensures)) (r .result .used) (r .result .read) (r .last .1 .1 .1 .1 .1 .0) (r .ensures) _ _ (s .result .used) (s .result .read) (r .kept .1 .1 .1 .1 .1 .0) refl (r .kept .1 .1 .1 .1 .1 .1 .0) (s .last .1 .1 .1 .1 .1 .0) (s .ensures) _ (s .kept .1 .1 .1 .1 .1 .1 .0) _ (c .before .before .meet-at .ensures)))

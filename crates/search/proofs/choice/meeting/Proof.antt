@@ -3,7 +3,7 @@ use mathlib.Core.Path.{_≡_, sym, _∙_}
 use Prim.Native.Nat.{_-_, _≤_}
 use native.Mathlib.Omega.{arith}
 use lib.ListN.{length}
-use Rattle.path.specs.Alive.{set-words}
+use Rattle.rowset.specs.Member.{set-words}
 use Rattle.search.specs.Choice.{GivenMeeting, Meeting}
 use Rattle.search.proofs.ChoiceFacts.{meeting-more}
 use Rattle.search.proofs.choice.meeting.Statement.{statement}

@@ -22,7 +22,7 @@ use Rattle.search.proofs.node.+leave+node.Lts-leave as leave-lts
 use Rattle.search.proofs.node.node.Reads as node
 use Rattle.search.proofs.node.node.Kinds as node-kinds
 use Rattle.search.proofs.node.+leave+node.Lts-node as node-lts
-use Rattle.path.proofs.alive.put.Reads as put-reads
+use Rattle.rowset.proofs.set.put.Reads as put-reads
 use Rattle.path.proofs.rows.start_of.Reads as start-of-reads
 use Rattle.search.proofs.hint.best.Reads as best-reads
 use Rattle.search.proofs.look.look.Reads as look-reads

@@ -10,11 +10,10 @@ pub search-spec : {M : Type 1} → statement M
 search-spec =
     tie.close
     (tie.spec
-    (λ c. search needs)
-    (λ c κs. (c .before .before .before .before .before .pre .0 .few, refl))
-    (λ c. search needs)
+    (λ c κs. c .before .before .before .before .pre .0 .few)
     (λ c. search needs)
     (λ c. search needs)
-    (λ c κs. to-root (c .before .before .before .before .before .before .before .before .before .before .before .before .pre .0) _ _ _ _ _ (c .before .before .before .before .before .before .first-rows .ensures) refl (omega arith) (omega arith) (c .before .before .before .before .before .before .before .before .before .before .before .before .pre .1))
     (λ c. search needs)
-    (λ c g. root-found (c .before .before .before .before .before .node .ensures (to-root g _ _ _ _ _ (c .before .before .before .before .before .before .before .before .before .before .before .before .first-rows .ensures) refl (omega arith) (omega arith) (c .before .before .before .before .before .before .before .before .before .before .before .before .before .before .before .before .before .before .pre .1)))))
+    (λ c κs. to-root (c .before .before .before .before .before .before .before .before .before .before .pre .0) _ _ _ _ _ (c .before .before .before .before .before .first-rows .ensures) refl (omega arith) (omega arith) (c .before .before .before .before .before .before .before .before .before .before .pre .1))
+    (λ c. search needs)
+    (λ c g. root-found (c .before .before .before .before .before .node .ensures (to-root g _ _ _ _ _ (c .before .before .before .before .before .before .before .before .before .before .before .first-rows .ensures) refl (omega arith) (omega arith) (c .before .before .before .before .before .before .before .before .before .before .before .before .before .before .before .before .pre .1)))))

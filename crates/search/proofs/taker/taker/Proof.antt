@@ -4,7 +4,7 @@ use mathlib.Core.Bool.{true, false}
 use Prim.Native.Nat.{ℕ, _-_, _≤_, _<_}
 use native.Mathlib.Omega.{arith}
 use Rattle.row.specs.RowFits.{row-fits}
-use Rattle.path.specs.Alive.{member}
+use Rattle.rowset.specs.Member.{member}
 use Rattle.search.specs.Branch.{row-at}
 use Rattle.search.specs.Choice.{GivenTaker}
 use Rattle.search.proofs.ChoiceFacts.{none-more, taker-at, taker-none}

@@ -24,12 +24,12 @@ in-front c g = let l = c .before .loop in turn g _ (l .at) (l .left) (l .m) (l .
 here : (c : tie.In-loop Inv-loop μ-loop) → let l = c .before .loop in let e = entry (c .before) in Turn (e .pre) (e .args .opened) (l .at) (l .left) (l .m)
 here c = in-front c (entry (c .before) .pre)
 
-abbrev open-in : tie.After-part-words Inv-loop μ-loop → tie.In-loop Inv-loop μ-loop
-open-in c = c .before .before .before .before .before
+abbrev open-in : tie.After-part-end Inv-loop μ-loop → tie.In-loop Inv-loop μ-loop
+open-in c = c .before .before .before .before
 
 -- a cell that is not kept is passed with all below it
-passed : (c : tie.After-part-words Inv-loop μ-loop) → let l = open-in c .before .loop in let e = entry (open-in c .before) in (g : GivenRow (e .args .t .now) (e .args .row .now)) → Now g (e .args .opened) (l .at + c .part-words .result) (l .left - 1) (c .before .before .with .result)
-passed c g = in-front (open-in c) g .open-turn _ _ (sym (c .before .before .before .before .has .ensures) ∙ c .before .before .before .if1 .taken) (c .before .before .with .ensures) (c .part-words .ensures)
+passed : (c : tie.After-part-end Inv-loop μ-loop) → let l = open-in c .before .loop in let e = entry (open-in c .before) in (g : GivenRow (e .args .t .now) (e .args .row .now)) → Now g (e .args .opened) (c .part-end .result) (l .left - 1) (c .before .with .result)
+passed c g = in-front (open-in c) g .open-turn _ _ (sym (c .before .before .before .has .ensures) ∙ c .before .before .if1 .taken) (c .before .with .ensures) (c .part-end .ensures)
 
 abbrev kept-in : tie.After-opens Inv-loop μ-loop → tie.In-loop Inv-loop μ-loop
 kept-in c = c .before .before .before .before
@@ -39,7 +39,7 @@ entered : (c : tie.After-opens Inv-loop μ-loop) → let l = kept-in c .before .
 entered c g = in-front (kept-in c) g .kept-turn _ _ (sym (c .before .before .before .has .ensures) ∙ c .before .before .if1 .left) (c .before .cell-at .ensures) (c .opens .ensures)
 
 -- there are no more rows to come than words
-past-few : (c : tie.After-part-words Inv-loop μ-loop) → let l = open-in c .before .loop in l .at + c .part-words .result + (l .left - 1) ≤ length (entry (open-in c .before) .args .row .now)
+past-few : (c : tie.After-part-end Inv-loop μ-loop) → let l = open-in c .before .loop in c .part-end .result + (l .left - 1) ≤ length (entry (open-in c .before) .args .row .now)
 past-few c = few _ _ _ _ _ (passed c (entry (open-in c .before) .pre))
 
 in-few : (c : tie.After-opens Inv-loop μ-loop) → let l = kept-in c .before .loop in l .at + 3 + (l .left - 1 + c .opens .result) ≤ length (entry (kept-in c .before) .args .row .now)
@@ -55,14 +55,9 @@ frontier-spec =
     (λ c. omega (arith, here c .small))
     (λ c κs. here c .small)
     (λ c κs. here (c .before .before) .small)
-    (λ c. omega (arith, here (c .before .before .before) .see, entry (c .before .before .before .before) .good))
-    (λ c. omega (arith, here (c .before .before .before) .see))
-    (λ c. omega (arith, here (c .before .before .before) .see))
+    (λ c κs. here (c .before .before .before) .given)
     (λ c. omega arith)
-    (λ c κs. here (c .before .before .before .before) .given)
-    (λ c. omega (arith, past-few c, entry (open-in c .before) .good))
-    (λ c. omega arith)
-    (λ c. omega (arith, past-few c, here (open-in c) .some (c .part-words .result) (c .part-words .ensures)))
+    (λ c. omega (arith, past-few c, here (open-in c) .some (c .part-end .result) (c .part-end .ensures)))
     (λ c g. passed c g)
     (λ c κs. here (c .before .before) .see)
     (λ c. omega arith)

@@ -25,16 +25,16 @@ in-front c g = let l = c .before .loop in turn g _ _ (l .at) (l .n) (l .todo) (l
 here : (c : tie.In-loop Inv-loop μ-loop) → let l = c .before .loop in let e = entry (c .before) in Turn (e .pre) (e .args .opened) (e .args .left) (l .at) (l .n) (l .todo) (l .out)
 here c = in-front c (entry (c .before) .pre)
 
-abbrev open-in : tie.After-part-words Inv-loop μ-loop → tie.In-loop Inv-loop μ-loop
-open-in c = c .before .before .before .before .before .before .before .before .before .before .before .before
+abbrev open-in : tie.After-part-end Inv-loop μ-loop → tie.In-loop Inv-loop μ-loop
+open-in c = c .before .before .before .before .before .before .before .before .before .before .before
 
 -- a cell that is not kept is written anew, and passed with all below it
-passed : (c : tie.After-part-words Inv-loop μ-loop) → let l = open-in c .before .loop in let e = entry (open-in c .before) in (g : GivenView (e .args .t .now) (e .args .row .now) (e .args .out .now))
-    → Now g (e .args .opened) (e .args .left) (l .at + c .part-words .result) (l .n + 3) (l .todo - 1) (c .before .before .before .before .put .last .0)
+passed : (c : tie.After-part-end Inv-loop μ-loop) → let l = open-in c .before .loop in let e = entry (open-in c .before) in (g : GivenView (e .args .t .now) (e .args .row .now) (e .args .out .now))
+    → Now g (e .args .opened) (e .args .left) (c .part-end .result) (l .n + 3) (l .todo - 1) (c .before .before .before .put .last .0)
 passed c g =
-    let o = c .before .before .before .before .before .before .before .before in
-    subst (Now g _ _ _ _ _) (sym (c .before .before .before .before .put .ensures))
-    (in-front (open-in c) g .open-turn _ _ _ _ (sym (o .before .before .has .ensures) ∙ o .before .if1 .taken) (o .before .before .before .cell-at .ensures) refl (o .outside .ensures) (some-is _ (c .before .before .before .before .before .before .before .is-empty .ensures) (c .before .before .before .before .before .before .if2 .left)) (c .part-words .ensures))
+    let o = c .before .before .before .before .before .before .before in
+    subst (Now g _ _ _ _ _) (sym (c .before .before .before .put .ensures))
+    (in-front (open-in c) g .open-turn _ _ _ _ (sym (o .before .before .has .ensures) ∙ o .before .if1 .taken) (o .before .before .before .cell-at .ensures) refl (o .outside .ensures) (some-is _ (c .before .before .before .before .before .before .is-empty .ensures) (c .before .before .before .before .before .if2 .left)) (c .part-end .ensures))
 
 abbrev kept-in : tie.After-opens Inv-loop μ-loop → tie.In-loop Inv-loop μ-loop
 kept-in c = c .before .before .before .before .before .before .before .before
@@ -47,7 +47,7 @@ entered c g =
     (in-front (kept-in c) g .kept-turn _ _ (sym (c .before .before .before .before .before .before .has .ensures) ∙ c .before .before .before .before .before .if1 .left) (c .before .before .before .before .before .before .before .cell-at .ensures) (c .opens .ensures))
 
 -- there are no more rows to come than words
-past-few : (c : tie.After-part-words Inv-loop μ-loop) → let l = open-in c .before .loop in l .at + c .part-words .result + (l .todo - 1) ≤ length (entry (open-in c .before) .args .row .now)
+past-few : (c : tie.After-part-end Inv-loop μ-loop) → let l = open-in c .before .loop in c .part-end .result + (l .todo - 1) ≤ length (entry (open-in c .before) .args .row .now)
 past-few c = whole _ _ _ _ _ _ _ (passed c (entry (open-in c .before) .pre)) .1
 
 in-few : (c : tie.After-opens Inv-loop μ-loop) → let l = kept-in c .before .loop in l .at + 3 + (l .todo - 1 + c .opens .result) ≤ length (entry (kept-in c .before) .args .row .now)
@@ -69,15 +69,10 @@ view-spec =
     (λ c g. let o = c .before .before in out-at g _ _ _ (in-front (c .before .before .before .before .before .before) g .none-there _ _ _ (sym (o .before .before .has .ensures) ∙ o .before .if1 .taken) (o .before .before .before .cell-at .ensures) refl (o .outside .ensures) (empty-is _ (c .before .is-empty .ensures) (c .if2 .taken))))
     (λ c κs. let o = c .before .before .before in let i = o .before .before .before .before in (omega (arith, here i .room, i .before .loop .inv .0), here i .tag-fits _ _ _ (o .before .before .before .cell-at .ensures) (o .outside .ensures)))
     (λ c. omega (arith, here (c .before .before .before .before .before .before .before .before .before .before) .room, entry (c .before .before .before .before .before .before .before .before .before .before .before) .good))
-    (λ c. omega (arith, here (c .before .before .before .before .before .before .before .before .before .before) .see, entry (c .before .before .before .before .before .before .before .before .before .before .before) .good))
-    (λ c. omega (arith, here (c .before .before .before .before .before .before .before .before .before .before) .see))
-    (λ c. omega (arith, here (c .before .before .before .before .before .before .before .before .before .before) .see))
+    (λ c κs. here (c .before .before .before .before .before .before .before .before .before .before) .given)
     (λ c. omega arith)
-    (λ c κs. here (c .before .before .before .before .before .before .before .before .before .before .before) .given)
-    (λ c. omega (arith, past-few c, entry (open-in c .before) .good))
-    (λ c. omega arith)
-    (λ c. omega (arith, past-few c, here (open-in c) .some (c .part-words .result) (c .part-words .ensures)))
-    (λ c. (c .before .before .before .before .put .kept .0 ∙ open-in c .before .loop .inv .0, λ g. passed c g))
+    (λ c. omega (arith, past-few c, here (open-in c) .some (c .part-end .result) (c .part-end .ensures)))
+    (λ c. (c .before .before .before .put .kept .0 ∙ open-in c .before .loop .inv .0, λ g. passed c g))
     (λ c κs. let i = c .before .before .before .before in (omega (arith, here i .room, i .before .loop .inv .0), read-fits (entry (i .before) .args .row .now) (λ j. i .before .before .before .shared-slice-known2 .given j .fits) _ _ (c .before .before .before .cell-at .ensures)))
     (λ c. omega (arith, here (c .before .before .before .before .before .before .before) .room, entry (c .before .before .before .before .before .before .before .before) .good))
     (λ c. omega arith)

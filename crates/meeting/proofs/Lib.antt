@@ -1,0 +1,9 @@
+pub mod ClassLaws
+pub mod Descending
+pub mod Ending
+pub mod Gathering
+pub mod Notes
+pub mod Pairs
+pub mod Reading
+pub mod Listing
+pub mod Laws

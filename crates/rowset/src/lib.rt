@@ -1,0 +1,2 @@
+// Sets of rows.
+pub mod set;
