@@ -93,6 +93,30 @@ fn heaviest() -> Case {
     Case { name: "heaviest", signature, rules, bookings }
 }
 
+/// 64 rules of 60 words and four rows each: a rule excludes a head of its own at each of 21 places, at the first one of four, and
+/// names its own at the last. The tree is too large.
+fn own_exclusions() -> Case {
+    const GROUPS: u16 = 7;
+    let sixty_four: Vec<&[u16]> = vec![&[]; 64];
+    // kind 0: 0 (three places and the next), 1 (the last place), 2; kind 1: 3 to 66
+    let signature = signature(&[&[&[1, 1, 1, 0], &[1], &[]], &sixty_four]);
+    let head = |n: u16| 3 + n % 64;
+    let chain = |at: &dyn Fn(u16) -> Vec<u16>, last: u16| -> Vec<u16> {
+        let group = |g: u16| [vec![0], at(3 * g), at(3 * g + 1), at(3 * g + 2)].concat();
+        (0..GROUPS).flat_map(group).chain([1, last]).collect()
+    };
+    let mut rules = vec![];
+    let mut bookings = vec![];
+    for i in 0..64 {
+        let one_of_four = [vec![257; 3], (0..4).flat_map(|j| [260, head(i + 16 * j)]).collect()].concat();
+        let pattern = chain(&|place| if place == 0 { one_of_four.clone() } else { vec![260, head(i + place)] }, head(i));
+        assert_eq!(pattern.len(), 60);
+        rules.push((1 + i, i, pattern));
+        bookings.push(chain(&|place| vec![head(i + place + 1)], head(i)));
+    }
+    Case { name: "64 rules, own exclusions", signature, rules, bookings }
+}
+
 /// The deepest path that was found: 64 rules of 63 words, each with a chain of its own. The tree is too large.
 fn deepest() -> Case {
     let sixty_four: Vec<&[u16]> = vec![&[]; 64];
@@ -125,7 +149,7 @@ fn deepest() -> Case {
 }
 
 pub fn cases() -> Vec<Case> {
-    vec![grid("2 rules", 2), grid("10 rules", 10), grid("64 rules", 64), heaviest(), deepest()]
+    vec![grid("2 rules", 2), grid("10 rules", 10), grid("64 rules", 64), own_exclusions(), heaviest(), deepest()]
 }
 
 /// Boxes of ten ranges, made by cutting them one after the other; of each, two places that are whole are an "or" of two

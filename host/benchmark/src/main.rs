@@ -57,7 +57,7 @@ fn times(rounds: usize) {
     println!("| call | table | library | prototype | ratio | first-match list | ratio | sum of words | ratio |");
     println!("|---|---|---|---|---|---|---|---|---|");
     let all = cases();
-    for c in all.iter().filter(|c| !c.bookings.is_empty()) {
+    for c in all.iter().filter(|c| !c.bookings.is_empty() && tree(c).is_some()) {
         run(c, rounds);
     }
     run(&long(), rounds);
@@ -190,12 +190,17 @@ fn stepped(c: &Case, rounds: usize) {
     println!("| {} | {step:.2} ns | {inside:.2} ns | {:.2} |", c.name, step / inside);
 }
 
-fn compiled(c: &Case) -> Vec<u16> {
+/// The tree of a table, where it is not too large.
+fn tree(c: &Case) -> Option<Vec<u16>> {
     let mut space = vec![0; 32768];
     let t = raw::compile(&c.signature, &c.table(c.rules.len()), &mut space);
-    assert_eq!(t.number, 0, "{}", c.name);
+    assert!(t.number == 0 || t.number == 14, "{}", c.name);
     space.truncate(t.length);
-    space
+    (t.number == 0).then_some(space)
+}
+
+fn compiled(c: &Case) -> Vec<u16> {
+    tree(c).expect(c.name)
 }
 
 fn words_a_booking(bookings: &[Vec<u16>]) -> usize {

@@ -6,6 +6,7 @@ pub mod compare;
 pub mod gap;
 pub mod instance;
 pub mod json;
+pub mod pairs;
 pub mod pattern;
 pub mod random;
 pub mod replans;

@@ -1,5 +1,5 @@
 //! The test data of the gate's programs `calls`, `runs`, `steps` and `logs`: words of 16 bits, the lower byte first. Here as text,
-//! as words, and with the lines that the programs must print. replans.rs has those of `replans`.
+//! as words, and with the lines that the programs must print. replans.rs has those of `replans`, pairs.rs those of `pairs`.
 use crate::calls::{Answer, Model, EMPTIED, TABLE};
 use crate::json::Json;
 use crate::pattern::admitted;

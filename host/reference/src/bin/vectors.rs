@@ -1,12 +1,13 @@
 //! The gate's test data and stored outputs, made again by the reference; host/vectors/README.md says how they hang together.
 //!
-//!     vectors make calls|runs|steps|logs|replans                          the data file, to standard output
-//!     vectors show calls|runs|steps|logs|replans                          the data file of the repository as text
-//!     vectors answer calls|runs|steps|texts|logs|replans|parts|patterns   what the program must print
-//!     vectors text                                                        what the text program prints for standard input
-//!     vectors tally                                                       what the program tally prints for standard input
+//!     vectors make calls|runs|steps|logs|replans|pairs                          the data file, to standard output
+//!     vectors show calls|runs|steps|logs|replans|pairs                          the data file of the repository as text
+//!     vectors answer calls|runs|steps|texts|logs|replans|pairs|parts|patterns   what the program must print
+//!     vectors text                                                              what the text program prints for standard input
+//!     vectors tally                                                             what the program tally prints for standard input
 use reference::instance::Instance;
 use reference::json::Json;
+use reference::pairs::{self, paired, patterns_text};
 use reference::replans::{replan_in, replan_text, replanned, replanned_as, ByHand, Replan};
 use reference::stored::{booking_in, booking_text, booking_words, bookings_of, stepped};
 use reference::stored::{log_in, log_text, log_words, logs_of, tallied};
@@ -76,7 +77,8 @@ fn make(what: &str) -> Vec<u8> {
             cases.extend(records(CHARGES).get("records").list().iter().map(replan_in));
             cases.iter().flat_map(run_words).collect()
         }
-        _ => panic!("calls, runs, steps, logs or replans"),
+        "pairs" => pairs::cases().iter().flat_map(booking_words).collect(),
+        _ => panic!("calls, runs, steps, logs, replans or pairs"),
     };
     to_bytes(&words)
 }
@@ -92,7 +94,8 @@ fn show(what: &str) -> String {
         "steps" => bookings_of(&data(what)).iter().map(booking_text).collect(),
         "logs" => logs_of(&data(what)).iter().map(|log| log_text(log)).collect(),
         "replans" => runs_of(&data(what)).iter().map(replan_text).collect(),
-        _ => panic!("calls, runs, steps, logs or replans"),
+        "pairs" => bookings_of(&data(what)).iter().map(patterns_text).collect(),
+        _ => panic!("calls, runs, steps, logs, replans or pairs"),
     };
     lines.iter().map(|l| format!("{l}\n")).collect()
 }
@@ -128,9 +131,10 @@ fn answer(what: &str) -> String {
             let lines = cases[..by_hand].iter().map(replanned);
             lines.chain(cases[by_hand..].iter().zip(records).map(|(c, r)| replanned_as(c, r))).collect()
         }
+        "pairs" => bookings_of(&data(what)).iter().map(paired).collect(),
         "parts" => by_hand::part_lines(),
         "patterns" => by_hand::pattern_lines(),
-        _ => panic!("calls, runs, steps, texts, logs, replans, parts or patterns"),
+        _ => panic!("calls, runs, steps, texts, logs, replans, pairs, parts or patterns"),
     }
 }
 
