@@ -5,7 +5,7 @@ use mathlib.Core.List.{List, []}
 use mathlib.Core.Bool.{Bool, true, false, not, _&&_, _||_, cond}
 use Prim.Native.Nat.{ℕ, zero, suc, _+_, _-_, _≤_, _<_, min, max}
 use native.Mathlib.Omega.{arith}
-use borrow.Author.Tests.{lt-ltb, le-ltb}
+use borrow.Author.Tests.{ltb-true, ltb-false, lt-ltb, le-ltb}
 use lib.Dec.{eqb, ltb}
 use lib.ListN.{length, getD}
 use Rattle.cell.specs.Cell.{kind-tag}
@@ -24,10 +24,10 @@ use Rattle.cell.specs.Cursor.{cell-at}
 use Rattle.cell.specs.declared.cell.Cell.{Cell}
 use Rattle.rowlist.proofs.Kinded.{kinds-same}
 use Rattle.tree.specs.Tree.{just-one}
-use Rattle.rowset.specs.Member.{member}
+use Rattle.rowset.specs.Member.{member, NextIn}
 use Rattle.path.specs.Standing.{refined-cell, allowed-of}
 use Rattle.path.specs.State.{kept-by, cell-of}
-use Rattle.column.specs.Column.{Seen, RowKind, RowSaw, Looking, Heading, Column, tag-at, allowed-at, edge-by}
+use Rattle.column.specs.Column.{Seen, RowKind, Looking, Heading, Column, tag-at, allowed-at, edge-by}
 
 module _ {t : List ℕ} {tag : ℕ} (g : Seen t tag) where
   -- a kind's number is below 32
@@ -68,46 +68,34 @@ module _ {t : List ℕ} {tag : ℕ} (g : Seen t tag) where
   plain-saw allowed b e h = record { plain = λ l. sym h ∙ e; refines = λ l. absurd (omega arith) }
 
 -- the cell of a row of the set
-pub seen-at : {t a rows : List ℕ} {n : ℕ} {re cur : List ℕ} (g : Looking t a rows n re cur) (r : ℕ) → r < n → member re r ≡ true → Seen t (tag-at a rows cur r)
+abbrev pub seen-at : {t a rows : List ℕ} {n : ℕ} {re cur : List ℕ} (g : Looking t a rows n re cur) (r : ℕ) → r < n → member re r ≡ true → Seen t (tag-at a rows cur r)
 seen-at g r l e = record { known = g .known; k = g .k; there = g .there; is = g .tags r l e }
 
--- the same by the cell that the code reads
-pub seen-from : {t a rows : List ℕ} {n : ℕ} {re cur : List ℕ} (g : Looking t a rows n re cur) (r : ℕ) (c : Cell) → r < n → member re r ≡ true → c ≡ cell-at a (cell-of rows r (getD cur r 0)) → Seen t (c .tag)
-seen-from {t} g r c l e h = subst (λ (x : Cell). Seen t (x .tag)) (sym h) (seen-at g r l e)
-
-pub saw-from : {t a rows : List ℕ} {n : ℕ} {re cur : List ℕ} (g : Looking t a rows n re cur) (r k : ℕ) (c : Cell) → r < n → member re r ≡ true → c ≡ cell-at a (cell-of rows r (getD cur r 0))
-    → ((s : Seen t (c .tag)) → RowKind (s .known .sig) (s .k) (c .tag) (number-of (c .allowed)) k)
-    → RowSaw (member re r) (g .known .sig) (g .k) (tag-at a rows cur r) (allowed-at a rows cur r) k
-unfolding seen-at
-saw-from {t} {a} {rows} {n} {re} {cur} g r k c l e h f = rw e (subst (λ (x : Cell). ((s : Seen t (x .tag)) → RowKind (s .known .sig) (s .k) (x .tag) (number-of (x .allowed)) k)) h f (seen-at g r l e))
-
-pub saw-out : (b : Bool) (sig : Signature) (k tag allowed : ℕ) → b ≡ false → RowSaw b sig k tag allowed kind-limit
-saw-out b sig k tag allowed e = rw e
+-- what the cell that the code reads says
+pub kind-from : (t a rows cur : List ℕ) (r x : ℕ) (c : Cell) → c ≡ cell-at a (cell-of rows r (getD cur r 0)) → ((s : Seen t (c .tag)) → RowKind (s .known .sig) (s .k) (c .tag) (number-of (c .allowed)) x)
+    → (g : Seen t (tag-at a rows cur r)) → RowKind (g .known .sig) (g .k) (tag-at a rows cur r) (allowed-at a rows cur r) x
+kind-from t a rows cur r x c h f = subst (λ (y : Cell). ((s : Seen t (y .tag)) → RowKind (s .known .sig) (s .k) (y .tag) (number-of (y .allowed)) x)) h f
 
 -- no row before r refines the column
 abbrev pub NoneRefines : Signature → List ℕ → List ℕ → List ℕ → List ℕ → ℕ → ℕ → Type 0
 NoneRefines sig a rows re cur k r = (q : ℕ) → q < r → member re q ≡ true → refined-cell sig k (tag-at a rows cur q) (allowed-at a rows cur q) ≡ false
 
-pub none-next : (sig : Signature) (a rows re cur : List ℕ) (k r x : ℕ) → NoneRefines sig a rows re cur k r → RowSaw (member re r) sig k (tag-at a rows cur r) (allowed-at a rows cur r) x → kind-limit ≤ x → NoneRefines sig a rows re cur k (r + 1)
-none-next sig a rows re cur k r x h w l q m e = go (eqb q r) refl
+pub none-next : (sig : Signature) (a rows re cur : List ℕ) (k n r x r′ : ℕ) → NoneRefines sig a rows re cur k r → RowKind sig k (tag-at a rows cur r) (allowed-at a rows cur r) x → kind-limit ≤ x → NextIn re (r + 1) n r′ → NoneRefines sig a rows re cur k r′
+none-next sig a rows re cur k n r x r′ h w l f q m e = go (ltb q r) refl
   where
-    here : (b : Bool) → member re r ≡ b → RowSaw b sig k (tag-at a rows cur r) (allowed-at a rows cur r) x → member re r ≡ true → refined-cell sig k (tag-at a rows cur r) (allowed-at a rows cur r) ≡ false
-    here true i v f = v .plain l
-    here false i v f = true≢false (sym f ∙ i)
+    here : (b : Bool) → eqb q r ≡ b → r ≤ q → refined-cell sig k (tag-at a rows cur q) (allowed-at a rows cur q) ≡ false
+    here true i j = rw (eqb-eq q r i) (w .plain l)
+    here false i j = true≢false (sym e ∙ f .between q (omega (arith, eqb-ne q r i)) m)
 
-    go : (b : Bool) → eqb q r ≡ b → refined-cell sig k (tag-at a rows cur q) (allowed-at a rows cur q) ≡ false
-    go true i = rw (eqb-eq q r i) (here (member re r) refl w (ap (member re) (sym (eqb-eq q r i)) ∙ e))
-    go false i = h q (omega (arith, eqb-ne q r i)) e
+    go : (b : Bool) → ltb q r ≡ b → refined-cell sig k (tag-at a rows cur q) (allowed-at a rows cur q) ≡ false
+    go true i = h q (ltb-true q r i) e
+    go false i = here (eqb q r) refl (ltb-false q r i)
 
 pub column-none : (sig : Signature) (a rows re cur : List ℕ) (n k r : ℕ) → n ≤ r → NoneRefines sig a rows re cur k r → Column sig a rows n re cur k kind-limit
 column-none sig a rows re cur n k r l h = record { plain = λ e q m i. h q (omega arith) i; kind = λ f. absurd (f refl); row = λ f. absurd (f refl) }
 
-pub column-some : (sig : Signature) (a rows re cur : List ℕ) (n k r x : ℕ) → r < n → RowSaw (member re r) sig k (tag-at a rows cur r) (allowed-at a rows cur r) x → x < kind-limit → Column sig a rows n re cur k x
-column-some sig a rows re cur n k r x l w m = go (member re r) refl w
-  where
-    go : (b : Bool) → member re r ≡ b → RowSaw b sig k (tag-at a rows cur r) (allowed-at a rows cur r) x → Column sig a rows n re cur k x
-    go true i v = record { plain = λ e. absurd (omega arith); kind = λ f. v .refines m .0; row = λ f. (r, l, i, v .refines m .1) }
-    go false i v = absurd (omega (arith, v))
+pub column-some : (sig : Signature) (a rows re cur : List ℕ) (n k r x : ℕ) → r < n → member re r ≡ true → RowKind sig k (tag-at a rows cur r) (allowed-at a rows cur r) x → x < kind-limit → Column sig a rows n re cur k x
+column-some sig a rows re cur n k r x l i v m = record { plain = λ e. absurd (omega arith); kind = λ f. v .refines m .0; row = λ f. (r, l, i, v .refines m .1) }
 
 -- the rows that stay alive
 
@@ -172,8 +160,8 @@ module _ (re : ℕ → Bool) (a rows : List ℕ) (q r m : ℕ) where
       go (suc zero) (suc zero) zero p u v = refl
       go (suc zero) (suc zero) (suc zero) p u v = refl
 
-  pub no-edges : re r ≡ false → (j : ℕ) → bit m j ≡ cond (edge-by a rows re q j r) 1 (bit m j)
-  no-edges i j = rw i
+pub no-edge : (re : ℕ → Bool) (a rows : List ℕ) (q j r : ℕ) → re r ≡ false → edge-by a rows re q j r ≡ false
+no-edge re a rows q j r i = rw i
 
 -- one row more
 any-more : (f : ℕ → Bool) (i m : ℕ) → any f (count-up i (suc m)) ≡ (any f (count-up i m) || f (i + m))
@@ -199,6 +187,18 @@ module _ (f : ℕ → ℕ → Bool) where
       go : (b : Bool) → cond b 1 (bit-if (eqb j last-level || any (f j) (count-up 0 r))) ≡ bit-if ((eqb j last-level || any (f j) (count-up 0 r)) || b)
       go true = ap bit-if (sym (or-true (eqb j last-level || any (f j) (count-up 0 r))))
       go false = ap bit-if (sym (or-false (eqb j last-level || any (f j) (count-up 0 r))))
+
+  -- past rows without an edge
+  ends-gap : (d r s : ℕ) → EndsOf r s → ((j q : ℕ) → r ≤ q → q < r + d → f j q ≡ false) → EndsOf (r + d) s
+  ends-gap zero r s h g = let z : r ≡ r + 0 = omega arith in subst (λ (m : ℕ). EndsOf m s) z h
+  ends-gap (suc d) r s h g =
+      let z : (r + 1) + d ≡ r + suc d = omega arith in
+      subst (λ (m : ℕ). EndsOf m s) z (ends-gap d (r + 1) s (ends-next r s s h (λ j. ap (λ (b : Bool). cond b 1 (bit s j)) (sym (g j r (omega arith) (omega arith))))) (λ j q a b. g j q (omega arith) (omega arith)))
+
+  pub ends-past : (r r′ s : ℕ) → r ≤ r′ → EndsOf r s → ((j q : ℕ) → r ≤ q → q < r′ → f j q ≡ false) → EndsOf r′ s
+  ends-past r r′ s l h g =
+      let z : r + (r′ - r) ≡ r′ = omega arith in
+      subst (λ (m : ℕ). EndsOf m s) z (ends-gap (r′ - r) r s h (λ j q a b. g j q a (omega arith)))
 
   pub ends-last : (n r s l m : ℕ) → n ≤ r → r ≤ n → EndsOf r s → ((j : ℕ) → bit l j ≡ cond (ltb j level-count) 1 0) → ((j : ℕ) → bit m j ≡ min (bit s j) (bit l j)) → (j : ℕ) → bit m j ≡ cond (ltb j level-count && (eqb j last-level || any (f j) (count-up 0 n))) 1 0
   ends-last n r s l m p q h g e j =

@@ -11,13 +11,12 @@ use Rattle.signature.specs.Limits.{kind-limit, level-base, last-level}
 use Rattle.signature.specs.Lists.{memb, any, count-up}
 use Rattle.sets.specs.Set.{bit, heads-width}
 use Rattle.signature.specs.Signature.{Signature, heads}
-use Rattle.pattern.specs.Limits.{pattern-limit}
 use Rattle.cell.specs.Cell.{cell-width, kind-tag}
 use Rattle.rowset.specs.Limits.{row-limit}
 use Rattle.tree.specs.Tree.{just-one}
-use Rattle.rowset.specs.Member.{member, FirstIn}
+use Rattle.rowset.specs.Member.{member}
 use Rattle.path.specs.Standing.{refined-cell, tag-of, allowed-of}
-use Rattle.path.specs.State.{cell-of, own-of, row-stride}
+use Rattle.path.specs.State.{cell-of, row-stride}
 
 -- the tags and the heads that the cell of row r at its cursor allows
 abbrev pub tag-at : List ℕ → List ℕ → List ℕ → ℕ → ℕ
@@ -38,11 +37,6 @@ pub record RowKind (sig : Signature) (k tag allowed res : ℕ) : Type 0 where
   pub plain : kind-limit ≤ res → refined-cell sig k tag allowed ≡ false
   pub refines : res < kind-limit → (res ≡ k) × (refined-cell sig k tag allowed ≡ true)
 
--- and at a row, where it is in the set
-abbrev pub RowSaw : Bool → Signature → ℕ → ℕ → ℕ → ℕ → Type 0
-RowSaw true sig k tag allowed res = RowKind sig k tag allowed res
-RowSaw false sig k tag allowed res = res ≡ kind-limit
-
 -- what the look at the column says: its kind, or kind-limit where no real row refines it
 pub record Column (sig : Signature) (a rows : List ℕ) (n : ℕ) (re cur : List ℕ) (k res : ℕ) : Type 0 where
   pub plain : res ≡ kind-limit → (r : ℕ) → r < n → member re r ≡ true → refined-cell sig k (tag-at a rows cur r) (allowed-at a rows cur r) ≡ false
@@ -60,10 +54,11 @@ pub record Looking (t a rows : List ℕ) (n : ℕ) (re cur : List ℕ) : Type 0 
   pub cell : (r : ℕ) → r < n → member re r ≡ true → cell-of rows r (getD cur r 0) + cell-width ≤ length a
   pub tags : (r : ℕ) → r < n → member re r ≡ true → (tag-at a rows cur r ≡ kind-tag + k) ⊎ ((tag-at a rows cur r < kind-tag) × (memb (tag-at a rows cur r) (heads (known .sig) k) ≡ true))
 
--- whoever knows that learns what row r says, and what the column says
-abbrev pub KindOfRow : List ℕ → List ℕ → List ℕ → ℕ → List ℕ → List ℕ → ℕ → ℕ → Type 0
-KindOfRow t a rows n re cur r res = (g : Looking t a rows n re cur) → RowSaw (member re r) (g .known .sig) (g .k) (tag-at a rows cur r) (allowed-at a rows cur r) res
+-- one row has a cell there
+abbrev pub CellThere : List ℕ → List ℕ → List ℕ → ℕ → Type 0
+CellThere a rows cur r = (r < length cur) × (row-stride * r + row-stride ≤ length rows) × (cell-of rows r (getD cur r 0) + cell-width ≤ length a)
 
+-- whoever knows that learns what the column says
 abbrev pub KindOfColumn : List ℕ → List ℕ → List ℕ → ℕ → List ℕ → List ℕ → ℕ → Type 0
 KindOfColumn t a rows n re cur res = (g : Looking t a rows n re cur) → Column (g .known .sig) a rows n re cur (g .k) res
 
@@ -76,8 +71,8 @@ pub record Keeping (a rows : List ℕ) (n : ℕ) (re cur : List ℕ) (j : ℕ) :
   pub cell : (r : ℕ) → r < n → member re r ≡ true → (0 < getD cur r 0) × (cell-of rows r (getD cur r 0 - 1) + cell-width ≤ length a)
 
 -- the same of one row
-abbrev pub KeepingRow : List ℕ → List ℕ → List ℕ → List ℕ → ℕ → ℕ → Type 0
-KeepingRow a rows re cur j r = (r < row-limit) × (r < length cur) × (row-stride * r + row-stride ≤ length rows) × (j < heads-width) × (member re r ≡ true → (0 < getD cur r 0) × (cell-of rows r (getD cur r 0 - 1) + cell-width ≤ length a))
+abbrev pub KeepingRow : List ℕ → List ℕ → List ℕ → ℕ → ℕ → Type 0
+KeepingRow a rows cur j r = (r < row-limit) × (r < length cur) × (row-stride * r + row-stride ≤ length rows) × (j < heads-width) × (0 < getD cur r 0) × (cell-of rows r (getD cur r 0 - 1) + cell-width ≤ length a)
 
 -- a kind that is there
 pub record Heading (t : List ℕ) (k : ℕ) : Type 0 where

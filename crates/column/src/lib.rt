@@ -2,7 +2,10 @@
 use cell::cell::KIND_TAG;
 use path::rows::cell_of;
 use rowset::set::SET_WORDS;
+use rowset::set::copy;
+use rowset::set::first_in;
 use rowset::set::has;
+use rowset::set::next_in;
 use rowset::set::put;
 use sets::heads::Heads;
 use sets::heads::edges;
@@ -19,7 +22,7 @@ use signature::decoded::count_of;
 use signature::decoded::first_of;
 use signature::decoded::kind_of;
 ghost use mathlib.Core.Path.{_≡_};
-ghost use mathlib.Core.Bool.{_&&_, cond};
+ghost use mathlib.Core.Bool.{Bool, true, _&&_, cond};
 ghost use Prim.Native.Nat.{ℕ, _<_};
 ghost use lib.Dec.{ltb};
 ghost use lib.ListN.{length};
@@ -30,7 +33,7 @@ ghost use Rattle.sets.specs.Set.{bit};
 ghost use Rattle.rowset.specs.Member.{member, set-words};
 ghost use Rattle.path.specs.State.{kept-of};
 ghost use Rattle.path.specs.Standing.{refined-cell};
-ghost use Rattle.column.specs.Column.{Seen, Looking, Keeping, KeepingRow, Heading, Edging, KindOfColumn, KindOfRow, RowKind, edge-of, end-of, has-child};
+ghost use Rattle.column.specs.Column.{Seen, Looking, CellThere, Keeping, KeepingRow, Heading, Edging, KindOfColumn, RowKind, tag-at, allowed-at, edge-of, end-of, has-child};
 
 // What stands for no kind.
 pub const NO_KIND: usize = 32;
@@ -69,24 +72,13 @@ fn refined_kind(t: &[u16], tag: u64, allowed: Heads) -> usize
     NO_KIND
 }
 
-// The same of row r's cell, where the row is in the set.
-fn row_kind(
-    t: &[u16],
-    a: &[u64],
-    rows: &[u16],
-    n: usize,
-    re: &[u64; SET_WORDS],
-    cur: &[u8],
-    r: usize,
-) -> usize
-    requires { ⌜ Looking (now t) (now a) (now rows) n (now re) (now cur) × (r < n) ⌝ }
-    ensures { λ x. ⌜ KindOfRow (now (t .entry)) (now (a .entry)) (now (rows .entry)) n (now (re .entry)) (now (cur .entry)) r x ⌝ }
+// The same of row r's cell.
+fn row_kind(t: &[u16], a: &[u64], rows: &[u16], cur: &[u8], r: usize) -> usize
+    requires { ⌜ CellThere (now a) (now rows) (now cur) r × Seen (now t) (tag-at (now a) (now rows) (now cur) r) ⌝ }
+    ensures { λ x. ⌜ ((g : Seen (now (t .entry)) (tag-at (now (a .entry)) (now (rows .entry)) (now (cur .entry)) r)) → RowKind (g .known .sig) (g .k) (tag-at (now (a .entry)) (now (rows .entry)) (now (cur .entry)) r) (allowed-at (now (a .entry)) (now (rows .entry)) (now (cur .entry)) r) x) ⌝ }
 {
-    if has(re, r) {
-        let c = cell_of(a, rows, r, cur[r] as usize);
-        return refined_kind(t, c.tag, c.allowed);
-    }
-    NO_KIND
+    let c = cell_of(a, rows, r, cur[r] as usize);
+    refined_kind(t, c.tag, c.allowed)
 }
 
 // The kind of the column that some row of the set refines, else NO_KIND.
@@ -101,38 +93,27 @@ pub fn column(
     requires { ⌜ Looking (now t) (now a) (now rows) n (now re) (now cur) ⌝ }
     ensures { λ x. ⌜ KindOfColumn (now (t .entry)) (now (a .entry)) (now (rows .entry)) n (now (re .entry)) (now (cur .entry)) x ⌝ }
 {
-    let mut r = 0;
+    let mut r = first_in(re, n);
     while r < n {
-        let x = row_kind(t, a, rows, n, re, cur, r);
+        let x = row_kind(t, a, rows, cur, r);
         if x < NO_KIND {
             return x;
         }
-        r += 1;
+        r = next_in(re, r + 1, n);
     }
     NO_KIND
 }
 
-// Whether row r stays alive where head number j of the kind is taken; its cursor is past its cell.
-fn stays(
-    a: &[u64],
-    rows: &[u16],
-    s: &[u64; SET_WORDS],
-    re: &[u64; SET_WORDS],
-    cur: &[u8],
-    j: usize,
-    r: usize,
-) -> bool
-    requires { ⌜ KeepingRow (now a) (now rows) (now re) (now cur) j r ⌝ }
-    ensures { λ b. ⌜ b ≡ kept-of (now (a .entry)) (now (rows .entry)) (member (now (s .entry))) (member (now (re .entry))) (now (cur .entry)) j r ⌝ }
+// Whether row r, which has a cell there, stays alive where head number j of the kind is taken; its cursor is past its cell.
+fn stays(a: &[u64], rows: &[u16], s: &[u64; SET_WORDS], cur: &[u8], j: usize, r: usize) -> bool
+    requires { ⌜ KeepingRow (now a) (now rows) (now cur) j r ⌝ }
+    ensures { λ b. ⌜ ((real : ℕ → Bool) → real r ≡ true → b ≡ kept-of (now (a .entry)) (now (rows .entry)) (member (now (s .entry))) real (now (cur .entry)) j r) ⌝ }
 {
-    if has(re, r) {
-        let c = cell_of(a, rows, r, cur[r] as usize - 1);
-        if has_head(c.allowed, j as u32) {
-            return has(s, r);
-        }
-        return false;
+    let c = cell_of(a, rows, r, cur[r] as usize - 1);
+    if has_head(c.allowed, j as u32) {
+        return has(s, r);
     }
-    has(s, r)
+    false
 }
 
 // In next from now on: the rows that stay alive where head number j of the kind is taken.
@@ -149,32 +130,23 @@ pub fn keep(
     requires { ⌜ Keeping (now a) (now rows) n (now re) (now cur) j × (length (now next) ≡ set-words) ⌝ }
     ensures { λ _. ⌜ ((r : ℕ) → r < n → member (now (next .exit)) r ≡ kept-of (now (a .entry)) (now (rows .entry)) (member (now (s .entry))) (member (now (re .entry))) (now (cur .entry)) j r) ⌝ }
 {
-    let mut r = 0;
+    copy(s, next);
+    let mut r = first_in(re, n);
     while r < n {
-        let b = stays(a, rows, s, re, cur, j, r);
+        let b = stays(a, rows, s, cur, j, r);
         put(next, r, b);
-        r += 1;
+        r = next_in(re, r + 1, n);
     }
 }
 
 // The set with each v where row r allows just one of the heads number v and v + 1; its cursor is past its cell.
-fn with_edges(
-    a: &[u64],
-    rows: &[u16],
-    re: &[u64; SET_WORDS],
-    cur: &[u8],
-    r: usize,
-    hs: Heads,
-) -> Heads
-    requires { ⌜ KeepingRow (now a) (now rows) (now re) (now cur) 0 r ⌝ }
-    ensures { λ s. ⌜ ((j : ℕ) → bit (number-of s) j ≡ cond (edge-of (now (a .entry)) (now (rows .entry)) (member (now (re .entry))) (now (cur .entry)) j r) 1 (bit (number-of hs) j)) ⌝ }
+fn with_edges(a: &[u64], rows: &[u16], cur: &[u8], r: usize, hs: Heads) -> Heads
+    requires { ⌜ KeepingRow (now a) (now rows) (now cur) 0 r ⌝ }
+    ensures { λ s. ⌜ ((real : ℕ → Bool) → real r ≡ true → (j : ℕ) → bit (number-of s) j ≡ cond (edge-of (now (a .entry)) (now (rows .entry)) real (now (cur .entry)) j r) 1 (bit (number-of hs) j)) ⌝ }
 {
-    if has(re, r) {
-        let c = cell_of(a, rows, r, cur[r] as usize - 1);
-        let es = edges(c.allowed);
-        return join(hs, es);
-    }
-    hs
+    let c = cell_of(a, rows, r, cur[r] as usize - 1);
+    let es = edges(c.allowed);
+    join(hs, es)
 }
 
 // The levels that are ends: the last one, and each v where some row of the set allows just one of v and v + 1.
@@ -183,11 +155,11 @@ fn ends(a: &[u64], rows: &[u16], n: usize, re: &[u64; SET_WORDS], cur: &[u8]) ->
     ensures { λ s. ⌜ ((j : ℕ) → bit (number-of s) j ≡ cond (ltb j level-count && end-of (now (a .entry)) (now (rows .entry)) n (member (now (re .entry))) (now (cur .entry)) j) 1 0) ⌝ }
 {
     let mut hs = only(LAST_LEVEL as u32);
-    let mut r = 0;
+    let mut r = first_in(re, n);
     while r < n {
-        let next = with_edges(a, rows, re, cur, r, hs);
+        let next = with_edges(a, rows, cur, r, hs);
         hs = next;
-        r += 1;
+        r = next_in(re, r + 1, n);
     }
     let levels = full(LEVELS as u32);
     meet(hs, levels)

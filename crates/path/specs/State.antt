@@ -122,17 +122,10 @@ module _ (sig : Signature) (t a rows : List ℕ) (n : ℕ) where
   abbrev pub State : (ℕ → Bool) → List ℕ → List ℕ → List ℕ → (ℕ → Option Line) → Type 0
   State alive cur vis ks f = (r : ℕ) → r < n → RowIs (alive r) (f r) vis r (getD cur r 0) ks
 
--- how many columns are row r's own at its cell q, 0 where it is not alive
-abbrev pub own-if : List ℕ → Bool → ℕ → ℕ → ℕ
-own-if rows true r q = own-of rows r q
-own-if rows false r q = 0
-
--- one row past its cell, where it is in the set
-abbrev pub Lifted : Bool → ℕ → ℕ → List ℕ → List ℕ → List ℕ → List ℕ → Type 0
-Lifted true v r cur vis cur′ vis′ = (cur′ ≡ set cur r (getD cur r 0 + 1)) × (vis′ ≡ set vis (pattern-limit * r + getD cur r 0) v)
-Lifted false v r cur vis cur′ vis′ = (cur′ ≡ cur) × (vis′ ≡ vis)
+-- one row past its cell
+abbrev pub Lifted : ℕ → ℕ → List ℕ → List ℕ → List ℕ → List ℕ → Type 0
+Lifted v r cur vis cur′ vis′ = (cur′ ≡ set cur r (getD cur r 0 + 1)) × (vis′ ≡ set vis (pattern-limit * r + getD cur r 0) v)
 
 -- and back
-abbrev pub Dropped : Bool → ℕ → List ℕ → List ℕ → Type 0
-Dropped true r cur cur′ = cur′ ≡ set cur r (getD cur r 0 - 1)
-Dropped false r cur cur′ = cur′ ≡ cur
+abbrev pub Dropped : ℕ → List ℕ → List ℕ → Type 0
+Dropped r cur cur′ = cur′ ≡ set cur r (getD cur r 0 - 1)

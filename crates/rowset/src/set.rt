@@ -1,15 +1,17 @@
 // A set of rows, 64 to a word.
+use sets::set::full;
 use sets::set::has as has_bit;
 use sets::set::lowest;
 use sets::set::with;
 use sets::set::without;
 ghost use mathlib.Core.Path.{_≡_};
 ghost use mathlib.Core.Bool.{true, cond, not, _&&_};
-ghost use Prim.Native.Nat.{ℕ, _≤_, _<_, min};
+ghost use Prim.Native.Nat.{ℕ, _*_, _≤_, _<_, min};
 ghost use lib.Dec.{eqb, ltb};
 ghost use lib.ListN.{length};
 ghost use Rattle.rowset.specs.Limits.{row-limit};
-ghost use Rattle.rowset.specs.Member.{member, set-words, FirstIn};
+ghost use Rattle.sets.specs.Set.{set-limit};
+ghost use Rattle.rowset.specs.Member.{member, set-words, FirstIn, NextIn, OnlyIn};
 
 // The rows of all rules: no more than the rules may weigh in all.
 pub const ROWS: usize = 256;
@@ -49,20 +51,57 @@ pub fn lesser(a: usize, b: usize) -> usize
     b
 }
 
+// The first row of n from word i on that is in the set, or n.
+fn first_from(s: &[u64; SET_WORDS], i: usize, n: usize) -> usize
+    requires { ⌜ (i ≤ set-words) × (n ≤ row-limit) ⌝ }
+    ensures { λ r. ⌜ NextIn (now (s .entry)) (set-limit * i) n r ⌝ }
+{
+    let mut j = i;
+    while j < SET_WORDS {
+        let w = s[j];
+        if w > 0 {
+            return lesser(WORD * j + lowest(w) as usize, n);
+        }
+        j += 1;
+    }
+    n
+}
+
 // The first row of n that is in the set, or n.
 pub fn first_in(s: &[u64; SET_WORDS], n: usize) -> usize
     requires { ⌜ n ≤ row-limit ⌝ }
     ensures { λ r. ⌜ FirstIn (now (s .entry)) n r ⌝ }
 {
-    let mut i = 0;
-    while i < SET_WORDS {
-        let w = s[i];
-        if w > 0 {
-            return lesser(WORD * i + lowest(w) as usize, n);
-        }
-        i += 1;
+    first_from(s, 0, n)
+}
+
+// The first row of n from `from` on that is in the set, or n.
+pub fn next_in(s: &[u64; SET_WORDS], from: usize, n: usize) -> usize
+    requires { ⌜ (from ≤ n) × (n ≤ row-limit) ⌝ }
+    ensures { λ r. ⌜ NextIn (now (s .entry)) from n r ⌝ }
+{
+    if from == n {
+        return n;
     }
-    n
+    let i = from / WORD;
+    let before = full((from % WORD) as u32);
+    let w = sets::set::minus(s[i], before);
+    if w > 0 {
+        return lesser(WORD * i + lowest(w) as usize, n);
+    }
+    first_from(s, i + 1, n)
+}
+
+// The rows of s are those of x from now on.
+pub fn copy(s: &[u64; SET_WORDS], x: &mut [u64])
+    requires { ⌜ length (now x) ≡ set-words ⌝ }
+    ensures { λ _. ⌜ ((q : ℕ) → q < row-limit → member (now (x .exit)) q ≡ member (now (s .entry)) q) ⌝ }
+{
+    let mut w = 0;
+    while w < SET_WORDS {
+        x[w] = s[w];
+        w += 1;
+    }
 }
 
 // The rows of s that are not in x.
@@ -81,7 +120,7 @@ pub fn minus(s: &[u64; SET_WORDS], x: &[u64; SET_WORDS]) -> [u64; SET_WORDS]
 // Whether no row but i is in the set.
 pub fn is_only(s: &[u64; SET_WORDS], i: usize) -> bool
     requires { ⌜ i < row-limit ⌝ }
-    ensures { λ b. ⌜ (b ≡ true → (q : ℕ) → q < row-limit → member (now (s .entry)) q ≡ true → q ≡ i) ⌝ }
+    ensures { λ b. ⌜ OnlyIn (now (s .entry)) i b ⌝ }
 {
     let mut one = [0u64; SET_WORDS];
     put(&mut one, i, true);

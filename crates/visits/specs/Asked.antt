@@ -10,11 +10,11 @@ use Rattle.rowset.specs.Member.{member, set-words}
 use Rattle.path.specs.State.{row-stride, own-of}
 use Rattle.signature.specs.Limits.{word-limit}
 
--- row r stands in the table of rows, and where it is in the set its cursor is at one of its cells or behind the last
-abbrev pub RowThere : List ℕ → List ℕ → List ℕ → ℕ → Type 0
-RowThere rows s cur r = (r < row-limit) × (r < length cur) × (row-stride * r + row-stride ≤ length rows) × (member s r ≡ true → getD cur r 0 ≤ pattern-limit)
+-- row r stands in the table of rows, and its cursor is at one of its cells or behind the last
+abbrev pub RowThere : List ℕ → List ℕ → ℕ → Type 0
+RowThere rows cur r = (r < length cur) × (row-stride * r + row-stride ≤ length rows) × (getD cur r 0 ≤ pattern-limit)
 
--- each of n rows, and room for a set of them
+-- each of n rows that is in the set, and room for a set of them
 abbrev pub RowsThere : List ℕ → ℕ → List ℕ → List ℕ → List ℕ → Type 0
 RowsThere rows n s cur re = (n ≤ row-limit) × (n ≤ length cur) × (row-stride * n ≤ length rows) × ((r : ℕ) → r < n → member s r ≡ true → getD cur r 0 ≤ pattern-limit) × (length re ≡ set-words)
 
@@ -22,9 +22,9 @@ RowsThere rows n s cur re = (n ≤ row-limit) × (n ≤ length cur) × (row-stri
 abbrev pub RowsWithin : List ℕ → ℕ → List ℕ → List ℕ → ℕ → Type 0
 RowsWithin rows n s cur ncols = (n ≤ row-limit) × (n ≤ length cur) × (row-stride * n ≤ length rows) × ((r : ℕ) → r < n → member s r ≡ true → (getD cur r 0 ≤ pattern-limit) × (own-of rows r (getD cur r 0) ≤ ncols))
 
--- row r can be raised at visit v where it is in the set
-abbrev pub RowRises : List ℕ → List ℕ → List ℕ → ℕ → ℕ → Type 0
-RowRises cur vis re v r = (r < row-limit) × (r < length cur) × (pattern-limit * r + pattern-limit ≤ length vis) × (v < word-limit) × (member re r ≡ true → getD cur r 0 < pattern-limit)
+-- row r can be raised at visit v
+abbrev pub RowRises : List ℕ → List ℕ → ℕ → ℕ → Type 0
+RowRises cur vis v r = (r < length cur) × (pattern-limit * r + pattern-limit ≤ length vis) × (v < word-limit) × (getD cur r 0 < pattern-limit)
 
 abbrev pub RowsRise : List ℕ → List ℕ → ℕ → List ℕ → ℕ → Type 0
 RowsRise cur vis n re v = (n ≤ row-limit) × (n ≤ length cur) × (pattern-limit * n ≤ length vis) × (v < word-limit) × ((r : ℕ) → r < n → getD cur r 0 ≤ pattern-limit) × ((r : ℕ) → r < n → member re r ≡ true → getD cur r 0 < pattern-limit)

@@ -1,10 +1,11 @@
-// The cursors of the rows on a path: which rows have a cell in a column, and what raises and lowers them.
+// The cursors of the rows on a path: which rows have a cell in a column, and what raises and lowers them. Only the rows of a set are visited, since deep in a tree few are left.
 use path::rows::OWN;
 use path::rows::ROW;
 use pattern::limits::PATTERN_WORDS;
 use rowset::set::SET_WORDS;
+use rowset::set::copy;
 use rowset::set::first_in;
-use rowset::set::has;
+use rowset::set::next_in;
 use rowset::set::put;
 ghost use mathlib.Core.Path.{_≡_};
 ghost use mathlib.Core.Bool.{true};
@@ -13,7 +14,7 @@ ghost use lib.ListN.{length, getD};
 ghost use Rattle.pattern.specs.Limits.{pattern-limit};
 ghost use Rattle.rowset.specs.Limits.{row-limit};
 ghost use Rattle.rowset.specs.Member.{member};
-ghost use Rattle.path.specs.State.{real-of, Raised, Lowered, row-stride, own-if, own-of, Lifted, Dropped};
+ghost use Rattle.path.specs.State.{real-of, Raised, Lowered, row-stride, own-of, Lifted, Dropped};
 ghost use Rattle.visits.specs.Asked.{RowThere, RowsThere, RowsWithin, RowRises, RowsRise};
 ghost use Rattle.visits.specs.Blank.{Blank};
 
@@ -24,27 +25,13 @@ fn own_of(rows: &[u16], r: usize, q: usize) -> u16
     rows[ROW * r + OWN + q]
 }
 
-// How many columns are row r's own, 0 where it is not alive.
-fn own(rows: &[u16], s: &[u64; SET_WORDS], cur: &[u8], r: usize) -> usize
-    requires { ⌜ RowThere (now rows) (now s) (now cur) r ⌝ }
-    ensures { λ m. ⌜ m ≡ own-if (now (rows .entry)) (member (now (s .entry)) r) r (getD (now (cur .entry)) r 0) ⌝ }
+// How many columns are row r's own.
+fn own(rows: &[u16], cur: &[u8], r: usize) -> usize
+    requires { ⌜ RowThere (now rows) (now cur) r ⌝ }
+    ensures { λ m. ⌜ m ≡ own-of (now (rows .entry)) r (getD (now (cur .entry)) r 0) ⌝ }
 {
-    if has(s, r) {
-        let q = cur[r] as usize;
-        return own_of(rows, r, q) as usize;
-    }
-    0
-}
-
-fn is_real(rows: &[u16], s: &[u64; SET_WORDS], cur: &[u8], ncols: usize, r: usize) -> bool
-    requires { ⌜ RowThere (now rows) (now s) (now cur) r ⌝ }
-    ensures { λ b. ⌜ b ≡ real-of (now (rows .entry)) (member (now (s .entry))) (now (cur .entry)) ncols r ⌝ }
-{
-    if has(s, r) {
-        let q = cur[r] as usize;
-        return own_of(rows, r, q) as usize == ncols;
-    }
-    false
+    let q = cur[r] as usize;
+    own_of(rows, r, q) as usize
 }
 
 // In re from now on: the rows alive whose own cell stands in the first of ncols columns.
@@ -52,11 +39,12 @@ pub fn real(rows: &[u16], n: usize, s: &[u64; SET_WORDS], cur: &[u8], ncols: usi
     requires { ⌜ RowsThere (now rows) n (now s) (now cur) (now re) ⌝ }
     ensures { λ _. ⌜ ((r : ℕ) → r < n → member (now (re .exit)) r ≡ real-of (now (rows .entry)) (member (now (s .entry))) (now (cur .entry)) ncols r) ⌝ }
 {
-    let mut r = 0;
+    copy(s, re);
+    let mut r = first_in(s, n);
     while r < n {
-        let b = is_real(rows, s, cur, ncols, r);
-        put(re, r, b);
-        r += 1;
+        let m = own(rows, cur, r);
+        put(re, r, m == ncols);
+        r = next_in(s, r + 1, n);
     }
 }
 
@@ -80,23 +68,21 @@ pub fn blank(rows: &[u16], n: usize, s: &[u64; SET_WORDS], cur: &[u8], ncols: us
     }
     let mut m = 0;
     while r < n {
-        let o = own(rows, s, cur, r);
+        let o = own(rows, cur, r);
         m = larger(m, o);
-        r += 1;
+        r = next_in(s, r + 1, n);
     }
     ncols - m
 }
 
-// Row r past its cell, at visit v, where it is in the set.
-fn lift(cur: &mut [u8], vis: &mut [u16], re: &[u64; SET_WORDS], v: usize, r: usize)
-    requires { ⌜ RowRises (now cur) (now vis) (now re) v r ⌝ }
-    ensures { λ _. ⌜ Lifted (member (now (re .entry)) r) v r (now (cur .entry)) (now (vis .entry)) (now (cur .exit)) (now (vis .exit)) ⌝ }
+// Row r past its cell, at visit v.
+fn lift(cur: &mut [u8], vis: &mut [u16], v: usize, r: usize)
+    requires { ⌜ RowRises (now cur) (now vis) v r ⌝ }
+    ensures { λ _. ⌜ Lifted v r (now (cur .entry)) (now (vis .entry)) (now (cur .exit)) (now (vis .exit)) ⌝ }
 {
-    if has(re, r) {
-        let q = cur[r];
-        vis[PATTERN_WORDS * r + q as usize] = v as u16;
-        cur[r] = q + 1;
-    }
+    let q = cur[r];
+    vis[PATTERN_WORDS * r + q as usize] = v as u16;
+    cur[r] = q + 1;
 }
 
 // The rows of the set past their cells, at visit v.
@@ -104,20 +90,18 @@ pub fn raise(cur: &mut [u8], vis: &mut [u16], n: usize, re: &[u64; SET_WORDS], v
     requires { ⌜ RowsRise (now cur) (now vis) n (now re) v ⌝ }
     ensures { λ _. ⌜ Raised n (member (now (re .entry))) v (now (cur .entry)) (now (vis .entry)) (now (cur .exit)) (now (vis .exit)) ⌝ }
 {
-    let mut r = 0;
+    let mut r = first_in(re, n);
     while r < n {
-        lift(cur, vis, re, v, r);
-        r += 1;
+        lift(cur, vis, v, r);
+        r = next_in(re, r + 1, n);
     }
 }
 
-fn drop(cur: &mut [u8], re: &[u64; SET_WORDS], r: usize)
-    requires { ⌜ (r < row-limit) × (r < length (now cur)) × (member (now re) r ≡ true → 0 < getD (now cur) r 0) ⌝ }
-    ensures { λ _. ⌜ Dropped (member (now (re .entry)) r) r (now (cur .entry)) (now (cur .exit)) ⌝ }
+fn drop(cur: &mut [u8], r: usize)
+    requires { ⌜ (r < length (now cur)) × (0 < getD (now cur) r 0) ⌝ }
+    ensures { λ _. ⌜ Dropped r (now (cur .entry)) (now (cur .exit)) ⌝ }
 {
-    if has(re, r) {
-        cur[r] = cur[r] - 1;
-    }
+    cur[r] = cur[r] - 1;
 }
 
 // The rows of the set back at their cells.
@@ -125,9 +109,9 @@ pub fn lower(cur: &mut [u8], n: usize, re: &[u64; SET_WORDS])
     requires { ⌜ (n ≤ row-limit) × (n ≤ length (now cur)) × ((r : ℕ) → r < n → member (now re) r ≡ true → 0 < getD (now cur) r 0) ⌝ }
     ensures { λ _. ⌜ Lowered n (member (now (re .entry))) (now (cur .entry)) (now (cur .exit)) ⌝ }
 {
-    let mut r = 0;
+    let mut r = first_in(re, n);
     while r < n {
-        drop(cur, re, r);
-        r += 1;
+        drop(cur, r);
+        r = next_in(re, r + 1, n);
     }
 }

@@ -1,5 +1,4 @@
 -- `column::refined_kind` meets its contract. Assumes nothing.
-use mathlib.Core.Path.{_≡_}
 use Rattle.column.proofs.ColumnLaws.{kind-saw, plain-saw}
 use Rattle.column.proofs.refined_kind.Statement.{statement}
 use Rattle.column.proofs.refined_kind.Tie as tie

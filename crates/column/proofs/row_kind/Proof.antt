@@ -1,10 +1,10 @@
--- `row_kind` meets its contract.
-use mathlib.Core.Path.{sym, _∙_}
-use native.Mathlib.Omega.{arith}
-use Rattle.rowset.specs.Member.{member}
-use Rattle.column.specs.Column.{tag-at, allowed-at}
-use Rattle.column.proofs.ColumnLaws.{seen-from, saw-from, saw-out}
+-- `column::row_kind` meets its contract. Assumes nothing.
+use mathlib.Core.Path.{sym, subst}
+use Prim.Native.Nat.{_-_}
 use borrow.Author.Needs.{needs}
+use Rattle.cell.specs.declared.cell.Cell.{Cell}
+use Rattle.column.specs.Column.{Seen}
+use Rattle.column.proofs.ColumnLaws.{kind-from}
 use Rattle.column.proofs.row_kind.Statement.{statement}
 use Rattle.column.proofs.row_kind.Tie as tie
 
@@ -12,10 +12,8 @@ pub row-kind-spec : {M : Type 1} → statement M
 row-kind-spec =
     tie.close
     (tie.spec
-    (λ c κs. search needs)
     (λ c. search needs)
-    (λ c. omega (arith, c .before .before .before .before .before .before .before .pre .0 .cell (c .before .before .before .before .before .before .before .args .r) (c .before .before .before .before .before .before .before .pre .1) (sym (c .before .before .has .ensures) ∙ c .before .if1 .taken)))
-    (λ c κs. (omega (arith, c .before .before .before .before .before .before .before .pre .0 .long), c .before .before .before .before .before .before .before .pre .0 .cell (c .before .before .before .before .before .before .before .args .r) (c .before .before .before .before .before .before .before .pre .1) (sym (c .before .before .has .ensures) ∙ c .before .if1 .taken)))
-    (λ c κs. seen-from (c .before .before .before .before .before .before .before .before .pre .0) (c .before .before .before .before .before .before .before .before .args .r) (c .cell-of .result) (c .before .before .before .before .before .before .before .before .pre .1) (sym (c .before .before .before .has .ensures) ∙ c .before .before .if1 .taken) (c .cell-of .ensures))
-    (λ c g. saw-from g (c .before .before .before .before .before .before .before .before .before .args .r) (c .refined-kind .result) (c .before .cell-of .result) (c .before .before .before .before .before .before .before .before .before .pre .1) (sym (c .before .before .before .before .has .ensures) ∙ c .before .before .before .if1 .taken) (c .before .cell-of .ensures) (c .refined-kind .ensures))
-    (λ c g. saw-out (member (c .before .before .before .before .before .before .args .re .now) (c .before .before .before .before .before .before .args .r)) (g .known .sig) (g .k) (tag-at (c .before .before .before .before .before .before .args .a .now) (c .before .before .before .before .before .before .args .rows .now) (c .before .before .before .before .before .before .args .cur .now) (c .before .before .before .before .before .before .args .r)) (allowed-at (c .before .before .before .before .before .before .args .a .now) (c .before .before .before .before .before .before .args .rows .now) (c .before .before .before .before .before .before .args .cur .now) (c .before .before .before .before .before .before .args .r)) (sym (c .before .has .ensures) ∙ c .if1 .left)))
+    (λ c. search needs)
+    (λ c κs. search needs)
+    (λ c κs. subst (λ (x : Cell). Seen (c .before .before .before .before .before .before .args .t .now) (x .tag)) (sym (c .cell-of .ensures)) (c .before .before .before .before .before .before .pre .1))
+    (λ c. kind-from (c .before .before .before .before .before .before .before .args .t .now) (c .before .before .before .before .before .before .before .args .a .now) (c .before .before .before .before .before .before .before .args .rows .now) (c .before .before .before .before .before .before .before .args .cur .now) (c .before .before .before .before .before .before .before .args .r) _ (c .before .cell-of .result) (c .before .cell-of .ensures) (c .refined-kind .ensures)))

@@ -1,6 +1,7 @@
 -- `visits::blank` meets its contract. Assumes nothing.
 use mathlib.Core.Path.{_≡_}
-use Prim.Native.Nat.{ℕ, _-_, _≤_}
+use mathlib.Core.Bool.{true}
+use Prim.Native.Nat.{_-_, _≤_, _<_}
 use native.Mathlib.Omega.{arith}
 use Rattle.rowset.specs.Member.{member}
 use Rattle.visits.proofs.CursorLaws.{Top, top-start, top-next, top-all, blank-none}
@@ -8,7 +9,7 @@ use Rattle.visits.proofs.blank.Statement.{statement}
 use Rattle.visits.proofs.blank.Tie as tie
 
 abbrev Inv-loop : tie.InvT-loop
-Inv-loop rows n s cur ncols r₀ m₀ r m = (r ≤ n) × Top rows s cur n ncols m r
+Inv-loop rows n s cur ncols r₀ m₀ r m = (r ≤ n) × (r < n → member s r ≡ true) × Top rows s cur n ncols m r
 
 abbrev μ-loop : tie.MeasureT-loop
 μ-loop rows n s cur ncols r₀ m₀ r m = n - r
@@ -21,11 +22,12 @@ blank-spec =
     μ-loop
     (λ c κs. omega arith)
     (λ c. blank-none _ _ _ _ _ _ (c .if1 .taken) (c .before .first-in .ensures))
-    (λ c. (omega (arith, c .before .first-in .ensures .most), top-start _ _ _ _ _ _ (c .before .first-in .ensures)))
-    (λ c κs. (omega arith, omega arith, omega arith, λ e. c .before .before .before .before .before .before .pre .3 _ (omega arith) e .0))
+    (λ c. let f = c .before .first-in .ensures in (f .most, f .there, top-start _ _ _ _ _ _ f))
+    (λ c κs. let i = c .before .loop .inv in let e = c .before .before .before .before .before .before .pre in (omega arith, omega arith, e .3 _ (omega arith) (i .1 (c .loop-test .taken)) .0))
     (λ c κs. tt)
     (λ c. omega arith)
-    (λ c. omega arith)
-    (λ c. (omega arith, rw (c .larger .ensures) (top-next _ _ _ _ _ _ _ _ (c .before .before .before .loop .inv .1) (c .before .own .ensures) (λ e. c .before .before .before .before .before .before .before .before .pre .3 _ (omega (arith, c .before .before .loop-test .taken)) e .1))))
-    (λ c. c .before .loop .inv .1 .most)
-    (λ c. top-all _ _ _ _ _ _ _ (c .before .before .before .first-in .result) (c .before .loop .inv .1) (omega (arith, c .loop-test .left)) (omega (arith, c .before .before .before .first-in .ensures .most, c .before .before .if1 .left)) (c .before .before .before .first-in .ensures)))
+    (λ c κs. (omega arith, omega arith))
+    (λ c. omega (arith, c .next-in .ensures .least))
+    (λ c. let x = c .next-in .ensures in let i = c .before .before .before .before .loop .inv in let e = c .before .before .before .before .before .before .before .before .before .pre in (x .most, x .there, rw (c .before .larger .ensures) (top-next _ _ _ _ _ _ _ _ _ (i .2) (c .before .before .own .ensures) (omega (arith, c .before .before .own .ensures, e .3 _ (omega (arith, c .before .before .before .loop-test .taken)) (i .1 (c .before .before .before .loop-test .taken)) .1)) x)))
+    (λ c. c .before .loop .inv .2 .most)
+    (λ c. let f = c .before .before .before .first-in in top-all _ _ _ _ _ _ _ (f .result) (c .before .loop .inv .2) (omega (arith, c .loop-test .left)) (omega (arith, f .ensures .most, c .before .before .if1 .left)) (f .ensures)))

@@ -118,7 +118,7 @@ pub +arguments+take-class+visit-spec : {M : Type 1} → statement M
     (λ c κs. let e = c .before .before .before .before .before .before .before .before .before .before .before .before .before .before .before .before .before .before .before .before in omega (arith, c .stand-arg .given .0 .1, e .pre .1 .3))
     (λ c κs. tt)
     (λ c. c .before .before .before .before .before .before .before .before .before .before .part .kept .0)
-    (λ c g. let e = c .before .before .before .before .before .before .before .before .before .before .before .before .before .before .before .before .before .before .before .before .before .before .before in let o = c .before .before .before .before .before .before .before .before .before .before .before .before .before .before .before .before .sort in let k = c .before .before .before .before .before .before .before .before .before .before .before .before .before .before .before .before .before .before .cell-at in subst (λ (z : List ℕ). Taken g (e .args .i) (c .minus .result) z (e .args .m .now) (c .before .before .before .before .before .before .before .before .before .before .part .last .0)) (sym (c .before .before .stand .ensures)) (one-taken g (e .args .i) (e .pre .1 .3) (e .pre .1 .4) (k .result) (k .ensures) (o .result .same) (o .result .clash) (e .args .m .now) (c .before .before .before .before .before .before .before .before .before .before .part .last .0) (o .ensures .0) (o .ensures .1) (c .before .before .before .before .before .before .before .before .before .before .part .ensures) (c .minus .result) (c .before .before .before .before .part-end .result) (c .minus .ensures) (c .before .before .before .before .before .before .is-only .ensures (c .before .before .before .before .before .if1 .taken)) (omega (arith, c .before .before .before .stand-arg .given .0 .1, e .pre .1 .3)) (c .before .before .before .before .part-end .ensures (part-given g (e .args .i) (e .pre .1 .3) (e .pre .1 .4)))))
+    (λ c g. let e = c .before .before .before .before .before .before .before .before .before .before .before .before .before .before .before .before .before .before .before .before .before .before .before in let o = c .before .before .before .before .before .before .before .before .before .before .before .before .before .before .before .before .sort in let k = c .before .before .before .before .before .before .before .before .before .before .before .before .before .before .before .before .before .before .cell-at in subst (λ (z : List ℕ). Taken g (e .args .i) (c .minus .result) z (e .args .m .now) (c .before .before .before .before .before .before .before .before .before .before .part .last .0)) (sym (c .before .before .stand .ensures)) (one-taken g (e .args .i) (e .pre .1 .3) (e .pre .1 .4) (k .result) (k .ensures) (o .result .same) (o .result .clash) (e .args .m .now) (c .before .before .before .before .before .before .before .before .before .before .part .last .0) (o .ensures .0) (o .ensures .1) (c .before .before .before .before .before .before .before .before .before .before .part .ensures) (c .minus .result) (c .before .before .before .before .part-end .result) (c .minus .ensures) (c .before .before .before .before .before .before .is-only .ensures .alone (c .before .before .before .before .before .if1 .taken)) (omega (arith, c .before .before .before .stand-arg .given .0 .1, e .pre .1 .3)) (c .before .before .before .before .part-end .ensures (part-given g (e .args .i) (e .pre .1 .3) (e .pre .1 .4)))))
     (λ c κs. let e = c .before .before .before .before .before .before .before .before .before .before .before .before .before .before .before .before .before .before .before .before in let o = c .before .before .before .before .before .before .before .before .before .before .before .before .before .sort in some-passable (e .pre .1 .0) _ (o .result .same) (o .ensures .0) (omega (arith, e .good)))
     (λ c κs h. c .before .before .before .before .before .before .before .before .before .before .before .before .before .before .before .before .before .before .before .before .before .pre .1 .2)
     (λ c. let e = c .before .before .before .before .before .before .before .before .before .before .before .before .before .before .before .before .before .before .before .before .before .before .before in omega (arith, deep-some (e .pre .1 .0) (e .args .i) (e .pre .1 .3) (e .pre .1 .4)))

@@ -1,7 +1,6 @@
 -- `rowset::set::has` meets its contract. Assumes nothing.
-use mathlib.Core.Path.{_≡_, _∙_}
+use mathlib.Core.Path.{_∙_}
 use native.Mathlib.Omega.{arith}
-use borrow.Author.Needs.{needs}
 use Rattle.rowset.proofs.MemberLaws.{member-is}
 use Rattle.rowset.proofs.set.has.Statement.{statement}
 use Rattle.rowset.proofs.set.has.Tie as tie

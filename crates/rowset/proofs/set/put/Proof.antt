@@ -1,8 +1,6 @@
 -- `rowset::set::put` meets its contract. Assumes nothing.
-use mathlib.Core.Path.{_≡_}
 use native.Mathlib.Omega.{arith}
 use borrow.Author.Needs.{needs}
-use lib.ListN.{length-set}
 use Rattle.rowset.proofs.MemberLaws.{put-in, put-out}
 use Rattle.rowset.proofs.set.put.Statement.{statement}
 use Rattle.rowset.proofs.set.put.Tie as tie
