@@ -17,9 +17,9 @@ use Rattle.cell.specs.RowList.{Every, list-code}
 use Rattle.rowset.specs.Limits.{row-limit}
 use Rattle.rowset.specs.Member.{set-words}
 use Rattle.meeting.specs.Rows.{Proper}
-use Rattle.builder.specs.Build.{light-of, room-unit}
+use Rattle.builder.specs.Build.{light-of, room-of}
 
--- two patterns of kind k
+-- two patterns of kind k, and room for a word more than theirs
 pub record GivenTwo (t : List ℕ) (k : ℕ) (w : List ℕ) (b : Bool) (n m : ℕ) : Type 0 where
   pub known : Known t
   pub there : k < known .decoded .n
@@ -34,8 +34,8 @@ pub record GivenTwo (t : List ℕ) (k : ℕ) (w : List ℕ) (b : Bool) (n m : �
   pub light-second : light-of b second ≡ true
   pub ranges-first : ranged first ≡ true
   pub ranges-second : ranged second ≡ true
-  pub room : room-unit * (length (pattern-code first) + length (pattern-code second)) ≤ n
-  pub work-room : room-unit * (length (pattern-code first) + length (pattern-code second)) ≤ m
+  pub room : room-of (1 + length (pattern-code first) + length (pattern-code second)) ≤ n
+  pub work-room : room-of (1 + length (pattern-code first) + length (pattern-code second)) ≤ m
 
 -- two lists of rows of one kind, in front and from a word on, and room for the matrix of all their rows
 pub record GivenLists (t a : List ℕ) (at room : ℕ) : Type 0 where

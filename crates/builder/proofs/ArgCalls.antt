@@ -25,7 +25,7 @@ use Rattle.cell.specs.Coded.{kinds-of, row-code}
 use Rattle.rowlist.specs.Grow.{words-list, ListFirst}
 use Rattle.row.specs.Row.{open-row, rows-minus}
 use Rattle.cell.specs.RowList.{from}
-use Rattle.builder.proofs.ArgSteps.{NextArg, next-arg, drop-next, begun-small, args-count}
+use Rattle.builder.proofs.ArgSteps.{NextArg, next-arg, drop-next, args-count}
 use Rattle.builder.proofs.Behind.{list-words}
 use Rattle.rowlist.proofs.Kinded.{few-heads, full-set, open-kind}
 use Rattle.sets.proofs.ListSets.{set-nil}
@@ -57,7 +57,7 @@ module _ {t : List ℕ} {c j : ℕ} {w : List ℕ} {b : Bool} {used : ℕ} {o : 
     size-is = ap (λ (z : Patterns). length (patterns-code z)) (view .parts-are) ∙ simp length-append (omega arith)
 
     pub begun-fits : (used + 1 ≤ length o) × (used + 1 ≤ m)
-    begun-fits = (omega (arith, begun-small g, g .room, g .some-words), omega (arith, begun-small g, g .work-room, g .some-words))
+    begun-fits = (omega (arith, g .small, g .room), omega (arith, g .small, g .work-room))
 
     module _ (full : ℕ) (f : (i : ℕ) → bit full i ≡ cond (ltb i (count-of t arg)) 1 0) where
       opened : Open (kinds-of (g .known .sig)) (g .known .sig) arg (kind-tag + arg) full
@@ -78,7 +78,7 @@ module _ {t : List ℕ} {c j : ℕ} {w : List ℕ} {b : Bool} {used : ℕ} {o : 
         light = view .light;
         ranges = view .ranges .0;
         opened = opened;
-        room = omega (arith, e, begun-small g, size-is, g .work-room, g .some-words);
+        room = omega (arith, e, g .small, size-is, g .work-room);
         work-room = omega (arith, e', size-is, g .room);
       }
 
@@ -132,7 +132,7 @@ module _ {t : List ℕ} {c j : ℕ} {w : List ℕ} {b : Bool} {used : ℕ} {o : 
             right-short = words-short (g .known .sig) arg (length (pattern-code (view .p))) (rows-places (g .known .sig) arg (view .p) b (view .well));
             left-few = g .count;
             right-few = omega (arith, words-count (g .known .sig) arg (rows-of (g .known .sig) arg b (view .p)), rows-few (g .known .sig) arg (view .p) b (view .light));
-            room = omega (arith, e, size-is, g .room, g .some-words);
+            room = omega (arith, e, size-is, g .room, g .small);
           }
 
 pub first-of : (vs : List (List ℕ)) → HasFirst false vs → (v : List ℕ) × (us : List (List ℕ)) × (vs ≡ v ∷ us)

@@ -20,12 +20,17 @@ use Rattle.builder.specs.Arguments.{GivenArgs, MadeArgs, lights-of}
 use Rattle.rowlist.specs.Next.{Short}
 use Rattle.builder.specs.Build.{light-of}
 use Rattle.rowlist.specs.Grow.{words-list}
+use Rattle.rowlist.specs.Product.{Product}
 use Rattle.builder.proofs.Behind.{behind-nil}
 
 -- lists that are begun are short
-pub list-le : (n : ℕ) (vs : List (List ℕ)) → Short n vs → length (words-list vs) ≤ length vs * (1 + n)
+list-le : (n : ℕ) (vs : List (List ℕ)) → Short n vs → length (words-list vs) ≤ length vs * (1 + n)
 list-le n [] s = omega arith
 list-le n (v ∷ vs) s = rw (suc-mul (length vs) (1 + n)) (simp length-append (omega (arith, list-le n vs (s .1), s .0)))
+
+-- the list of rows that are begun, with its end
+pub begun-small : {used : ℕ} {o : List ℕ} (a : ℕ) (vs : List (List ℕ)) → Product (words-list vs) used o → Short (3 * a) vs → length vs ≤ 64 → used + 1 ≤ 65 + 192 * a
+begun-small a vs p s n = omega (arith, p .size, list-le (3 * a) vs s, times-less (length vs) 64 (1 + 3 * a) (1 + 3 * a) n (omega arith))
 
 -- which argument is next
 pub record NextArg (sig : Signature) (b : Bool) (n : ℕ) (ks : List ℕ) (ps : Patterns) (k : ℕ) (js : List ℕ) : Type 0 where
@@ -69,14 +74,10 @@ module _ {t : List ℕ} {c j : ℕ} {w : List ℕ} {b : Bool} {used : ℕ} {o : 
   pub args-count : arity-of t c ≡ length (arguments (g .known .sig) c)
   args-count = arity-is (g .known) c (g .head)
 
-  -- the list of rows that are begun, with its end
-  pub begun-small : used + 1 ≤ 65 + 192 * g .a
-  begun-small = omega (arith, g .list .size, list-le (3 * g .a) (g .begun) (g .short), times-less (length (g .begun)) 64 (1 + 3 * g .a) (1 + 3 * g .a) (g .count) (omega arith))
-
   -- none is left
   pub args-end : arity-of t c ≤ j → MadeArgs (g .known .sig) b (g .ks) (g .ps) (g .begun) (g .a + length (patterns-code (g .ps))) used 0 o
   args-end h = go (g .ks) (g .ps) (sym (g .kinds) ∙ no-drop j (arguments (g .known .sig) c) (omega (arith, h, args-count))) (g .well)
     where
       go : (ks : List ℕ) (ps : Patterns) → ks ≡ [] → AllWellFormed (g .known .sig) ks ps → MadeArgs (g .known .sig) b ks ps (g .begun) (g .a + length (patterns-code ps)) used 0 o
-      go [] pnil e well-nil = record { read-is = refl; list = rw (behind-nil b (g .known .sig) (g .begun)) (g .list); small = omega (arith, begun-small, g .some-words) }
+      go [] pnil e well-nil = record { read-is = refl; list = rw (behind-nil b (g .known .sig) (g .begun)) (g .list); small = omega (arith, g .small) }
       go (k ∷ ks) ps e h = absurd (omega (arith, ap length e))

@@ -15,7 +15,7 @@ use Rattle.signature.proofs.Tests.{times-less}
 use Rattle.pattern.specs.Pattern.{Pattern, pattern-code, Patterns, pcons, patterns-code}
 use Rattle.pattern.specs.Weight.{weight-plus, product-plus}
 use Rattle.builder.specs.Arguments.{GivenArgs, MadeArgs, few-begun, HasFirst, behind, words-of-rows}
-use Rattle.rowlist.specs.Next.{GivenNextAt, next-made, next-rows}
+use Rattle.rowlist.specs.Next.{GivenNextAt, Short, next-made, next-rows}
 use Rattle.rowlist.specs.Sides.{rows-of}
 use Rattle.builder.specs.Build.{GivenPat, Made}
 use Rattle.cell.specs.Cell.{kind-tag, cell-code}
@@ -25,6 +25,7 @@ use Rattle.rowlist.specs.Product.{Product}
 use Rattle.row.specs.Row.{Rows, open-row, rows-plus, args-plus}
 use Rattle.cell.specs.RowList.{from}
 use Rattle.builder.proofs.ArgCalls.{view, size-is, arg-made, wild-is, next-core, first-of, minus-few}
+use Rattle.builder.proofs.ArgSteps.{begun-small}
 use Rattle.builder.proofs.Behind.{behind-plus, behind-minus}
 use Rattle.builder.proofs.NextLists.{next-filled, next-short, next-first, next-few, words-short, words-count}
 use Rattle.pattern.proofs.PatternBack.{some-pattern-word}
@@ -88,6 +89,12 @@ module _ {t : List ℕ} {c j : ℕ} {w : List ℕ} {b : Bool} {used : ℕ} {o : 
     few-next : few-begun b (length begun') (view g h arg arg-is .qs) × (length begun' ≤ 64)
     few-next = next-few b (g .known .sig) arg (view g h arg arg-is .p) (view g h arg arg-is .qs) (cell-code (kind-tag + arg) 0 full) (g .begun) (g .first) (subst (λ (z : Patterns). few-begun b (length (g .begun)) z) (view g h arg arg-is .parts-are) (g .few))
 
+    short-next : Short (3 * (g .a + length (pattern-code (view g h arg arg-is .p)))) begun'
+    short-next =
+        let x : 3 * (g .a + length (pattern-code (view g h arg arg-is .p))) ≡ 3 * g .a + 3 * length (pattern-code (view g h arg arg-is .p)) = omega arith in
+        rw x (next-short b (3 * g .a) (3 * length (pattern-code (view g h arg arg-is .p))) (cell-code (kind-tag + arg) 0 full) (g .begun) (words-of-rows (g .known .sig) arg (rows-of (g .known .sig) arg b (view g h arg arg-is .p))) (omega (arith, some-pattern-word (view g h arg arg-is .p))) (g .short)
+        (words-short (g .known .sig) arg (length (pattern-code (view g h arg arg-is .p))) (rows-places (g .known .sig) arg (view g h arg arg-is .p) b (view g h arg arg-is .well))))
+
     pub rest-given : (m' : ℕ) → m' ≡ m → GivenArgs t c (j + 1) (from w read) b r o' m'
     rest-given m' z = record {
       known = g .known;
@@ -108,11 +115,8 @@ module _ {t : List ℕ} {c j : ℕ} {w : List ℕ} {b : Bool} {used : ℕ} {o : 
       list = made-next;
       filled = next-filled b (cell-code (kind-tag + arg) 0 full) (g .begun) (words-of-rows (g .known .sig) arg (rows-of (g .known .sig) arg b (view g h arg arg-is .p))) (g .filled);
       a = g .a + length (pattern-code (view g h arg arg-is .p));
-      some-words = omega (arith, g .some-words);
-      short =
-          let x : 3 * (g .a + length (pattern-code (view g h arg arg-is .p))) ≡ 3 * g .a + 3 * length (pattern-code (view g h arg arg-is .p)) = omega arith in
-          rw x (next-short b (3 * g .a) (3 * length (pattern-code (view g h arg arg-is .p))) (cell-code (kind-tag + arg) 0 full) (g .begun) (words-of-rows (g .known .sig) arg (rows-of (g .known .sig) arg b (view g h arg arg-is .p))) (omega (arith, some-pattern-word (view g h arg arg-is .p))) (g .short)
-          (words-short (g .known .sig) arg (length (pattern-code (view g h arg arg-is .p))) (rows-places (g .known .sig) arg (view g h arg arg-is .p) b (view g h arg arg-is .well))));
+      small = omega (arith, begun-small (g .a + length (pattern-code (view g h arg arg-is .p))) begun' made-next short-next (few-next .1), g .small, some-pattern-word (view g h arg arg-is .p));
+      short = short-next;
       few = few-next .0;
       count = few-next .1;
       first = next-first b (cell-code (kind-tag + arg) 0 full) (g .begun) (words-of-rows (g .known .sig) arg (rows-of (g .known .sig) arg b (view g h arg arg-is .p))) (g .first);

@@ -142,7 +142,7 @@ module _ {t : List ℕ} {tag full c own : ℕ} {w : List ℕ} {b : Bool} {n m : 
       list = subst (λ (v : List ℕ). Product (words-list (v ∷ [])) used o) (sym begin-is) l;
       filled = (omega arith, tt);
       a = 1;
-      some-words = omega arith;
+      small = omega (arith, l .size);
       short = (omega arith, tt);
       few = view .few;
       count = omega arith;

@@ -12,7 +12,7 @@ use Rattle.pattern.specs.Pattern.{Patterns, patterns-code}
 use Rattle.pattern.specs.Ranged.{all-ranged}
 use Rattle.pattern.specs.Weight.{product-plus, sum-minus, light-all-plus, light-all-minus}
 use Rattle.pattern.specs.WellFormed.{AllWellFormed}
-use Rattle.builder.specs.Build.{room-unit}
+use Rattle.builder.specs.Build.{room-unit, room-of}
 use Rattle.cell.specs.Cell.{cell-width, all-words}
 use Rattle.cell.specs.Coded.{kinds-of, row-code, all-cells}
 use Rattle.rowlist.specs.Grow.{appends, grown, Filled, words-list}
@@ -68,13 +68,13 @@ pub record GivenArgs (t : List ℕ) (c j : ℕ) (w : List ℕ) (b : Bool) (used 
   pub list : Product (words-list begun) used o
   pub filled : Filled begun
   pub a : ℕ
-  pub some-words : 1 ≤ a
+  pub small : used + 1 ≤ room-unit * a
   pub short : Short (cell-width * a) begun
   pub few : few-begun b (length begun) ps
   pub count : length begun ≤ part-weight-limit
   pub first : HasFirst b begun
-  pub room : room-unit * (a + length (patterns-code ps)) ≤ length o
-  pub work-room : room-unit * (a + length (patterns-code ps)) ≤ m
+  pub room : room-of (a + length (patterns-code ps)) ≤ length o
+  pub work-room : room-of (a + length (patterns-code ps)) ≤ m
 
 -- what was read and written, with its length for n words of a pattern
 pub record MadeArgs (sig : Signature) (b : Bool) (ks : List ℕ) (ps : Patterns) (begun : List (List ℕ)) (n used read : ℕ) (o : List ℕ) : Type 0 where

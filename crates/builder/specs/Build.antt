@@ -28,9 +28,13 @@ abbrev pub light-of : Bool → Pattern → Bool
 light-of true p = light-plus p
 light-of false p = light-minus p
 
--- words of each slice for each word of a pattern: of a list of at most 64 rows, each with its number and 3 words for each word of the pattern, and the list's end
+-- words of each slice for each word of a pattern: of a list of at most 64 rows, each with its number and 3 words for each word of the pattern
 abbrev pub room-unit : ℕ
-room-unit = 257
+room-unit = 256
+
+-- words of each slice for a pattern of n words: one more, for the list's end
+abbrev pub room-of : ℕ → ℕ
+room-of n = room-unit * n + 1
 
 -- how the rows of a pattern are made on a side, by what its first word is
 abbrev pub making-of : Form → Bool → Making
@@ -61,8 +65,8 @@ pub record GivenPat (t : List ℕ) (tag full : ℕ) (w : List ℕ) (b : Bool) (n
   pub light : light-of b p ≡ true
   pub ranges : ranged p ≡ true
   pub opened : Open (kinds-of (known .sig)) (known .sig) k tag full
-  pub room : room-unit * length (pattern-code p) ≤ n
-  pub work-room : room-unit * length (pattern-code p) ≤ m
+  pub room : room-of (length (pattern-code p)) ≤ n
+  pub work-room : room-of (length (pattern-code p)) ≤ m
 
 -- the pattern in front, whose rows are made in this way, and how many words are its own
 pub record GivenAs (made : Making) (t : List ℕ) (tag full own : ℕ) (w : List ℕ) (b : Bool) (n m : ℕ) : Type 0 where
@@ -99,16 +103,16 @@ pub record GivenPart (t : List ℕ) (k : ℕ) (w : List ℕ) (b : Bool) (n m : �
   pub well : WellFormed (known .sig) k pattern
   pub light : light-of b pattern ≡ true
   pub ranges : ranged pattern ≡ true
-  pub room : room-unit * length (pattern-code pattern) ≤ n
-  pub work-room : room-unit * length (pattern-code pattern) ≤ m
+  pub room : room-of (length (pattern-code pattern)) ≤ n
+  pub work-room : room-of (length (pattern-code pattern)) ≤ m
 
 -- words of each slice for a pattern of 64 words
 abbrev pub row-room : ℕ
-row-room = pattern-limit * room-unit
+row-room = room-of pattern-limit
 
 -- words of each slice for a lent pattern of l words: one of over 64 is malformed and has no rows
 abbrev pub words-room : ℕ → ℕ
-words-room l = room-unit * min l pattern-limit
+words-room l = room-of (min l pattern-limit)
 
 -- a whole pattern, of kind 0, that passed 7, 18 and 9
 pub record GivenWhole (t ws : List ℕ) (n m : ℕ) : Type 0 where
@@ -117,8 +121,8 @@ pub record GivenWhole (t ws : List ℕ) (n m : ℕ) : Type 0 where
   pub words : PatternWords (known .sig) ws p
   pub light : light-plus p ≡ true
   pub ranges : ranged p ≡ true
-  pub room : room-unit * length ws ≤ n
-  pub work-room : room-unit * length ws ≤ m
+  pub room : room-of (length ws) ≤ n
+  pub work-room : room-of (length ws) ≤ m
 
 -- the list of its rows stands first, of n words without its end: a row for each of its weight at most
 pub record RowsFirst (sig : Signature) (p : Pattern) (n : ℕ) (o : List ℕ) : Type 0 where

@@ -161,11 +161,11 @@ fn place_of(t: &[u16], tag: u64, c: usize) -> u32
     (c - f) as u32
 }
 
-// Words that each slice needs for each word of a pattern.
-pub const ROOM_UNIT: usize = 257;
+// Words that each slice needs for each word of a pattern, besides one for the end.
+pub const ROOM_UNIT: usize = 256;
 
 // Words that each slice needs for a pattern of 64 words.
-pub const ROW_ROOM: usize = PATTERN_WORDS * ROOM_UNIT;
+pub const ROW_ROOM: usize = ROOM_UNIT * PATTERN_WORDS + 1;
 
 // Words that each slice needs for a lent pattern of n words.
 pub fn words_room(n: usize) -> usize
@@ -174,7 +174,7 @@ pub fn words_room(n: usize) -> usize
     if PATTERN_WORDS < n {
         return ROW_ROOM;
     }
-    ROOM_UNIT * n
+    ROOM_UNIT * n + 1
 }
 
 pub struct Built {

@@ -45,9 +45,8 @@ abbrev pub TooSmall : ℕ → ℕ → Type 0
 TooSmall n m = rows-room ≤ n → row-room ≤ m → ⊥
 
 -- whether there is room for the rows of l words behind the words that are used
-pub record RoomTold (l used n m : ℕ) (b : Bool) : Type 0 where
-  pub there : b ≡ true → (used + 1 + words-room l ≤ n) × (words-room l ≤ m)
-  pub missing : b ≡ false → TooSmall n m
+abbrev pub has-room : ℕ → ℕ → ℕ → ℕ → Bool
+has-room l used n m = leb (used + 1 + words-room l) n && leb (words-room l) m
 
 -- a pattern past 7 and 9, and room behind the words that are used
 pub record GivenPlace (t ws : List ℕ) (used n m : ℕ) : Type 0 where

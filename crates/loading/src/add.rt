@@ -8,10 +8,11 @@ use builder::build::words_room;
 use cell::cell::CELL;
 use pattern::limits::PATTERN_WORDS;
 use store::layout::RULES;
+ghost use mathlib.Core.Path.{_≡_};
 ghost use Prim.Native.Nat.{_≤_};
 ghost use lib.ListN.{length};
 ghost use Rattle.table.specs.Limits.{limits};
-ghost use Rattle.loading.specs.Add.{lists-room, RoomTold, GivenPlace, ListPlaced, GivenAdd, Stepped};
+ghost use Rattle.loading.specs.Add.{lists-room, has-room, GivenPlace, ListPlaced, GivenAdd, Stepped};
 
 // What the rules of a table may weigh in all.
 pub const WEIGHT: u16 = 256;
@@ -25,7 +26,7 @@ pub const ROWS_ROOM: usize = WEIGHT as usize * (1 + CELL * PATTERN_WORDS)
 // The smaller workspaces that a call tries first, enough for most tables: of the rows, and for patterns of at most 8 words.
 pub const SMALL_ROWS: usize = 5120;
 
-pub const SMALL_WORK: usize = 8 * ROOM_UNIT;
+pub const SMALL_WORK: usize = ROOM_UNIT * 8 + 1;
 
 // The words used and the weight, with the rule; or that no sound table has it; or that the slices are too small.
 pub enum Addition {
@@ -37,7 +38,7 @@ pub enum Addition {
 // Whether slices of so many words have room for a pattern of n words behind those that are used.
 pub fn has_room(n: usize, used: usize, rows: usize, work: usize) -> bool
     requires { ⌜ used ≤ lists-room (limits .weight) (limits .rules) ⌝ }
-    ensures { λ r. ⌜ RoomTold n used rows work r ⌝ }
+    ensures { λ r. ⌜ r ≡ has-room n used rows work ⌝ }
 {
     let room = words_room(n);
     if rows < used + 1 + room {
