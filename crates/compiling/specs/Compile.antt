@@ -11,6 +11,10 @@ use Rattle.loading.specs.Load.{InForce}
 use Rattle.compiling.specs.declared.compile.Tried.{Tried}
 use Rattle.compiling.specs.declared.compile.Tried.the-variants.{Done, NoRoom}
 
+-- words of the smaller working space for a tree
+abbrev pub small-tree : ℕ
+small-tree = 2048
+
 -- rules in force, with their lists of rows, whatever these use and weigh
 pub record InTable (t table lists : List ℕ) : Type 0 where
   pub used : ℕ

@@ -12,7 +12,6 @@ use path::rows::VISITS;
 use signature::decoded::DECODED;
 use signature::refusals::UNSOUND;
 use store::layout::TABLE;
-use tree::words::TREE_LIMIT;
 ghost use Rattle.table.specs.Limits.{limits};
 ghost use Rattle.table.specs.Calls.{Compile, TreeIn};
 ghost use Rattle.table.specs.Matrix.{tree-words};
@@ -40,17 +39,7 @@ fn write_tree(t: &[u16; DECODED], table: &[u16], lists: &[u64], space: &mut [u16
     let mut rows = [0u16; INDEX_ROOM];
     let mut cur = [0u8; CURSORS];
     let mut vis = [0u16; VISITS];
-    let mut tree = [0u16; TREE_LIMIT];
-    write_rules(
-        t,
-        table,
-        lists,
-        &mut rows,
-        &mut cur,
-        &mut vis,
-        &mut tree,
-        space,
-    )
+    write_rules(t, table, lists, &mut rows, &mut cur, &mut vis, space)
 }
 
 fn compile_small(t: &[u16; DECODED], table: &[u16], space: &mut [u16]) -> Tried

@@ -8,11 +8,10 @@ use lib.Dec.{eqb, leb}
 use lib.ListN.{length, getD, take, drop, set, length-append, length-take, length-drop}
 use lib.Seq.{getD-set-same, getD-set-other, take-at, length-take-le}
 use Rattle.signature.proofs.Tests.{eqb-eq, eqb-ne, leb-yes, leb-no, le-of}
-use Rattle.tree.specs.Limits.{tree-limit}
 use Rattle.tree.specs.Tree.{Tree}
 use Rattle.tree.specs.Words.{words, layout}
 use Rattle.tree.proofs.RunFacts.{length-layout}
-use Rattle.writer.specs.Write.{answer, space-after, fits}
+use Rattle.writer.specs.Write.{answer, space-after}
 use Rattle.path.specs.Wrote.{Wrote}
 use Rattle.writer.specs.declared.write.Written.{Written}
 use Rattle.writer.specs.declared.write.Written.the-variants.{Done, TooLarge}
@@ -36,22 +35,15 @@ copied i ws o o1 e l h = ap (λ (z : List ℕ). set z i (getD ws i 0)) e ∙ cop
 pub copied-long : (i : ℕ) (ws o : List ℕ) → i ≤ length ws → i ≤ length o → length (take i ws ++ drop i o) ≡ length o
 copied-long i ws o l h = simp (length-append, length-drop) (omega (arith, length-take-le i ws l))
 
-fits-not : (T : Tree) (o : List ℕ) → min (length o) tree-limit < words T → fits T o ≡ false
-fits-not T o l = go (leb (words T) (length o)) refl
-  where
-    go : (b : Bool) → leb (words T) (length o) ≡ b → (b && leb (words T) tree-limit) ≡ false
-    go true e = leb-no (words T) tree-limit (omega (arith, le-of (words T) (length o) e))
-    go false e = refl
-
 -- the tree was written in working space of m words, of which u were needed
-module _ (T : Tree) (m u : ℕ) (space ys o : List ℕ) (e : m ≡ min (length o) tree-limit) (s : length space ≡ m) (w : Wrote T 0 u space ys) where
-  pub too-large : m < u → (TooLarge ≡ answer T o) × (o ≡ space-after T o)
-  too-large l = let f = fits-not T o (omega (arith, w .much)) in rw f (refl, refl)
+module _ (T : Tree) (m u : ℕ) (space ys o : List ℕ) (s : length space ≡ m) (w : Wrote T 0 u space ys) where
+  pub too-large : m < u → (TooLarge ≡ answer T m) × (o ≡ space-after T m o)
+  too-large l = rw (leb-no (words T) m (omega (arith, w .much))) (refl, refl)
 
-  pub done : (rest : List ℕ) → u ≤ m → (Done u ≡ answer T o) × (take u (ys ++ rest) ++ drop u o ≡ space-after T o)
+  pub done : (rest : List ℕ) → u ≤ m → (Done u ≡ answer T m) × (take u (ys ++ rest) ++ drop u o ≡ space-after T m o)
   done rest l =
       let q : words T ≡ u = omega (arith, w .much) in
-      let f : fits T o ≡ true = rw (leb-yes (words T) (length o) (omega arith), leb-yes (words T) tree-limit (omega arith)) in
+      let f : leb (words T) m ≡ true = leb-yes (words T) m (omega arith) in
       let i : take u (ys ++ rest) ≡ layout T 0 =
       ap (λ (z : List ℕ). take u (z ++ rest)) (w .wrote (omega arith))
       ∙ ap (take u) (append-assoc (layout T 0) (drop (words T) space) rest)

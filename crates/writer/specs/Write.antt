@@ -1,8 +1,8 @@
 -- The rows of a set of rules, and what is answered and written for their tree.
 use mathlib.Core.Path.{_≡_}
 use mathlib.Core.List.{List, [], _∷_, _++_, map}
-use mathlib.Core.Bool.{Bool, _&&_, cond}
-use Prim.Native.Nat.{ℕ, _≤_, _<_}
+use mathlib.Core.Bool.{cond}
+use Prim.Native.Nat.{ℕ, _≤_, _<_, min}
 use lib.Dec.{leb}
 use lib.ListN.{length, drop}
 use Rattle.signature.specs.Decoded.{Known}
@@ -29,18 +29,18 @@ pub record GivenRows (t a tab : List ℕ) (n : ℕ) : Type 0 where
 abbrev pub tree-of-rows : {t a tab : List ℕ} {n : ℕ} → GivenRows t a tab n → ℕ → Tree
 tree-of-rows {tab = tab} g fuel = compile (default-in tab) fuel (g .known .sig) (0 ∷ []) (map line-of (g .rows)) 0
 
--- 14: "The tree exceeds the lent slice or 32,768 words."
-abbrev pub fits : Tree → List ℕ → Bool
-fits T space = leb (words T) (length space) && leb (words T) tree-limit
+-- the most words that are written, in a lent space of n words by a working space of so many
+abbrev pub most-words : ℕ → ℕ → ℕ
+most-words n room = min (min n room) tree-limit
 
--- the tree's length, or that it is too large
-abbrev pub answer : Tree → List ℕ → Written
-answer T space = cond (fits T space) (Done (words T)) TooLarge
+-- the tree's length, or that it has more words than m
+abbrev pub answer : Tree → ℕ → Written
+answer T m = cond (leb (words T) m) (Done (words T)) TooLarge
 
 -- the tree "from index 0 of the lent space, whose other words stay untouched"; nothing where it is too large
-abbrev pub space-after : Tree → List ℕ → List ℕ
-space-after T space = cond (fits T space) (layout T 0 ++ drop (words T) space) space
+abbrev pub space-after : Tree → ℕ → List ℕ → List ℕ
+space-after T m space = cond (leb (words T) m) (layout T 0 ++ drop (words T) space) space
 
 -- what is answered and written, for every bound above the most words of a tree
-abbrev pub TreeWritten : List ℕ → List ℕ → List ℕ → ℕ → List ℕ → Written → List ℕ → Type 0
-TreeWritten t a tab n space w space′ = (g : GivenRows t a tab n) (fuel : ℕ) → tree-limit < fuel → (w ≡ answer (tree-of-rows g fuel) space) × (space′ ≡ space-after (tree-of-rows g fuel) space)
+abbrev pub TreeWritten : List ℕ → List ℕ → List ℕ → ℕ → ℕ → List ℕ → Written → List ℕ → Type 0
+TreeWritten t a tab n room space w space′ = (g : GivenRows t a tab n) (fuel : ℕ) → tree-limit < fuel → (w ≡ answer (tree-of-rows g fuel) (most-words (length space) room)) × (space′ ≡ space-after (tree-of-rows g fuel) (most-words (length space) room) space)

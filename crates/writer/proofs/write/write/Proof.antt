@@ -1,5 +1,5 @@
 -- `writer::write::write` meets its contract. Assumes nothing.
-use mathlib.Core.Path.{refl, sym, _∙_}
+use mathlib.Core.Path.{refl, sym, ap, _∙_}
 use native.Mathlib.Omega.{arith}
 use lib.ListN.{length, take, drop}
 use Rattle.writer.specs.Write.{tree-of-rows}
@@ -15,12 +15,12 @@ write-spec =
     (λ c κs. c .before .before .before .before .pre .2)
     (λ c κs. c .before .before .before .before .before .pre .0 .few)
     (λ c κs. tt)
-    (λ c. (omega (arith, c .before .before .before .limit .ensures, c .before .before .before .before .before .before .before .before .before .before .pre .4)))
-    (λ c. space-long (c .before .before .before .before .limit .result) (c .before .before .before .before .before .before .before .before .before .before .before .args .tree .now) (omega (arith, c .before .before .before .before .limit .ensures, c .before .before .before .before .before .before .before .before .before .before .before .pre .4)))
-    (λ c κs. start-given (c .before .before .before .before .before .before .before .before .before .before .before .pre .0) (c .before .before .before .before .before .first-rows .result) (c .before .before .before .before .before .before .clear .last .0) (c .before .before .before .before .before .before .before .before .before .before .before .args .vis .now) (omega (arith, c .before .before .before .before .before .before .before .before .before .before .before .pre .1)) (omega (arith, c .before .before .before .before .before .before .before .before .before .before .before .pre .2, c .before .before .before .before .before .before .clear .kept .0)) (c .before .before .before .before .before .before .before .before .before .before .before .pre .3) (c .before .before .before .before .before .first-rows .ensures) (c .before .before .before .before .before .before .clear .ensures) (length (take (c .before .before .before .before .limit .result) (c .before .before .before .before .before .before .before .before .before .before .before .args .tree .now))) (omega (arith, c .before .before .before .before .limit .ensures, space-long (c .before .before .before .before .limit .result) (c .before .before .before .before .before .before .before .before .before .before .before .args .tree .now) (omega (arith, c .before .before .before .before .limit .ensures, c .before .before .before .before .before .before .before .before .before .before .before .pre .4)))))
-    (λ c. back-long (c .before .before .before .before .before .before .before .before .limit .result) (c .before .before .before .node .last .1 .1 .1 .1 .1 .1 .1 .1 .1 .1 .0) (c .before .before .before .before .before .before .before .before .before .before .before .before .before .before .before .args .tree .now) (omega (arith, c .before .before .before .before .before .before .before .before .limit .ensures, c .before .before .before .before .before .before .before .before .before .before .before .before .before .before .before .pre .4)) (c .before .before .before .node .kept .1 .1 .1 .1 .1 .1 .1 .1 .1 .1 .0))
-    (λ c. λ g fuel h. too-large (tree-of-rows g fuel) (c .before .before .before .before .before .before .before .before .limit .result) (c .before .before .before .node .result) (take (c .before .before .before .before .before .before .before .before .limit .result) (c .before .before .before .before .before .before .before .before .before .before .before .before .before .before .before .args .tree .now)) (c .before .before .before .node .last .1 .1 .1 .1 .1 .1 .1 .1 .1 .1 .0) (c .before .before .before .before .before .before .before .before .before .before .before .before .before .before .before .args .out .now) (c .before .before .before .before .before .before .before .before .limit .ensures) (sym (space-long (c .before .before .before .before .before .before .before .before .limit .result) (c .before .before .before .before .before .before .before .before .before .before .before .before .before .before .before .args .tree .now) (omega (arith, c .before .before .before .before .before .before .before .before .limit .ensures, c .before .before .before .before .before .before .before .before .before .before .before .before .before .before .before .pre .4)))) (started g (c .before .before .before .before .before .before .before .before .before .first-rows .result) (c .before .before .before .before .before .before .before .before .before .before .clear .last .0) (c .before .before .before .before .before .before .before .before .before .before .before .before .before .before .before .args .vis .now) (omega (arith, c .before .before .before .before .before .before .before .before .before .before .before .before .before .before .before .pre .1)) (omega (arith, c .before .before .before .before .before .before .before .before .before .before .before .before .before .before .before .pre .2, c .before .before .before .before .before .before .before .before .before .before .clear .kept .0)) (c .before .before .before .before .before .before .before .before .before .before .before .before .before .before .before .pre .3) (c .before .before .before .before .before .before .before .before .before .first-rows .ensures) (c .before .before .before .before .before .before .before .before .before .before .clear .ensures) (length (take (c .before .before .before .before .before .before .before .before .limit .result) (c .before .before .before .before .before .before .before .before .before .before .before .before .before .before .before .args .tree .now))) (omega (arith, c .before .before .before .before .before .before .before .before .limit .ensures, space-long (c .before .before .before .before .before .before .before .before .limit .result) (c .before .before .before .before .before .before .before .before .before .before .before .before .before .before .before .args .tree .now) (omega (arith, c .before .before .before .before .before .before .before .before .limit .ensures, c .before .before .before .before .before .before .before .before .before .before .before .before .before .before .before .pre .4)))) (c .before .before .before .node .result) (take (c .before .before .before .before .before .before .before .before .limit .result) (c .before .before .before .before .before .before .before .before .before .before .before .before .before .before .before .args .tree .now)) (c .before .before .before .node .last .1 .1 .1 .1 .1 .1 .1 .1 .1 .1 .0) refl (c .before .before .before .node .ensures .wrote) fuel h) (c .if1 .taken))
-    (λ c κs. (omega (arith, back-long (c .before .before .before .before .before .before .before .before .before .before .limit .result) (c .before .before .before .before .before .node .last .1 .1 .1 .1 .1 .1 .1 .1 .1 .1 .0) (c .before .before .before .before .before .before .before .before .before .before .before .before .before .before .before .before .before .args .tree .now) (omega (arith, c .before .before .before .before .before .before .before .before .before .before .limit .ensures, c .before .before .before .before .before .before .before .before .before .before .before .before .before .before .before .before .before .pre .4)) (c .before .before .before .before .before .node .kept .1 .1 .1 .1 .1 .1 .1 .1 .1 .1 .0), c .before .before .before .before .before .before .before .before .before .before .limit .ensures, c .before .before .before .before .before .before .before .before .before .before .before .before .before .before .before .before .before .pre .4, c .before .before .if1 .left), omega (arith, c .before .before .before .before .before .before .before .before .before .before .limit .ensures, c .before .before .if1 .left)))
-    (λ c. back-long (c .before .before .before .before .before .before .before .before .before .before .before .before .before .limit .result) (c .before .before .before .before .before .before .before .before .node .last .1 .1 .1 .1 .1 .1 .1 .1 .1 .1 .0) (c .before .before .before .before .before .before .before .before .before .before .before .before .before .before .before .before .before .before .before .before .args .tree .now) (omega (arith, c .before .before .before .before .before .before .before .before .before .before .before .before .before .limit .ensures, c .before .before .before .before .before .before .before .before .before .before .before .before .before .before .before .before .before .before .before .before .pre .4)) (c .before .before .before .before .before .before .before .before .node .kept .1 .1 .1 .1 .1 .1 .1 .1 .1 .1 .0))
+    (λ c. omega (arith, c .before .before .before .limit .ensures))
+    (λ c. space-long (c .before .before .before .before .limit .result) (c .before .before .before .before .before .before .before .before .before .before .before .args .tree .now) (omega (arith, c .before .before .before .before .limit .ensures)))
+    (λ c κs. start-given (c .before .before .before .before .before .before .before .before .before .before .before .pre .0) (c .before .before .before .before .before .first-rows .result) (c .before .before .before .before .before .before .clear .last .0) (c .before .before .before .before .before .before .before .before .before .before .before .args .vis .now) (omega (arith, c .before .before .before .before .before .before .before .before .before .before .before .pre .1)) (omega (arith, c .before .before .before .before .before .before .before .before .before .before .before .pre .2, c .before .before .before .before .before .before .clear .kept .0)) (c .before .before .before .before .before .before .before .before .before .before .before .pre .3) (c .before .before .before .before .before .first-rows .ensures) (c .before .before .before .before .before .before .clear .ensures) (length (take (c .before .before .before .before .limit .result) (c .before .before .before .before .before .before .before .before .before .before .before .args .tree .now))) (omega (arith, c .before .before .before .before .limit .ensures, space-long (c .before .before .before .before .limit .result) (c .before .before .before .before .before .before .before .before .before .before .before .args .tree .now) (omega (arith, c .before .before .before .before .limit .ensures)))))
+    (λ c. back-long (c .before .before .before .before .before .before .before .before .limit .result) (c .before .before .before .node .last .1 .1 .1 .1 .1 .1 .1 .1 .1 .1 .0) (c .before .before .before .before .before .before .before .before .before .before .before .before .before .before .before .args .tree .now) (omega (arith, c .before .before .before .before .before .before .before .before .limit .ensures)) (c .before .before .before .node .kept .1 .1 .1 .1 .1 .1 .1 .1 .1 .1 .0))
+    (λ c. ((λ g fuel h. rw (← (c .before .before .before .before .before .before .before .before .limit .ensures)) (too-large (tree-of-rows g fuel) (c .before .before .before .before .before .before .before .before .limit .result) (c .before .before .before .node .result) (take (c .before .before .before .before .before .before .before .before .limit .result) (c .before .before .before .before .before .before .before .before .before .before .before .before .before .before .before .args .tree .now)) (c .before .before .before .node .last .1 .1 .1 .1 .1 .1 .1 .1 .1 .1 .0) (c .before .before .before .before .before .before .before .before .before .before .before .before .before .before .before .args .out .now) (sym (space-long (c .before .before .before .before .before .before .before .before .limit .result) (c .before .before .before .before .before .before .before .before .before .before .before .before .before .before .before .args .tree .now) (omega (arith, c .before .before .before .before .before .before .before .before .limit .ensures)))) (started g (c .before .before .before .before .before .before .before .before .before .first-rows .result) (c .before .before .before .before .before .before .before .before .before .before .clear .last .0) (c .before .before .before .before .before .before .before .before .before .before .before .before .before .before .before .args .vis .now) (omega (arith, c .before .before .before .before .before .before .before .before .before .before .before .before .before .before .before .pre .1)) (omega (arith, c .before .before .before .before .before .before .before .before .before .before .before .before .before .before .before .pre .2, c .before .before .before .before .before .before .before .before .before .before .clear .kept .0)) (c .before .before .before .before .before .before .before .before .before .before .before .before .before .before .before .pre .3) (c .before .before .before .before .before .before .before .before .before .first-rows .ensures) (c .before .before .before .before .before .before .before .before .before .before .clear .ensures) (length (take (c .before .before .before .before .before .before .before .before .limit .result) (c .before .before .before .before .before .before .before .before .before .before .before .before .before .before .before .args .tree .now))) (omega (arith, c .before .before .before .before .before .before .before .before .limit .ensures, space-long (c .before .before .before .before .before .before .before .before .limit .result) (c .before .before .before .before .before .before .before .before .before .before .before .before .before .before .before .args .tree .now) (omega (arith, c .before .before .before .before .before .before .before .before .limit .ensures)))) (c .before .before .before .node .result) (take (c .before .before .before .before .before .before .before .before .limit .result) (c .before .before .before .before .before .before .before .before .before .before .before .before .before .before .before .args .tree .now)) (c .before .before .before .node .last .1 .1 .1 .1 .1 .1 .1 .1 .1 .1 .0) refl (c .before .before .before .node .ensures .wrote) fuel h) (c .if1 .taken))), (ap length (c .before .before .before .node .ensures .kept .cursors) ∙ c .before .before .before .before .before .before .before .before .before .before .clear .kept .0, c .before .before .before .node .ensures .kept .long)))
+    (λ c κs. (omega (arith, back-long (c .before .before .before .before .before .before .before .before .before .before .limit .result) (c .before .before .before .before .before .node .last .1 .1 .1 .1 .1 .1 .1 .1 .1 .1 .0) (c .before .before .before .before .before .before .before .before .before .before .before .before .before .before .before .before .before .args .tree .now) (omega (arith, c .before .before .before .before .before .before .before .before .before .before .limit .ensures)) (c .before .before .before .before .before .node .kept .1 .1 .1 .1 .1 .1 .1 .1 .1 .1 .0), c .before .before .before .before .before .before .before .before .before .before .limit .ensures, c .before .before .if1 .left), omega (arith, c .before .before .before .before .before .before .before .before .before .before .limit .ensures, c .before .before .if1 .left)))
+    (λ c. back-long (c .before .before .before .before .before .before .before .before .before .before .before .before .before .limit .result) (c .before .before .before .before .before .before .before .before .node .last .1 .1 .1 .1 .1 .1 .1 .1 .1 .1 .0) (c .before .before .before .before .before .before .before .before .before .before .before .before .before .before .before .before .before .before .before .before .args .tree .now) (omega (arith, c .before .before .before .before .before .before .before .before .before .before .before .before .before .limit .ensures)) (c .before .before .before .before .before .before .before .before .node .kept .1 .1 .1 .1 .1 .1 .1 .1 .1 .1 .0))
     (λ c. c .before .before .copy .kept .1 .1 .0)
-    (λ c. λ g fuel h. let d = done (tree-of-rows g fuel) (c .before .before .before .before .before .before .before .before .before .before .before .before .before .limit .result) (c .before .before .before .before .before .before .before .before .node .result) (take (c .before .before .before .before .before .before .before .before .before .before .before .before .before .limit .result) (c .before .before .before .before .before .before .before .before .before .before .before .before .before .before .before .before .before .before .before .before .args .tree .now)) (c .before .before .before .before .before .before .before .before .node .last .1 .1 .1 .1 .1 .1 .1 .1 .1 .1 .0) (c .before .before .before .before .before .before .before .before .before .before .before .before .before .before .before .before .before .before .before .before .args .out .now) (c .before .before .before .before .before .before .before .before .before .before .before .before .before .limit .ensures) (sym (space-long (c .before .before .before .before .before .before .before .before .before .before .before .before .before .limit .result) (c .before .before .before .before .before .before .before .before .before .before .before .before .before .before .before .before .before .before .before .before .args .tree .now) (omega (arith, c .before .before .before .before .before .before .before .before .before .before .before .before .before .limit .ensures, c .before .before .before .before .before .before .before .before .before .before .before .before .before .before .before .before .before .before .before .before .pre .4)))) (started g (c .before .before .before .before .before .before .before .before .before .before .before .before .before .before .first-rows .result) (c .before .before .before .before .before .before .before .before .before .before .before .before .before .before .before .clear .last .0) (c .before .before .before .before .before .before .before .before .before .before .before .before .before .before .before .before .before .before .before .before .args .vis .now) (omega (arith, c .before .before .before .before .before .before .before .before .before .before .before .before .before .before .before .before .before .before .before .before .pre .1)) (omega (arith, c .before .before .before .before .before .before .before .before .before .before .before .before .before .before .before .before .before .before .before .before .pre .2, c .before .before .before .before .before .before .before .before .before .before .before .before .before .before .before .clear .kept .0)) (c .before .before .before .before .before .before .before .before .before .before .before .before .before .before .before .before .before .before .before .before .pre .3) (c .before .before .before .before .before .before .before .before .before .before .before .before .before .before .first-rows .ensures) (c .before .before .before .before .before .before .before .before .before .before .before .before .before .before .before .clear .ensures) (length (take (c .before .before .before .before .before .before .before .before .before .before .before .before .before .limit .result) (c .before .before .before .before .before .before .before .before .before .before .before .before .before .before .before .before .before .before .before .before .args .tree .now))) (omega (arith, c .before .before .before .before .before .before .before .before .before .before .before .before .before .limit .ensures, space-long (c .before .before .before .before .before .before .before .before .before .before .before .before .before .limit .result) (c .before .before .before .before .before .before .before .before .before .before .before .before .before .before .before .before .before .before .before .before .args .tree .now) (omega (arith, c .before .before .before .before .before .before .before .before .before .before .before .before .before .limit .ensures, c .before .before .before .before .before .before .before .before .before .before .before .before .before .before .before .before .before .before .before .before .pre .4)))) (c .before .before .before .before .before .before .before .before .node .result) (take (c .before .before .before .before .before .before .before .before .before .before .before .before .before .limit .result) (c .before .before .before .before .before .before .before .before .before .before .before .before .before .before .before .before .before .before .before .before .args .tree .now)) (c .before .before .before .before .before .before .before .before .node .last .1 .1 .1 .1 .1 .1 .1 .1 .1 .1 .0) refl (c .before .before .before .before .before .before .before .before .node .ensures .wrote) fuel h) (drop (c .before .before .before .before .before .before .before .before .before .before .before .before .before .limit .result) (c .before .before .before .before .before .before .before .before .before .before .before .before .before .before .before .before .before .before .before .before .args .tree .now)) (omega (arith, c .before .before .before .before .before .if1 .left)) in (d .0, c .before .before .copy .ensures ∙ d .1)))
+    (λ c. ((λ g fuel h. let d = done (tree-of-rows g fuel) (c .before .before .before .before .before .before .before .before .before .before .before .before .before .limit .result) (c .before .before .before .before .before .before .before .before .node .result) (take (c .before .before .before .before .before .before .before .before .before .before .before .before .before .limit .result) (c .before .before .before .before .before .before .before .before .before .before .before .before .before .before .before .before .before .before .before .before .args .tree .now)) (c .before .before .before .before .before .before .before .before .node .last .1 .1 .1 .1 .1 .1 .1 .1 .1 .1 .0) (c .before .before .before .before .before .before .before .before .before .before .before .before .before .before .before .before .before .before .before .before .args .out .now) (sym (space-long (c .before .before .before .before .before .before .before .before .before .before .before .before .before .limit .result) (c .before .before .before .before .before .before .before .before .before .before .before .before .before .before .before .before .before .before .before .before .args .tree .now) (omega (arith, c .before .before .before .before .before .before .before .before .before .before .before .before .before .limit .ensures)))) (started g (c .before .before .before .before .before .before .before .before .before .before .before .before .before .before .first-rows .result) (c .before .before .before .before .before .before .before .before .before .before .before .before .before .before .before .clear .last .0) (c .before .before .before .before .before .before .before .before .before .before .before .before .before .before .before .before .before .before .before .before .args .vis .now) (omega (arith, c .before .before .before .before .before .before .before .before .before .before .before .before .before .before .before .before .before .before .before .before .pre .1)) (omega (arith, c .before .before .before .before .before .before .before .before .before .before .before .before .before .before .before .before .before .before .before .before .pre .2, c .before .before .before .before .before .before .before .before .before .before .before .before .before .before .before .clear .kept .0)) (c .before .before .before .before .before .before .before .before .before .before .before .before .before .before .before .before .before .before .before .before .pre .3) (c .before .before .before .before .before .before .before .before .before .before .before .before .before .before .first-rows .ensures) (c .before .before .before .before .before .before .before .before .before .before .before .before .before .before .before .clear .ensures) (length (take (c .before .before .before .before .before .before .before .before .before .before .before .before .before .limit .result) (c .before .before .before .before .before .before .before .before .before .before .before .before .before .before .before .before .before .before .before .before .args .tree .now))) (omega (arith, c .before .before .before .before .before .before .before .before .before .before .before .before .before .limit .ensures, space-long (c .before .before .before .before .before .before .before .before .before .before .before .before .before .limit .result) (c .before .before .before .before .before .before .before .before .before .before .before .before .before .before .before .before .before .before .before .before .args .tree .now) (omega (arith, c .before .before .before .before .before .before .before .before .before .before .before .before .before .limit .ensures)))) (c .before .before .before .before .before .before .before .before .node .result) (take (c .before .before .before .before .before .before .before .before .before .before .before .before .before .limit .result) (c .before .before .before .before .before .before .before .before .before .before .before .before .before .before .before .before .before .before .before .before .args .tree .now)) (c .before .before .before .before .before .before .before .before .node .last .1 .1 .1 .1 .1 .1 .1 .1 .1 .1 .0) refl (c .before .before .before .before .before .before .before .before .node .ensures .wrote) fuel h) (drop (c .before .before .before .before .before .before .before .before .before .before .before .before .before .limit .result) (c .before .before .before .before .before .before .before .before .before .before .before .before .before .before .before .before .before .before .before .before .args .tree .now)) (omega (arith, c .before .before .before .before .before .if1 .left)) in rw (← (c .before .before .before .before .before .before .before .before .before .before .before .before .before .limit .ensures)) (d .0, c .before .before .copy .ensures ∙ d .1)), (ap length (c .before .before .before .before .before .before .before .before .node .ensures .kept .cursors) ∙ c .before .before .before .before .before .before .before .before .before .before .before .before .before .before .before .clear .kept .0, c .before .before .before .before .before .before .before .before .node .ensures .kept .long))))
