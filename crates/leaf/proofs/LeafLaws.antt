@@ -1,27 +1,28 @@
 -- A leaf is written.
-use mathlib.Core.Bool.{Bool, true, false}
+use mathlib.Core.Bool.{Bool, true, false, cond}
 use mathlib.Core.Path.{_≡_, refl, sym, ap, subst, _∙_}
 use mathlib.Core.List.{List, [], _∷_, _++_, append-nil}
 use Prim.Native.Nat.{ℕ, zero, suc, _+_, _-_, _*_, _/_, _≤_, _<_, max}
 use native.Mathlib.Nat.{zero-add}
 use native.Mathlib.Omega.{arith}
-use lib.Dec.{eqb}
+use borrow.Author.Tests.{ltb-true, ltb-false, lt-ltb, le-ltb}
+use lib.Dec.{eqb, ltb}
 use lib.ListN.{length, getD, drop, take, set, length-drop, drop-of-length-le}
 use lib.Seq.{take-all, length-take-le, drop-drop}
-use Rattle.sets.specs.Set.{bit}
-use Rattle.sets.proofs.SetLaws.{bit-lt}
+use Rattle.sets.specs.Set.{bit, set-limit, Lowest}
+use Rattle.sets.proofs.SetLaws.{bit-zero}
 use Rattle.signature.proofs.Tests.{eqb-eq, eqb-ne}
 use Rattle.pattern.specs.Limits.{variable-count}
 use Rattle.tree.specs.Tree.{default, hit}
 use Rattle.tree.specs.Words.{pairs}
-use Rattle.leaf.specs.Leaf.{Paired, all-pairs, pairs-from, cell-pair, cell-pairs, Pairing, Used}
+use Rattle.leaf.specs.Leaf.{Paired, all-pairs, pairs-from, cell-pair, cell-pairs, Pairing, Used, NextVariable}
 use Rattle.cell.specs.Cursor.{cell-at}
 use Rattle.cell.specs.declared.cell.Cell.{Cell}
 use Rattle.path.specs.Standing.{vars-of}
 use Rattle.path.specs.State.{bound, cell-of}
 use Rattle.leaf.specs.Leaf.{Leaving}
 use Rattle.path.specs.Wrote.{Wrote}
-use Rattle.leaf.proofs.PairLaws.{bound-rising, Sofar, sofar-more, sofar-full, sofar-end, paired-none}
+use Rattle.leaf.proofs.PairLaws.{bound-rising, Sofar, sofar-more, sofar-full, sofar-end}
 
 pub pairing : {a rows : List ℕ} {r : ℕ} {cur vis : List ℕ} (q : ℕ) → Leaving a rows r cur vis → q ≡ getD cur r 0 → Pairing a rows vis r q
 pairing q g e = record { long = g .long; visits = g .visits; small = omega (arith, g .small); cells = omega (arith, g .cells) }
@@ -138,10 +139,42 @@ unused : (a rows vis : List ℕ) (r q u x : ℕ) → Used a rows r q u → bit u
 unused a rows vis r zero u x h z = refl
 unused a rows vis r (suc q) u x h z = rw (h x q z (omega arith)) (unused a rows vis r q u x (λ y p w l. h y p w (omega arith)) z)
 
-pub none-bound : (a rows vis : List ℕ) (r q u x at : ℕ) (o : List ℕ) → Used a rows r q u → eqb (bit u x) 1 ≡ false → at ≤ length o → Paired (cell-pairs a rows vis r x q) at at o o
-none-bound a rows vis r q u x at o h e l =
-    let z : bit u x ≡ 0 = omega (arith, bit-lt u x, eqb-ne (bit u x) 1 e) in
-    rw (unused a rows vis r q u x h z) (paired-none at o l)
+-- the set without the variables below x
+module _ (u x f left : ℕ) (h : (j : ℕ) → bit f j ≡ cond (ltb j x) 1 0) (g : (j : ℕ) → bit left j ≡ cond (eqb (bit f j) 1) 0 (bit u j)) where
+  from-on : (j : ℕ) → x ≤ j → bit u j ≡ bit left j
+  from-on j l = sym (g j ∙ ap (λ (b : ℕ). cond (eqb b 1) 0 (bit u j)) (h j ∙ ap (λ (z : Bool). cond z 1 0) (le-ltb j x l)))
+
+  below : (j : ℕ) → j < x → bit left j ≡ 0
+  below j l = g j ∙ ap (λ (b : ℕ). cond (eqb b 1) 0 (bit u j)) (h j ∙ ap (λ (z : Bool). cond z 1 0) (lt-ltb j x l))
+
+  pub next-none : x ≤ variable-count → left ≡ 0 → NextVariable u x variable-count
+  next-none l e = record { least = l; most = omega arith; between = λ z m k. from-on z m ∙ ap (λ (w : ℕ). bit w z) e ∙ bit-zero z }
+
+  module _ (y : ℕ) (w : Lowest set-limit left y) where
+    pub next-low : y < variable-count → NextVariable u x y
+    next-low l = record { least = go (ltb y x) refl; most = omega arith; between = λ z m k. from-on z m ∙ w .none-below z k }
+      where
+        go : (b : Bool) → ltb y x ≡ b → x ≤ y
+        go true e = absurd (omega (arith, w .member, below y (ltb-true y x e)))
+        go false e = ltb-false y x e
+
+    pub next-high : x ≤ variable-count → variable-count ≤ y → NextVariable u x variable-count
+    next-high l m = record { least = l; most = omega arith; between = λ z i k. from-on z i ∙ w .none-below z (omega arith) }
+
+-- variables without pairs
+past-unused : (a rows vis : List ℕ) (r q d x : ℕ) → x + d ≤ variable-count → ((z : ℕ) → x ≤ z → z < x + d → cell-pairs a rows vis r z q ≡ []) → later a rows vis r q x x ≡ later a rows vis r q x (x + d)
+past-unused a rows vis r q zero x l h = let e : x ≡ x + 0 = omega arith in ap (λ (m : ℕ). later a rows vis r q x m) e
+past-unused a rows vis r q (suc d) x l h =
+    let e : (x + 1) + d ≡ x + suc d = omega arith in
+    later-next a rows vis r q x (omega arith)
+    ∙ ap (λ (cs : List (ℕ × ℕ)). cs ++ later a rows vis r q x (x + 1)) (h x (omega arith) (omega arith))
+    ∙ past-unused a rows vis r q d (x + 1) (omega arith) (λ z m k. h z (omega arith) (omega arith))
+    ∙ ap (λ (m : ℕ). later a rows vis r q x m) e
+
+pub variables-past : (a rows vis : List ℕ) (r q u x y : ℕ) (bs : List (ℕ × ℕ)) (to : ℕ) (o₀ o : List ℕ) → Used a rows r q u → NextVariable u x y → Sofar bs (later a rows vis r q x x) 0 to o₀ o → Sofar bs (later a rows vis r q x y) 0 to o₀ o
+variables-past a rows vis r q u x y bs to o₀ o h n s =
+    let e : x + (y - x) ≡ y = omega (arith, n .least) in
+    subst (λ (cs : List (ℕ × ℕ)). Sofar bs cs 0 to o₀ o) (past-unused a rows vis r q (y - x) x (omega (arith, n .least, n .most)) (λ z m k. unused a rows vis r q u z h (n .between z m (omega (arith, n .least)))) ∙ ap (λ (m : ℕ). later a rows vis r q x m) e) s
 
 -- the default's leaf
 pub default-short : (d : ℕ) (o : List ℕ) → length o < 2 → Wrote (default d) 0 (length o + 1) o o

@@ -34,6 +34,12 @@ module _ (a rows vis : List ℕ) (r : ℕ) where
 abbrev pub Used : List ℕ → List ℕ → ℕ → ℕ → ℕ → Type 0
 Used a rows r q u = (x p : ℕ) → bit u x ≡ 0 → p < q → bit (vars-of a (cell-of rows r p)) x ≡ 0
 
+-- y is the first variable of the set that is not below x, or their number
+pub record NextVariable (u x y : ℕ) : Type 0 where
+  pub least : x ≤ y
+  pub most : y ≤ variable-count
+  pub between : (z : ℕ) → x ≤ z → z < y → bit u z ≡ 0
+
 -- the cells before q, and their visits
 pub record Pairing (a rows vis : List ℕ) (r q : ℕ) : Type 0 where
   pub long : row-stride * r + row-stride ≤ length rows

@@ -4,8 +4,11 @@ use path::rows::ROW;
 use path::rows::cell_of;
 use pattern::limits::PATTERN_WORDS;
 use pattern::limits::VARIABLES;
+use sets::set::full;
 use sets::set::has as has_bit;
 use sets::set::join;
+use sets::set::lowest;
+use sets::set::minus;
 use tree::words::DEFAULT;
 use tree::words::DEFAULT_WORDS;
 use tree::words::HIT;
@@ -13,9 +16,10 @@ use tree::words::HIT_WORDS;
 ghost use mathlib.Core.Path.{_≡_};
 ghost use Prim.Native.Nat.{_+_, _*_, _≤_, _<_};
 ghost use lib.ListN.{length, getD};
+ghost use Rattle.pattern.specs.Limits.{variable-count};
 ghost use Rattle.sets.specs.Set.{set-limit};
 ghost use Rattle.path.specs.State.{rule-of, plan-of, row-stride, cell-of, default-in};
-ghost use Rattle.leaf.specs.Leaf.{Leaving, Pairing, Paired, Used, all-pairs, cell-pair, cell-pairs, leaf-of};
+ghost use Rattle.leaf.specs.Leaf.{Leaving, Pairing, Paired, Used, NextVariable, all-pairs, cell-pair, cell-pairs, leaf-of};
 ghost use Rattle.signature.specs.Limits.{word-limit};
 ghost use Rattle.rowset.specs.Limits.{row-limit};
 ghost use Rattle.tree.specs.Tree.{default};
@@ -105,25 +109,20 @@ fn used(a: &[u64], rows: &[u16], r: usize, q: usize) -> u64
     u
 }
 
-// The pairs of variable x where some cell binds it.
-fn some_pairs(
-    a: &[u64],
-    rows: &[u16],
-    vis: &[u16],
-    r: usize,
-    q: usize,
-    bound: u64,
-    x: u16,
-    at: usize,
-    out: &mut [u16],
-) -> usize
-    requires { ⌜ Pairing (now a) (now rows) (now vis) r q × (x < set-limit) × (at ≤ length (now out)) × Used (now a) (now rows) r q bound ⌝ }
-    ensures { λ u. ⌜ Paired (cell-pairs (now (a .entry)) (now (rows .entry)) (now (vis .entry)) r x q) at u (now (out .entry)) (now (out .exit)) ⌝ }
+// The lowest variable of the set from x on, or VARIABLE_COUNT.
+fn next_variable(bound: u64, x: u16) -> u16
+    requires { ⌜ x ≤ variable-count ⌝ }
+    ensures { λ y. ⌜ NextVariable bound x y ⌝ }
 {
-    if has_bit(bound, x as u32) {
-        return variable_pairs(a, rows, vis, r, q, x, at, out);
+    let left = minus(bound, full(x as u32));
+    if left == 0 {
+        return VARIABLE_COUNT;
     }
-    at
+    let y = lowest(left) as u16;
+    if y < VARIABLE_COUNT {
+        return y;
+    }
+    VARIABLE_COUNT
 }
 
 // The pairs of all variables, rising.
@@ -132,15 +131,15 @@ fn pairs(a: &[u64], rows: &[u16], vis: &[u16], r: usize, q: usize, out: &mut [u1
     ensures { λ u. ⌜ Paired (all-pairs (now (a .entry)) (now (rows .entry)) (now (vis .entry)) r q) 0 u (now (out .entry)) (now (out .exit)) ⌝ }
 {
     let bound = used(a, rows, r, q);
-    let mut x = 0;
+    let mut x = next_variable(bound, 0);
     let mut to = 0;
     while x < VARIABLE_COUNT {
-        let u = some_pairs(a, rows, vis, r, q, bound, x, to, out);
+        let u = variable_pairs(a, rows, vis, r, q, x, to, out);
         if u > out.len() {
             return u;
         }
         to = u;
-        x += 1;
+        x = next_variable(bound, x + 1);
     }
     to
 }
