@@ -116,7 +116,7 @@ fn stays(a: &[u64], rows: &[u16], s: &[u64; SET_WORDS], cur: &[u8], j: usize, r:
     false
 }
 
-// In next from now on: the rows that stay alive where head number j of the kind is taken.
+// In next from now on: the rows that stay alive where head number j of the kind is taken. Sought from row 0 on, as in `visits::lower`.
 pub fn keep(
     a: &[u64],
     rows: &[u16],
@@ -131,11 +131,15 @@ pub fn keep(
     ensures { λ _. ⌜ ((r : ℕ) → r < n → member (now (next .exit)) r ≡ kept-of (now (a .entry)) (now (rows .entry)) (member (now (s .entry))) (member (now (re .entry))) (now (cur .entry)) j r) ⌝ }
 {
     copy(s, next);
-    let mut r = first_in(re, n);
-    while r < n {
+    let mut from = 0;
+    while from < n {
+        let r = next_in(re, from, n);
+        if r == n {
+            return;
+        }
         let b = stays(a, rows, s, cur, j, r);
         put(next, r, b);
-        r = next_in(re, r + 1, n);
+        from = r + 1;
     }
 }
 

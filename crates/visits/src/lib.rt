@@ -104,14 +104,18 @@ fn drop(cur: &mut [u8], r: usize)
     cur[r] = cur[r] - 1;
 }
 
-// The rows of the set back at their cells.
+// The rows of the set back at their cells. Sought from row 0 on, since the first row of the set, which `raise` has sought too, would be kept in every nested frame.
 pub fn lower(cur: &mut [u8], n: usize, re: &[u64; SET_WORDS])
     requires { ⌜ (n ≤ row-limit) × (n ≤ length (now cur)) × ((r : ℕ) → r < n → member (now re) r ≡ true → 0 < getD (now cur) r 0) ⌝ }
     ensures { λ _. ⌜ Lowered n (member (now (re .entry))) (now (cur .entry)) (now (cur .exit)) ⌝ }
 {
-    let mut r = first_in(re, n);
-    while r < n {
+    let mut from = 0;
+    while from < n {
+        let r = next_in(re, from, n);
+        if r == n {
+            return;
+        }
         drop(cur, r);
-        r = next_in(re, r + 1, n);
+        from = r + 1;
     }
 }

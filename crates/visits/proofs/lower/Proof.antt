@@ -1,6 +1,4 @@
 -- `visits::lower` meets its contract. Assumes nothing.
-use mathlib.Core.Path.{_≡_}
-use mathlib.Core.Bool.{true}
 use Prim.Native.Nat.{_-_, _≤_, _<_}
 use native.Mathlib.Omega.{arith}
 use Rattle.rowset.specs.Member.{member}
@@ -9,10 +7,10 @@ use Rattle.visits.proofs.lower.Statement.{statement}
 use Rattle.visits.proofs.lower.Tie as tie
 
 abbrev Inv-loop : tie.InvT-loop
-Inv-loop cur₀ n re r₀ cur r = (r ≤ n) × (r < n → member re r ≡ true) × Low (member re) cur₀ cur r
+Inv-loop cur₀ n re from₀ cur from = (from ≤ n) × Low (member re) cur₀ cur from
 
 abbrev μ-loop : tie.MeasureT-loop
-μ-loop cur₀ n re r₀ cur r = n - r
+μ-loop cur₀ n re from₀ cur from = n - from
 
 pub lower-spec : {M : Type 1} → statement M
 lower-spec =
@@ -20,12 +18,13 @@ lower-spec =
     (tie.spec
     Inv-loop
     μ-loop
-    (λ c κs. omega arith)
-    (λ c. let f = c .first-in .ensures in (f .most, f .there, low-past _ _ (low-start _ _) (omega arith) (λ q a l. f .before q l)))
-    (λ c κs. (omega (arith, c .before .before .loop .inv .2 .len), low-some (c .before .before .loop .inv .2) (c .before .before .before .before .before .pre .2 _ (omega arith) (c .before .before .loop .inv .1 (c .before .loop-test .taken)))))
-    (λ c. omega arith)
+    (λ c. (omega arith, low-start _ _))
     (λ c κs. (omega arith, omega arith))
-    (λ c. omega (arith, c .next-in .ensures .least))
-    (λ c. let x = c .next-in .ensures in (x .most, x .there, low-past _ _ (low-next _ (c .before .before .before .before .before .before .loop .inv .2) (omega (arith, c .before .before .before .before .before .before .loop .inv .2 .len)) (c .before .before .before .before .before .before .loop .inv .1 (c .before .before .before .before .before .loop-test .taken)) (c .before .before .before .drop .ensures)) (omega (arith, x .least)) (λ q a l. x .between q a l)))
-    (λ c. c .before .loop .inv .2 .len)
-    (λ c. low-all (c .before .loop .inv .2) (omega (arith, c .loop-test .left)) (omega arith)))
+    (λ c. c .before .before .before .loop .inv .1 .len)
+    (λ c. let x = c .before .next-in .ensures in low-all (low-past _ _ (c .before .before .before .loop .inv .1) (omega (arith, x .least)) (x .between)) (omega (arith, c .if1 .taken)) (x .most))
+    (λ c κs. let x = c .before .before .next-in .ensures in let w = c .before .before .before .before .loop .inv .1 in let l : c .before .before .next-in .result < c .before .before .before .before .before .before .args .n = omega (arith, x .most, c .before .if1 .left) in (omega (arith, w .len), low-some (low-past _ _ w (omega (arith, x .least)) (x .between)) (c .before .before .before .before .before .before .pre .2 _ l (x .there l))))
+    (λ c. omega (arith, c .before .before .before .before .before .next-in .ensures .most, c .before .before .before .before .if1 .left))
+    (λ c. omega (arith, c .before .before .before .before .before .next-in .ensures .most, c .before .before .before .before .before .next-in .ensures .least, c .before .before .before .before .if1 .left))
+    (λ c. let x = c .before .before .before .before .before .next-in .ensures in let w = c .before .before .before .before .before .before .before .loop .inv .1 in let l : c .before .before .before .before .before .next-in .result < c .before .before .before .before .before .before .before .before .before .args .n = omega (arith, x .most, c .before .before .before .before .if1 .left) in (omega arith, low-next _ (low-past _ _ w (omega (arith, x .least)) (x .between)) (omega (arith, w .len)) (x .there l) (c .before .before .drop .ensures)))
+    (λ c. c .before .loop .inv .1 .len)
+    (λ c. low-all (c .before .loop .inv .1) (omega (arith, c .loop-test .left)) (omega arith)))
