@@ -4,3 +4,4 @@ pub mod Behind
 pub mod Turns
 pub mod Twice
 pub mod Whole
+pub mod Plain

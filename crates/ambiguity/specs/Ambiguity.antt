@@ -1,8 +1,9 @@
 -- Ambiguity (10) in the code's terms: of a part at a side.
 use mathlib.Core.Path.{_≡_}
-use mathlib.Core.List.{List}
-use mathlib.Core.Bool.{Bool, true, false, not, _&&_}
+use mathlib.Core.List.{List, [], _∷_}
+use mathlib.Core.Bool.{Bool, true, false, not, _&&_, _||_}
 use Prim.Native.Nat.{ℕ}
+use lib.Dec.{eqb}
 use lib.ListN.{length}
 use Rattle.signature.specs.Decoded.{argument-of}
 use Rattle.signature.specs.Lists.{is-empty}
@@ -21,6 +22,11 @@ ambiguous-of false sig k p = ambiguous-minus sig k p
 
 abbrev pub has-vars : Bool → Pattern → Bool
 has-vars b p = not (is-empty (vars-at (side-of b) p))
+
+-- some word is an "or", or an "and" behind a "not"; b says that a "not" came before these words
+abbrev pub may-double : Bool → List ℕ → Bool
+may-double b [] = false
+may-double b (w ∷ ws) = (eqb w 257 || (b && eqb w 256)) || may-double (b || eqb w 260) ws
 
 -- an "or" on the plus side, an "and" on the minus side
 abbrev pub doubles : Bool → Form → Bool

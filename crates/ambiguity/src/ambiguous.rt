@@ -7,15 +7,22 @@ use pattern::token::parts;
 use pattern::token::side_behind;
 use signature::decoded::argument_of;
 ghost use mathlib.Core.Path.{_≡_};
-ghost use mathlib.Core.Bool.{_&&_, _||_};
+ghost use mathlib.Core.Bool.{false, _&&_, _||_};
+ghost use lib.Dec.{eqb};
 ghost use lib.ListN.{length};
 ghost use Prim.Native.Nat.{_<_};
 ghost use Rattle.signature.specs.Decoded.{decoded-length};
 ghost use Rattle.signature.specs.Limits.{argument-limit};
 ghost use Rattle.pattern.specs.Word.{form-of, head-small};
 ghost use Rattle.row.specs.Overlap.{ambiguous-plus};
-ghost use Rattle.ambiguity.specs.Ambiguity.{doubles, taken-twice, kind-behind, own-variable, Judged};
+ghost use Rattle.ambiguity.specs.Ambiguity.{may-double, doubles, taken-twice, kind-behind, own-variable, Judged};
 ghost use Rattle.builder.specs.Build.{GivenPart, GivenWhole};
+
+const AND: u16 = 256;
+
+const OR: u16 = 257;
+
+const NOT: u16 = 260;
 
 // Whether a part has variables at its side, and how many words it takes; or that it, or a part of it, is ambiguous.
 pub enum Part {
@@ -30,6 +37,36 @@ fn either(a: bool, b: bool) -> bool
         return true;
     }
     b
+}
+
+// Whether a value may be taken twice behind a word: "or", or "and" below a "not", which came before it.
+fn may_double_at(w: u16, below: bool) -> bool
+    ensures { λ r. ⌜ r ≡ (eqb w 257 || (below && eqb w 256)) ⌝ }
+{
+    if w == OR {
+        return true;
+    }
+    if below {
+        return w == AND;
+    }
+    false
+}
+
+// Whether some word is one of these; a pattern without them is not ambiguous.
+fn may_double(p: &[u16]) -> bool
+    ensures { λ r. ⌜ r ≡ may-double false (now (p .entry)) ⌝ }
+{
+    let mut below = false;
+    let mut i = 0;
+    while i < p.len() {
+        let w = p[i];
+        if may_double_at(w, below) {
+            return true;
+        }
+        below = either(below, w == NOT);
+        i += 1;
+    }
+    false
 }
 
 fn is_variable(w: Word, plus: bool) -> bool
@@ -145,6 +182,9 @@ pub fn ambiguous(t: &[u16], p: &[u16], out: &mut [u64], work: &mut [u64]) -> boo
     requires { ⌜ GivenWhole (now t) (now p) (length (now out)) (length (now work)) ⌝ }
     ensures { λ r. ⌜ ((g : GivenWhole (now (t .entry)) (now (p .entry)) (length (now (out .entry))) (length (now (work .entry)))) → r ≡ ambiguous-plus (g .known .sig) 0 (g .p)) ⌝ }
 {
+    if !may_double(p) {
+        return false;
+    }
     let r = ambiguous_at(t, 0, p, true, out, work);
     match r {
         Part::Clear(_vars, _used) => false,
