@@ -12,3 +12,7 @@ pub record Booked (t b : List ℕ) : Type 0 where
   pub known : Known t
   pub value : Value
   pub read : read-booking (known .sig) b ≡ some value
+
+-- a booking of at most so many words is answered with a smaller array of visits
+abbrev pub short-booking : ℕ
+short-booking = 64

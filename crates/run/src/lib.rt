@@ -14,6 +14,7 @@ use signature::refusals::SIGNATURE_UNLAWFUL;
 use signature::refusals::TREE_BROKEN;
 ghost use mathlib.Core.Path.{_≡_};
 ghost use mathlib.Core.List.{[]};
+ghost use Prim.Native.Nat.{_≤_};
 ghost use lib.ListN.{length};
 ghost use Rattle.signature.specs.Decoded.{Known};
 ghost use Rattle.signature.specs.Read.{read-booking};
@@ -21,7 +22,10 @@ ghost use Rattle.signature.specs.Value.{vcons, vnil};
 ghost use Rattle.tree.specs.Run.{run as run-of};
 ghost use Rattle.tree.specs.RunCall.{run-at, run-booking, RunCall};
 ghost use Rattle.run.specs.Outcome.{outcome, ran-answer};
-ghost use Rattle.run.specs.Parts.{Booked};
+ghost use Rattle.run.specs.Parts.{Booked, short-booking};
+
+// The words of a short booking.
+const SHORT: usize = 64;
 
 // The answer of a run: the refusal's number or 0, the rule, its plan, and a place for each variable.
 pub struct Ran {
@@ -32,11 +36,10 @@ pub struct Ran {
 }
 
 // The tree from its node on, and the booking from its current place on. A visit takes a word at least, so there are never too many.
-fn walk_tree(table: &[u16], tree: &[u16], book: &[u16]) -> Ran
-    requires { ⌜ Booked (now table) (now book) ⌝ }
+fn walk_in(table: &[u16], tree: &[u16], book: &[u16], visits: &mut [u16]) -> Ran
+    requires { ⌜ Booked (now table) (now book) × (length (now book) ≤ length (now visits)) ⌝ }
     ensures { λ r. ⌜ ((k : Booked (now (table .entry)) (now (book .entry))) → outcome r ≡ run-at (run-of (length (now (tree .entry))) (k .known .sig) (now (tree .entry)) 0 (vcons (k .value) vnil) 0 [])) ⌝ }
 {
-    let mut visits = [0u16; BOOKING_LIMIT];
     let mut n = 0;
     let mut t = tree;
     let mut node = 0;
@@ -66,6 +69,24 @@ fn walk_tree(table: &[u16], tree: &[u16], book: &[u16]) -> Ran
     }
 }
 
+// With an array for the visits of every booking.
+fn walk_tree(table: &[u16], tree: &[u16], book: &[u16]) -> Ran
+    requires { ⌜ Booked (now table) (now book) ⌝ }
+    ensures { λ r. ⌜ ((k : Booked (now (table .entry)) (now (book .entry))) → outcome r ≡ run-at (run-of (length (now (tree .entry))) (k .known .sig) (now (tree .entry)) 0 (vcons (k .value) vnil) 0 [])) ⌝ }
+{
+    let mut visits = [0u16; BOOKING_LIMIT];
+    walk_in(table, tree, book, &mut visits)
+}
+
+// With a smaller one, which takes less time to clear.
+fn walk_short(table: &[u16], tree: &[u16], book: &[u16]) -> Ran
+    requires { ⌜ Booked (now table) (now book) × (length (now book) ≤ short-booking) ⌝ }
+    ensures { λ r. ⌜ ((k : Booked (now (table .entry)) (now (book .entry))) → outcome r ≡ run-at (run-of (length (now (tree .entry))) (k .known .sig) (now (tree .entry)) 0 (vcons (k .value) vnil) 0 [])) ⌝ }
+{
+    let mut visits = [0u16; SHORT];
+    walk_in(table, tree, book, &mut visits)
+}
+
 // Under a signature that is decoded already: refusals 13 and 15.
 pub fn run_decoded(t: &[u16], tree: &[u16], b: &[u16]) -> Ran
     requires { ⌜ Known (now t) ⌝ }
@@ -73,6 +94,9 @@ pub fn run_decoded(t: &[u16], tree: &[u16], b: &[u16]) -> Ran
 {
     if !walk::lawful(t, b) {
         return leaf::refused(BOOKING_UNLAWFUL);
+    }
+    if b.len() <= SHORT {
+        return walk_short(t, tree, b);
     }
     walk_tree(t, tree, b)
 }
