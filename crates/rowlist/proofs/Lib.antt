@@ -1,4 +1,5 @@
 pub mod Growing
+pub mod Joining
 pub mod Kinded
 pub mod OneMore
 pub mod Others
