@@ -24,7 +24,7 @@ pub const ROWS_ROOM: usize = WEIGHT as usize * (1 + CELL * PATTERN_WORDS)
     + ROW_ROOM;
 
 // The smaller workspaces that a call tries first, enough for most tables: of the rows, and for patterns of at most 8 words.
-pub const SMALL_ROWS: usize = 5120;
+pub const SMALL_ROWS: usize = 4096;
 
 pub const SMALL_WORK: usize = ROOM_UNIT * 8 + 1;
 

@@ -83,6 +83,9 @@ pub fn next_in(s: &[u64; SET_WORDS], from: usize, n: usize) -> usize
     if from == n {
         return n;
     }
+    if has(s, from) {
+        return from; // the common case, which needs no search
+    }
     let i = from / WORD;
     let before = full((from % WORD) as u32);
     let w = sets::set::minus(s[i], before);
