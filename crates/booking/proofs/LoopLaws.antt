@@ -3,35 +3,27 @@ use mathlib.Core.Path.{_≡_, refl, sym, ap, _∙_}
 use mathlib.Core.List.{List, [], _∷_}
 use mathlib.Core.Option.{some, none}
 use mathlib.Core.Bool.{false}
-use Prim.Native.Nat.{ℕ, zero, suc, _+_, _*_, _≤_, _<_}
+use Prim.Native.Nat.{ℕ, zero, suc, _+_, _≤_, _<_}
 use native.Mathlib.Numerals.{add-one}
 use native.Mathlib.Omega.{arith}
 use lib.Dec.{eqb}
 use lib.ListN.{length, drop, getD, drop-of-length-le, length-drop}
-use lib.Seq.{drop-cons, drop-length}
+use lib.Seq.{drop-cons}
 use Rattle.signature.specs.Lists.{_>>=_, is-some, is-empty}
 use Rattle.signature.specs.Read.{read-booking}
 use Rattle.signature.specs.Signature.{Signature}
-use Rattle.booking.specs.Walk.{Due, View, room-for, walk-word, walk, first-due, ended, due-in, due-after, step-by, Nested, Roomy, still-open, Inside}
+use Rattle.booking.specs.Walk.{Due, View, open-limit, walk-word, walk, first-due, ended, due-in, due-after, step-by, Nested, still-open, Inside}
 use Rattle.booking.specs.declared.walk.Walked.{Walked}
 use Rattle.booking.specs.declared.walk.Walked.the-variants.{At, Refused}
-use Rattle.signature.proofs.Tests.{eqb-self, eqb-no}
+use Rattle.signature.proofs.Tests.{eqb-no}
 use Rattle.booking.proofs.Steps.{Sees, step-walks, step-kept, ended-open}
 
 pub no-words : (sig : Signature) (b : List ℕ) → length b ≡ 0 → false ≡ is-some (read-booking sig b)
 no-words sig [] e = refl
 no-words sig (w ∷ ws) e = absurd (omega arith)
 
--- behind the last of the words nothing is open
-pub nested-none : (rows : List ℕ) (n : ℕ) (ws : List ℕ) → Nested rows n (drop (length ws) ws)
-nested-none rows n ws = rw (drop-length ws) tt
-
-pub next-place : (r : Walked) (at m : ℕ) (ws : List ℕ) → r ≡ At m → Inside at ws r → (m ≤ length ws) × (at ≤ m + 2)
-next-place r at m ws e h = rw e at h
-
--- before each of n words there is room: so far each word opened one value at most
-pub roomy : (ws : List ℕ) (at i n : ℕ) → i < n → room-for n ≤ length ws → length ws ≤ at + 2 * i → Roomy at ws
-roomy ws at i n l h m q = omega arith
+pub next-place : (r : Walked) (m : ℕ) → r ≡ At m → Inside r → m ≤ open-limit
+next-place r m e h = rw e at h
 
 module _ (sig : Signature) (n : ℕ) (v : View) (s : Sees sig n v) (b : List ℕ) (i : ℕ) where
   walk-rest : (xs : List Due) → i < length b → walk sig xs (drop i b) ≡ (walk-word sig xs (getD b i 0) >>= λ ys. walk sig ys (drop (i + 1) b))
@@ -55,8 +47,8 @@ module _ (sig : Signature) (n : ℕ) (v : View) (s : Sees sig n v) (b : List ℕ
         let k : walk sig first-due b ≡ none = f ∙ walk-rest (due-after (v .rows) i os) l ∙ (rw h) in
         rw k
 
-  pub done : (ws : List ℕ) (at : ℕ) → (length b ≡ 0 → ⊥) → length b ≤ i → i ≤ length b → at ≤ length ws → Nested (v .rows) n (drop at ws) → walk sig first-due b ≡ walk sig (due-after (v .rows) i (drop at ws)) (drop i b) → eqb at (length ws) ≡ ended (walk sig first-due b)
-  done ws at z h m k a f =
+  pub done : (ws : List ℕ) (at : ℕ) → (length b ≡ 0 → ⊥) → length b ≤ i → i ≤ length b → length ws ≡ open-limit → at ≤ open-limit → Nested (v .rows) n (drop at ws) → walk sig first-due b ≡ walk sig (due-after (v .rows) i (drop at ws)) (drop i b) → eqb at open-limit ≡ ended (walk sig first-due b)
+  done ws at z h m l k a f =
       let g : walk sig first-due b ≡ some (due-in (v .rows) (drop at ws)) = f ∙ (rw (drop-of-length-le b {i = i} h)) ∙ ap some (later i (omega arith)) in
       empty (drop at ws) refl ∙ sym (ended-open (v .rows) n (drop at ws) a) ∙ sym (ap ended g)
     where
@@ -64,6 +56,6 @@ module _ (sig : Signature) (n : ℕ) (v : View) (s : Sees sig n v) (b : List ℕ
       later zero q = absurd (omega arith)
       later (suc j) q = refl
 
-      empty : (os : List ℕ) → drop at ws ≡ os → eqb at (length ws) ≡ is-empty os
-      empty [] q = let e : length (drop at ws) ≡ 0 = ap length q in let p : at ≡ length ws = omega (arith, length-drop at ws) in rw p (eqb-self (length ws))
-      empty (x ∷ xs) q = let e : length (drop at ws) ≡ suc (length xs) = ap length q in eqb-no at (length ws) (λ p. omega (arith, length-drop at ws))
+      empty : (os : List ℕ) → drop at ws ≡ os → eqb at open-limit ≡ is-empty os
+      empty [] q = let e : length (drop at ws) ≡ 0 = ap length q in let p : at ≡ open-limit = omega (arith, length-drop at ws) in rw p
+      empty (x ∷ xs) q = let e : length (drop at ws) ≡ suc (length xs) = ap length q in eqb-no at open-limit (λ p. omega (arith, length-drop at ws))

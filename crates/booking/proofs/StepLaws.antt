@@ -10,12 +10,11 @@ use lib.Dec.{leb, ltb}
 use lib.ListN.{length, drop, getD, length-drop}
 use Rattle.signature.specs.Limits.{depth-limit, word-limit}
 use Rattle.signature.specs.Lists.{require}
-use Rattle.booking.specs.Walk.{Due, View, open-limit, next, rest, opened, step-by, Nested, Waiting, Roomy, next-as}
+use Rattle.booking.specs.Walk.{Due, View, open-limit, next, rest, opened, step-by, Nested, Waiting, next-as}
 use Rattle.booking.specs.declared.walk.Expected.{Expected}
 use Rattle.booking.specs.declared.walk.Expected.the-variants.{Value, Nothing}
 use Rattle.signature.proofs.Booleans.{and-left, and-right}
 use Rattle.signature.proofs.Tests.{bind-some, require-some, none≢some, some-inj, le-of, leb-yes, pair-first, pair-second}
-use Rattle.booking.proofs.Laid.{opened-short, rest-shorter}
 use Rattle.booking.proofs.NextLaws.{later, few, open-is}
 use Rattle.booking.proofs.Steps.{first-kind, room}
 
@@ -77,18 +76,6 @@ has-room rows (p ∷ (x ∷ os)) n (suc i) k d h z a e =
     let (u, b, c) = bind-some (require (leb depth-limit x && ltb p (length rows))) _ (k, d) e in
     let f = pair-second (some-inj _ (k, d) c) in
     omega (arith, room rows n p x os a (λ q. z (sym f ∙ q)))
-
--- the words have room for one open value
-pub wide-enough : (ws : List ℕ) (at : ℕ) → at ≤ length ws → Roomy at ws → 2 ≤ length ws
-wide-enough ws at l h = go (decLe (length ws + 2) (at + open-limit))
-  where
-    go : Dec (length ws + 2 ≤ at + open-limit) → 2 ≤ length ws
-    go (yes q) = omega (arith, h q)
-    go (no q) = omega arith
-
--- and after a step one more is open at most
-pub one-more : (ws : List ℕ) (at i p m deep r : ℕ) → at ≤ length ws → r + length (opened p m deep (rest i (drop at ws))) ≡ length ws → (r ≤ length ws) × (at ≤ r + 2)
-one-more ws at i p m deep r l e = (omega arith, omega (arith, opened-short p m deep (rest i (drop at ws)), rest-shorter i (drop at ws), length-drop at ws))
 
 -- the innermost open value can be counted on
 module _ (rows ws : List ℕ) (at i k d : ℕ) where

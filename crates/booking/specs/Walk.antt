@@ -2,7 +2,7 @@
 use mathlib.Core.List.{List, [], _∷_, _++_, map}
 use mathlib.Core.Option.{Option, some, none}
 use mathlib.Core.Bool.{Bool, true, false, cond, _&&_}
-use Prim.Native.Nat.{ℕ, zero, suc, _+_, _-_, _*_, _/_, _%_, _≤_, _<_, min}
+use Prim.Native.Nat.{ℕ, zero, suc, _+_, _-_, _*_, _/_, _%_, _≤_, _<_}
 use lib.Dec.{leb, ltb, eqb}
 use lib.ListN.{length, take, drop, getD}
 use Rattle.signature.specs.Limits.{depth-limit, word-limit}
@@ -54,10 +54,6 @@ deep-in x = x % depth-limit
 -- one open value at each depth
 abbrev pub open-limit : ℕ
 open-limit = 2 * depth-limit
-
--- enough words for the open values of n words of a booking: each word opens one value at most, and each depth has one at most
-abbrev pub room-for : ℕ → ℕ
-room-for n = 2 * min n depth-limit
 
 -- the values due by the open values, the innermost first; the kinds stand in rows
 abbrev pub due-in : List ℕ → List ℕ → List Due
@@ -132,10 +128,6 @@ Nested rows n (p ∷ (x ∷ os)) = (depth-limit ≤ x) × (p + left-in x ≤ len
 abbrev pub Waiting : ℕ → ℕ → List ℕ → Type 0
 Waiting i at ws = 0 < i → (at + 2 ≤ length ws) × (suc (getD ws at 0) < word-limit) × (depth-limit ≤ getD ws (at + 1) 0)
 
--- in front of the open values, which begin at a place, there is room for one more, unless each depth has one
-abbrev pub Roomy : ℕ → List ℕ → Type 0
-Roomy at ws = length ws + 2 ≤ at + open-limit → 2 ≤ at
-
 -- the answers of the code
 abbrev pub next-as : Option Due → Expected
 next-as none = Nothing
@@ -145,7 +137,6 @@ abbrev pub still-open : Walked → List ℕ → Option (List ℕ)
 still-open (At n) ws = some (drop n ws)
 still-open Refused ws = none
 
--- after one word more the open values begin inside the words, and one more is open at most
-abbrev pub Inside : ℕ → List ℕ → Walked → Type 0
-Inside at ws (At n) = (n ≤ length ws) × (at ≤ n + 2)
-Inside at ws Refused = Unit {0}
+abbrev pub Inside : Walked → Type 0
+Inside (At n) = n ≤ open-limit
+Inside Refused = Unit {0}

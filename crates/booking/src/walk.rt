@@ -12,7 +12,7 @@ ghost use Rattle.signature.specs.Lists.{is-some};
 ghost use Rattle.signature.specs.Read.{read-booking};
 ghost use Rattle.signature.specs.Signature.{arguments-at};
 ghost use Rattle.signature.specs.Value.{size};
-ghost use Rattle.booking.specs.Walk.{room-for, Nested, Waiting, Roomy, among, walk, first-due, ended, next, rest, opened, laid, step-by, decoded-view, next-as, still-open, Inside};
+ghost use Rattle.booking.specs.Walk.{open-limit, Nested, Waiting, among, next, rest, opened, laid, step-by, decoded-view, next-as, still-open, Inside};
 
 pub const BOOKING_LIMIT: usize = 4096;
 
@@ -23,10 +23,6 @@ const ROW: u16 = decoded::STRIDE as u16;
 
 // Two words at each depth.
 pub const OPEN: usize = 2 * DEPTH_LIMIT as usize;
-
-// A booking of so many words at most is short: each word opens one value at most, so that fewer words are enough for the
-// open values, and only these are cleared before the walk.
-const SHORT: usize = 16;
 
 // The value due next: its kind, and how deep it may be nested.
 pub enum Expected {
@@ -47,10 +43,10 @@ pub fn next(rows: &[u16], words: &[u16], at: usize, count: usize) -> Expected
     if count == 0 {
         return Expected::Value(0, DEPTH_LIMIT);
     }
-    if words.len() < 2 {
+    if words.len() <= at {
         return Expected::Nothing;
     }
-    if words.len() - 2 < at {
+    if words.len() - at < 2 {
         return Expected::Nothing;
     }
     let p = decoded::wide(words[at]);
@@ -133,8 +129,8 @@ fn may_stand(t: &[u16], k: u16, w: u16) -> bool
 // One word of a booking.
 fn step(t: &[u16], words: &mut [u16], at: usize, read: usize, w: u16) -> Walked
     requires { ⌜ Known (now t) ⌝ }
-    requires { ⌜ (at ≤ length (now words)) × Roomy at (now words) × Nested (now t) (kinds-of (now t)) (drop at (now words)) ⌝ }
-    ensures within { λ r. ⌜ Inside at (now (words .entry)) r ⌝ }
+    requires { ⌜ (length (now words) ≡ open-limit) × (at ≤ open-limit) × Nested (now t) (kinds-of (now t)) (drop at (now words)) ⌝ }
+    ensures within { λ r. ⌜ Inside r ⌝ }
     ensures walked { λ r. ⌜ ((g : Known (now (t .entry))) → still-open r (now (words .exit)) ≡ step-by (decoded-view (g .sig) (now (t .entry))) read (drop at (now (words .entry))) w) ⌝ }
 {
     let Expected::Value(k, deep) = next(t, words, at, read) else {
@@ -156,23 +152,6 @@ fn step(t: &[u16], words: &mut [u16], at: usize, read: usize, w: u16) -> Walked
     ))
 }
 
-// Whether the words of b are one value, walked with its open values in the lent words.
-fn walk(t: &[u16], b: &[u16], words: &mut [u16]) -> bool
-    requires { ⌜ Known (now t) × (0 < length (now b)) × (room-for (length (now b)) ≤ length (now words)) ⌝ }
-    ensures { λ r. ⌜ ((g : Known (now (t .entry))) → r ≡ ended (walk (g .sig) first-due (now (b .entry)))) ⌝ }
-{
-    let mut at = words.len();
-    let mut i = 0;
-    while i < b.len() {
-        let Walked::At(n) = step(t, words, at, i, b[i]) else {
-            return false;
-        };
-        at = n;
-        i += 1;
-    }
-    at == words.len()
-}
-
 // A lawful booking of the signature whose table is t.
 pub fn lawful(t: &[u16], b: &[u16]) -> bool
     requires { ⌜ Known (now t) ⌝ }
@@ -184,12 +163,17 @@ pub fn lawful(t: &[u16], b: &[u16]) -> bool
     if BOOKING_LIMIT < b.len() {
         return false;
     }
-    if b.len() <= SHORT {
-        let mut few = [0u16; 2 * SHORT];
-        return walk(t, b, &mut few);
-    }
     let mut words = [0u16; OPEN];
-    walk(t, b, &mut words)
+    let mut at = OPEN;
+    let mut i = 0;
+    while i < b.len() {
+        let Walked::At(n) = step(t, &mut words, at, i, b[i]) else {
+            return false;
+        };
+        at = n;
+        i += 1;
+    }
+    at == OPEN
 }
 
 // How many words the value takes that begins b.

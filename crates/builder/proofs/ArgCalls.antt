@@ -1,8 +1,9 @@
 -- What each call asks and gives where one argument is taken.
-use mathlib.Core.Path.{_≡_, refl, ap, ap₂, _∙_, sym, subst}
+use mathlib.Core.Path.{_≡_, refl, ap, ap₂, _∙_, sym}
 use mathlib.Core.List.{List, [], _∷_, _++_, append-assoc}
 use mathlib.Core.Bool.{Bool, true, false, cond}
 use Prim.Native.Nat.{ℕ, _+_, _*_, _≤_, _<_, _-_}
+use native.Mathlib.Nat.{zero-add}
 use native.Mathlib.Omega.{arith}
 use lib.Dec.{ltb}
 use lib.ListN.{length, take, drop, length-append}
@@ -16,16 +17,15 @@ use Rattle.signature.proofs.Tests.{true≢false}
 use Rattle.pattern.specs.Pattern.{Pattern, pattern-code, Patterns, pcons, patterns-code}
 use Rattle.pattern.specs.Weight.{sum-minus}
 use Rattle.builder.specs.Arguments.{GivenArgs, few-begun, HasFirst, words-of-rows}
-use Rattle.rowlist.specs.Next.{GivenNext, Short}
+use Rattle.rowlist.specs.Next.{GivenNext}
 use Rattle.rowlist.specs.Sides.{rows-of, Open}
 use Rattle.builder.specs.Build.{GivenPat, Made}
 use Rattle.cell.specs.Cell.{kind-tag, cell-code}
 use Rattle.cell.specs.Coded.{kinds-of, row-code}
 use Rattle.rowlist.specs.Grow.{words-list, ListFirst}
-use Rattle.rowlist.specs.Product.{Product}
 use Rattle.row.specs.Row.{open-row, rows-minus}
 use Rattle.cell.specs.RowList.{from}
-use Rattle.builder.proofs.ArgSteps.{NextArg, next-arg, drop-next, args-count, begun-small}
+use Rattle.builder.proofs.ArgSteps.{NextArg, next-arg, drop-next, args-count}
 use Rattle.builder.proofs.Behind.{list-words}
 use Rattle.rowlist.proofs.Kinded.{few-heads, full-set, open-kind}
 use Rattle.sets.proofs.ListSets.{set-nil}
@@ -56,8 +56,8 @@ module _ {t : List ℕ} {c j : ℕ} {w : List ℕ} {b : Bool} {used : ℕ} {o : 
     pub size-is : length (patterns-code (g .ps)) ≡ length (pattern-code (view .p)) + length (patterns-code (view .qs))
     size-is = ap (λ (z : Patterns). length (patterns-code z)) (view .parts-are) ∙ simp length-append (omega arith)
 
-    pub begun-fits : used + 1 ≤ length o
-    begun-fits = omega (arith, g .small, g .room)
+    pub begun-fits : (used + 1 ≤ length o) × (used + 1 ≤ m)
+    begun-fits = (omega (arith, g .small, g .room), omega (arith, g .small, g .work-room))
 
     module _ (full : ℕ) (f : (i : ℕ) → bit full i ≡ cond (ltb i (count-of t arg)) 1 0) where
       opened : Open (kinds-of (g .known .sig)) (g .known .sig) arg (kind-tag + arg) full
@@ -66,7 +66,7 @@ module _ {t : List ℕ} {c j : ℕ} {w : List ℕ} {b : Bool} {used : ℕ} {o : 
       pub wild-is : _≡_ {A = List ℕ} (cell-code (kind-tag + arg) 0 full) (row-code (kinds-of (g .known .sig)) (open-row (g .known .sig) arg) arg)
       wild-is = ap₂ (λ (x y : ℕ). cell-code (kind-tag + arg) x y) (sym (set-nil 0)) (opened .full-is)
 
-      pub arg-given : (k k' : ℕ) → k ≡ length o - (used + 1) → k' ≡ m → GivenPat t (kind-tag + arg) full w b k k'
+      pub arg-given : (k k' : ℕ) → k ≡ m - (used + 1) → k' ≡ length o → GivenPat t (kind-tag + arg) full w b k k'
       arg-given k k' e e' = record {
         known = g .known;
         k = arg;
@@ -78,11 +78,11 @@ module _ {t : List ℕ} {c j : ℕ} {w : List ℕ} {b : Bool} {used : ℕ} {o : 
         light = view .light;
         ranges = view .ranges .0;
         opened = opened;
-        room = omega (arith, e, g .small, size-is, g .room);
-        work-room = omega (arith, e', size-is, g .work-room);
+        room = omega (arith, e, g .small, size-is, g .work-room);
+        work-room = omega (arith, e', size-is, g .room);
       }
 
-      module _ (k k' usedr read : ℕ) (e : k ≡ length o - (used + 1)) (e' : k' ≡ m) (ys : List ℕ) (f' : (q : GivenPat t (kind-tag + arg) full w b k k') → Made (kinds-of (q .known .sig)) (q .known .sig) (q .k) b (q .p) usedr read ys) where
+      module _ (k k' usedr read : ℕ) (e : k ≡ m - (used + 1)) (e' : k' ≡ length o) (ys : List ℕ) (f' : (q : GivenPat t (kind-tag + arg) full w b k k') → Made (kinds-of (q .known .sig)) (q .known .sig) (q .k) b (q .p) usedr read ys) where
         pub arg-made : Made (kinds-of (g .known .sig)) (g .known .sig) arg b (view .p) usedr read ys
         unfolding arg-given
         arg-made = f' (arg-given k k' e e')
@@ -96,59 +96,44 @@ module _ {t : List ℕ} {c j : ℕ} {w : List ℕ} {b : Bool} {used : ℕ} {o : 
         abbrev pub L : List (List ℕ)
         L = words-of-rows (g .known .sig) arg (rows-of (g .known .sig) arg b (view .p))
 
-        pub arg-list : Product (words-list L) usedr ys
-        arg-list = subst (λ (z : List ℕ). Product z usedr ys) (sym (list-words (kinds-of (g .known .sig)) arg (rows-of (g .known .sig) arg b (view .p)))) (arg-made .list)
+        -- the two lists in the workspace, and room in the other slice
+        module _ (v : List ℕ) (front : take (0 + (used + 1)) v ≡ take (used + 1) o) (l : length v ≡ m) where
+          abbrev pub left : ListFirst (back v (used + 1) ys)
+          left = record {
+            rows = g .begun;
+            rest = ys ++ drop (length v - (used + 1)) (drop (used + 1) v);
+            code-is = ap (λ (z : List ℕ). z ++ (ys ++ drop (length v - (used + 1)) (drop (used + 1) v))) (ap (λ (i : ℕ). take i v) (sym (zero-add (used + 1))) ∙ front ∙ g .list .list);
+            filled = g .filled;
+          }
 
-        pub arg-short : Short (3 * length (pattern-code (view .p))) L
-        arg-short = words-short (g .known .sig) arg (length (pattern-code (view .p))) (rows-places (g .known .sig) arg (view .p) b (view .well))
+          abbrev pub right : ListFirst (from (back v (used + 1) ys) (used + 1))
+          right =
+              let D = drop (length v - (used + 1)) (drop (used + 1) v) in
+              let q = words-list L ++ (0 ∷ []) in
+              record {
+                rows = L;
+                rest = drop (usedr + 1) ys ++ D;
+                code-is =
+                    from-is (back v (used + 1) ys) (used + 1)
+                    ∙ drop-at (take (used + 1) v) (ys ++ D) (used + 1) (length-take-le (used + 1) v (omega (arith, l, begun-fits .1)))
+                    ∙ ap (λ (z : List ℕ). z ++ D) (in-front _ ys usedr (arg-made .list) .1 ∙ ap (λ (z : List ℕ). (z ++ (0 ∷ [])) ++ drop (usedr + 1) ys) (sym (list-words (kinds-of (g .known .sig)) arg (rows-of (g .known .sig) arg b (view .p)))))
+                    ∙ append-assoc q (drop (usedr + 1) ys) D;
+                filled = words-filled (g .known .sig) arg (rows-of (g .known .sig) arg b (view .p));
+              }
 
-        pub arg-few : length L ≤ 64
-        arg-few = omega (arith, words-count (g .known .sig) arg (rows-of (g .known .sig) arg b (view .p)), rows-few (g .known .sig) arg (view .p) b (view .light))
-
-        -- how many words both lists have, and that the workspace has room for them
-        pub sizes : (used ≡ length (words-list (g .begun))) × (usedr ≡ length (words-list L)) × (used + 1 + usedr + 1 ≤ m)
-        sizes = (
-          g .list .size,
-          arg-list .size,
-          omega (arith, g .small, begun-small (length (pattern-code (view .p))) L arg-list arg-short arg-few, some-pattern-word (view .p), size-is, g .work-room),
-        )
-
-        -- the two lists, the second behind the first
-        abbrev pub left : ListFirst (back o (used + 1) ys)
-        left = record {
-          rows = g .begun;
-          rest = ys ++ drop (length o - (used + 1)) (drop (used + 1) o);
-          code-is = ap (λ (z : List ℕ). z ++ (ys ++ drop (length o - (used + 1)) (drop (used + 1) o))) (g .list .list);
-          filled = g .filled;
-        }
-
-        abbrev pub right : ListFirst (from (back o (used + 1) ys) (used + 1))
-        right =
-            let D = drop (length o - (used + 1)) (drop (used + 1) o) in
-            record {
-              rows = L;
-              rest = drop (usedr + 1) ys ++ D;
-              code-is =
-                  from-is (back o (used + 1) ys) (used + 1)
-                  ∙ drop-at (take (used + 1) o) (ys ++ D) (used + 1) (length-take-le (used + 1) o begun-fits)
-                  ∙ ap (λ (z : List ℕ). z ++ D) (in-front _ ys usedr arg-list .1)
-                  ∙ append-assoc (words-list L ++ (0 ∷ [])) (drop (usedr + 1) ys) D;
-              filled = words-filled (g .known .sig) arg (rows-of (g .known .sig) arg b (view .p));
-            }
-
-        abbrev pub next-core : (k : ℕ) → k ≡ length o → GivenNext (back o (used + 1) ys) (used + 1) k
-        next-core k e = record {
-          left = left;
-          within = simp length-append (omega (arith, length-take-le (used + 1) o begun-fits));
-          right = right;
-          a = 3 * g .a;
-          j = 3 * length (pattern-code (view .p));
-          left-short = g .short;
-          right-short = arg-short;
-          left-few = g .count;
-          right-few = arg-few;
-          room = omega (arith, e, size-is, g .room, g .small);
-        }
+          abbrev pub next-core : (k : ℕ) → k ≡ length o → GivenNext (back v (used + 1) ys) (used + 1) k
+          next-core k e = record {
+            left = left;
+            within = simp length-append (omega (arith, length-take-le (used + 1) v (omega (arith, l, begun-fits .1))));
+            right = right;
+            a = 3 * g .a;
+            j = 3 * length (pattern-code (view .p));
+            left-short = g .short;
+            right-short = words-short (g .known .sig) arg (length (pattern-code (view .p))) (rows-places (g .known .sig) arg (view .p) b (view .well));
+            left-few = g .count;
+            right-few = omega (arith, words-count (g .known .sig) arg (rows-of (g .known .sig) arg b (view .p)), rows-few (g .known .sig) arg (view .p) b (view .light));
+            room = omega (arith, e, size-is, g .room, g .small);
+          }
 
 pub first-of : (vs : List (List ℕ)) → HasFirst false vs → (v : List ℕ) × (us : List (List ℕ)) × (vs ≡ v ∷ us)
 first-of [] h = absurd h

@@ -6,7 +6,7 @@ use Prim.Native.Nat.{ℕ, zero, suc, _+_, _*_, _≤_, _<_, _-_}
 use native.Mathlib.Nat.{mul-assoc}
 use native.Mathlib.Omega.{arith}
 use lib.Dec.{ltb}
-use lib.ListN.{length, drop, length-append}
+use lib.ListN.{length, take, drop, length-append}
 use lib.Seq.{drop-at}
 use Rattle.signature.specs.Decoded.{arity-of, argument-of, count-of}
 use Rattle.sets.specs.Set.{bit}
@@ -15,7 +15,7 @@ use Rattle.signature.proofs.Tests.{times-less}
 use Rattle.pattern.specs.Pattern.{Pattern, pattern-code, Patterns, pcons, patterns-code}
 use Rattle.pattern.specs.Weight.{weight-plus, product-plus}
 use Rattle.builder.specs.Arguments.{GivenArgs, MadeArgs, few-begun, HasFirst, behind, words-of-rows}
-use Rattle.rowlist.specs.Next.{GivenNextAt, GivenJoined, Short, next-made, next-of, next-rows}
+use Rattle.rowlist.specs.Next.{GivenNextAt, Short, next-made, next-rows}
 use Rattle.rowlist.specs.Sides.{rows-of}
 use Rattle.builder.specs.Build.{GivenPat, Made}
 use Rattle.cell.specs.Cell.{kind-tag, cell-code}
@@ -24,13 +24,14 @@ use Rattle.rowlist.specs.Grow.{words-list}
 use Rattle.rowlist.specs.Product.{Product}
 use Rattle.row.specs.Row.{Rows, open-row, rows-plus, args-plus}
 use Rattle.cell.specs.RowList.{from}
-use Rattle.builder.proofs.ArgCalls.{view, size-is, begun-fits, arg-made, arg-short, sizes, wild-is, next-core, first-of, minus-few}
+use Rattle.builder.proofs.ArgCalls.{view, size-is, arg-made, wild-is, next-core, first-of, minus-few}
 use Rattle.builder.proofs.ArgSteps.{begun-small}
 use Rattle.builder.proofs.Behind.{behind-plus, behind-minus}
-use Rattle.builder.proofs.NextLists.{next-filled, next-short, next-first, next-few, words-count}
+use Rattle.builder.proofs.NextLists.{next-filled, next-short, next-first, next-few, words-short, words-count}
 use Rattle.pattern.proofs.PatternBack.{some-pattern-word}
+use Rattle.builder.proofs.Rooms.{rows-places}
 use Rattle.row.proofs.RowCount.{plus-count, args-plus-count}
-use Rattle.cell.proofs.Walk.{from-is, back, back-length}
+use Rattle.cell.proofs.Walk.{from-is, back}
 
 -- more rows than a part may weigh: none of the arguments that are left has rows
 none-left : (sig : Signature) (k n : ℕ) (p : Pattern) (js : List ℕ) (qs : Patterns) → n * product-plus (pcons p qs) ≤ 64 → 64 < n * length (words-of-rows sig k (rows-plus sig k p)) → args-plus sig js qs ≡ []
@@ -53,14 +54,14 @@ behind-one false sig k js p qs vs f = behind-minus sig k js p qs vs
 
 module _ {t : List ℕ} {c j : ℕ} {w : List ℕ} {b : Bool} {used : ℕ} {o : List ℕ} {m : ℕ} (g : GivenArgs t c j w b used o m) (h : j < arity-of t c) (arg : ℕ) (arg-is : arg ≡ argument-of t c j)
     (full : ℕ) (f : (i : ℕ) → bit full i ≡ cond (ltb i (count-of t arg)) 1 0)
-    (k k' usedr read : ℕ) (e : k ≡ length o - (used + 1)) (e' : k' ≡ m) (ys : List ℕ) (f' : (q : GivenPat t (kind-tag + arg) full w b k k') → Made (kinds-of (q .known .sig)) (q .known .sig) (q .k) b (q .p) usedr read ys)
-    (l : length ys ≡ length (from o (used + 1))) where
-  next-at : (d : Bool) → b ≡ d → (n : ℕ) → n ≡ length o → GivenNextAt d (back o (used + 1) ys) (used + 1) n
-  next-at true z n i = next-core g h arg arg-is full f k k' usedr read e e' ys f' n i
+    (k k' usedr read : ℕ) (e : k ≡ m - (used + 1)) (e' : k' ≡ length o) (ys : List ℕ) (f' : (q : GivenPat t (kind-tag + arg) full w b k k') → Made (kinds-of (q .known .sig)) (q .known .sig) (q .k) b (q .p) usedr read ys)
+    (v : List ℕ) (front : take (0 + (used + 1)) v ≡ take (used + 1) o) (l : length v ≡ m) where
+  next-at : (d : Bool) → b ≡ d → (n : ℕ) → n ≡ length o → GivenNextAt d (back v (used + 1) ys) (used + 1) n
+  next-at true z n i = next-core g h arg arg-is full f k k' usedr read e e' ys f' v front l n i
   next-at false z n i =
       let q = first-of (g .begun) (subst (λ (d : Bool). HasFirst d (g .begun)) z (g .first)) in
       record {
-        next = next-core g h arg arg-is full f k k' usedr read e e' ys f' n i;
+        next = next-core g h arg arg-is full f k k' usedr read e e' ys f' v front l n i;
         v = q .0;
         vs = q .1;
         first = q .2;
@@ -68,38 +69,22 @@ module _ {t : List ℕ} {c j : ℕ} {w : List ℕ} {b : Bool} {used : ℕ} {o : 
         few = minus-few (g .known .sig) arg (view g h arg arg-is .p) (view g h arg arg-is .qs) (g .ps) (length (g .begun)) b z (view g h arg arg-is .parts-are) (g .few);
       }
 
-  same-rows : (d : Bool) (z : b ≡ d) (n : ℕ) (i : n ≡ length o) → let q = next-of d (back o (used + 1) ys) (used + 1) n (next-at d z n i) in (q .left .rows ≡ g .begun) × (q .right .rows ≡ words-of-rows (g .known .sig) arg (rows-of (g .known .sig) arg b (view g h arg arg-is .p)))
-  unfolding next-at
-  same-rows true z n i = (refl, refl)
-  same-rows false z n i = (refl, refl)
-
-  pub whole : length (back o (used + 1) ys) ≡ length o
-  whole = back-length o ys (used + 1) (begun-fits g h arg arg-is) l
-
-  pub next-given : (m' : ℕ) → m' ≡ m → GivenJoined b (back o (used + 1) ys) (used + 1) usedr m'
-  next-given m' z =
-      let s = sizes g h arg arg-is full f k k' usedr read e e' ys f' in
-      let q = same-rows b refl (length (back o (used + 1) ys)) whole in
-      record {
-        next = next-at b refl (length (back o (used + 1) ys)) whole;
-        first = rw (q .0) (omega (arith, s .0));
-        second = rw (q .1) (s .1);
-        room = omega (arith, s .2, z);
-      }
+  pub next-given : (n : ℕ) → n ≡ length o → GivenNextAt b (back v (used + 1) ys) (used + 1) n
+  next-given n i = next-at b refl n i
 
   abbrev begun' : List (List ℕ)
   begun' = next-rows b (cell-code (kind-tag + arg) 0 full) (g .begun) (words-of-rows (g .known .sig) arg (rows-of (g .known .sig) arg b (view g h arg arg-is .p)))
 
-  next-list : (d : Bool) (z : b ≡ d) (n : ℕ) (i : n ≡ length o) → next-made d (kind-tag + arg) full (back o (used + 1) ys) (used + 1) n (next-at d z n i)
+  next-list : (d : Bool) (z : b ≡ d) (n : ℕ) (i : n ≡ length o) → next-made d (kind-tag + arg) full (back v (used + 1) ys) (used + 1) n (next-at d z n i)
       ≡ words-list (next-rows d (cell-code (kind-tag + arg) 0 full) (g .begun) (words-of-rows (g .known .sig) arg (rows-of (g .known .sig) arg b (view g h arg arg-is .p))))
   unfolding next-at
   next-list true z n i = refl
   next-list false z n i = refl
 
-  module _ (n r : ℕ) (i : n ≡ m) (o' : List ℕ) (same : length o' ≡ length (back o (used + 1) ys)) (f'' : (q : GivenJoined b (back o (used + 1) ys) (used + 1) usedr n) → Product (next-made b (kind-tag + arg) full (back o (used + 1) ys) (used + 1) (length (back o (used + 1) ys)) (q .next)) r o') where
+  module _ (n r : ℕ) (i : n ≡ length o) (o' : List ℕ) (same : length o' ≡ length o) (f'' : (q : GivenNextAt b (back v (used + 1) ys) (used + 1) n) → Product (next-made b (kind-tag + arg) full (back v (used + 1) ys) (used + 1) n q) r o') where
     made-next : Product (words-list begun') r o'
     unfolding next-given
-    made-next = subst (λ (z : List ℕ). Product z r o') (next-list b refl (length (back o (used + 1) ys)) whole) (f'' (next-given n i))
+    made-next = subst (λ (z : List ℕ). Product z r o') (next-list b refl n i) (f'' (next-given n i))
 
     few-next : few-begun b (length begun') (view g h arg arg-is .qs) × (length begun' ≤ 64)
     few-next = next-few b (g .known .sig) arg (view g h arg arg-is .p) (view g h arg arg-is .qs) (cell-code (kind-tag + arg) 0 full) (g .begun) (g .first) (subst (λ (z : Patterns). few-begun b (length (g .begun)) z) (view g h arg arg-is .parts-are) (g .few))
@@ -108,7 +93,7 @@ module _ {t : List ℕ} {c j : ℕ} {w : List ℕ} {b : Bool} {used : ℕ} {o : 
     short-next =
         let x : 3 * (g .a + length (pattern-code (view g h arg arg-is .p))) ≡ 3 * g .a + 3 * length (pattern-code (view g h arg arg-is .p)) = omega arith in
         rw x (next-short b (3 * g .a) (3 * length (pattern-code (view g h arg arg-is .p))) (cell-code (kind-tag + arg) 0 full) (g .begun) (words-of-rows (g .known .sig) arg (rows-of (g .known .sig) arg b (view g h arg arg-is .p))) (omega (arith, some-pattern-word (view g h arg arg-is .p))) (g .short)
-        (arg-short g h arg arg-is full f k k' usedr read e e' ys f'))
+        (words-short (g .known .sig) arg (length (pattern-code (view g h arg arg-is .p))) (rows-places (g .known .sig) arg (view g h arg arg-is .p) b (view g h arg arg-is .well))))
 
     pub rest-given : (m' : ℕ) → m' ≡ m → GivenArgs t c (j + 1) (from w read) b r o' m'
     rest-given m' z = record {
@@ -135,7 +120,7 @@ module _ {t : List ℕ} {c j : ℕ} {w : List ℕ} {b : Bool} {used : ℕ} {o : 
       few = few-next .0;
       count = few-next .1;
       first = next-first b (cell-code (kind-tag + arg) 0 full) (g .begun) (words-of-rows (g .known .sig) arg (rows-of (g .known .sig) arg b (view g h arg arg-is .p))) (g .first);
-      room = omega (arith, size-is g h arg arg-is, g .room, same, whole);
+      room = omega (arith, size-is g h arg arg-is, g .room, same);
       work-room = omega (arith, size-is g h arg arg-is, g .work-room, z);
     }
 

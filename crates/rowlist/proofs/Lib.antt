@@ -1,5 +1,4 @@
 pub mod Growing
-pub mod Joining
 pub mod Kinded
 pub mod OneMore
 pub mod Others

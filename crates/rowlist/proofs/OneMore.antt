@@ -57,7 +57,7 @@ module _ {lists : List ℕ} {at k : ℕ} (g : GivenNext lists at k) where
   next-each m n r o e f h p = rw (le-ltb 64 (length (g .left .rows) * length (g .right .rows)) (rw (e, f) at h)) (p (next-grow m n e f h))
 
 -- the first row stands behind its number
-pub list-row : {lists : List ℕ} (f : ListFirst lists) (v : List ℕ) (vs : List (List ℕ)) → f .rows ≡ v ∷ vs → (lists ≡ length v ∷ (v ++ ((words-list vs ++ (0 ∷ [])) ++ f .rest))) × (1 ≤ length v)
+list-row : {lists : List ℕ} (f : ListFirst lists) (v : List ℕ) (vs : List (List ℕ)) → f .rows ≡ v ∷ vs → (lists ≡ length v ∷ (v ++ ((words-list vs ++ (0 ∷ [])) ++ f .rest))) × (1 ≤ length v)
 list-row {lists} f v vs e = (
   f .code-is ∙ ap (λ (l : List (List ℕ)). (words-list l ++ (0 ∷ [])) ++ f .rest) e ∙ simp append-assoc refl,
   subst Filled e (f .filled) .0,

@@ -51,17 +51,6 @@ abbrev pub next-made : (b : Bool) → ℕ → ℕ → (lists : List ℕ) (at k :
 next-made true tag full lists at k g = words-list (next-rows true [] (g .left .rows) (g .right .rows))
 next-made false tag full lists at k g = words-list (next-rows false (cell-code tag 0 full) (g .next .left .rows) (g .next .right .rows))
 
-abbrev pub next-of : (b : Bool) (lists : List ℕ) (at k : ℕ) → GivenNextAt b lists at k → GivenNext lists at k
-next-of true lists at k g = g
-next-of false lists at k g = g .next
-
--- both lists in one slice, the second, of n words, right behind the first, and a workspace of m words
-pub record GivenJoined (b : Bool) (o : List ℕ) (at n m : ℕ) : Type 0 where
-  pub next : GivenNextAt b o at (length o)
-  pub first : at ≡ length (words-list (next-of b o at (length o) next .left .rows)) + 1
-  pub second : n ≡ length (words-list (next-of b o at (length o) next .right .rows))
-  pub room : at + n + 1 ≤ m
-
 -- "not C": the row of the other heads, if there are any
 abbrev pub others-code : ℕ → ℕ → List ℕ
 others-code tag rest = cond (eqb rest 0) [] (cell-width ∷ cell-code tag 0 rest)

@@ -2,7 +2,7 @@
 ghost use mathlib.Core.Path.{_≡_};
 ghost use mathlib.Core.List.{[], _∷_, _++_};
 ghost use Prim.Native.Nat.{_+_, _≤_};
-ghost use lib.ListN.{length, take, drop};
+ghost use lib.ListN.{length, take};
 ghost use Rattle.cell.specs.RowList.{WrittenFirst, from};
 ghost use Rattle.rowlist.specs.Product.{Product};
 ghost use Rattle.rowlist.specs.Grow.{words-list, ListFirst, GivenAppend, GivenAppends, GivenGrow, appends, grown};
@@ -15,18 +15,6 @@ pub fn copy(x: &[u64], n: usize, out: &mut [u64], at: usize)
     let mut i = 0;
     while i < n {
         out[at + i] = x[i];
-        i += 1;
-    }
-}
-
-// The n words from a word on, moved down to begin at an earlier one.
-pub(crate) fn move_down(out: &mut [u64], from: usize, to: usize, n: usize)
-    requires { ⌜ (to ≤ from) × (from + n ≤ length (now out)) ⌝ }
-    ensures { λ _. ⌜ take (to + n) (now (out .exit)) ≡ take to (now (out .entry)) ++ take n (drop from (now (out .entry))) ⌝ }
-{
-    let mut i = 0;
-    while i < n {
-        out[to + i] = out[from + i];
         i += 1;
     }
 }

@@ -3,7 +3,6 @@ use crate::grow::append_all;
 use crate::grow::append_each;
 use crate::grow::copy;
 use crate::grow::count;
-use crate::grow::move_down;
 use cell::cell::CELL;
 use cell::cell::Cell;
 use cell::cell::put;
@@ -12,13 +11,12 @@ use sets::heads::Heads;
 use sets::heads::is_empty;
 ghost use mathlib.Core.List.{[], _++_};
 ghost use mathlib.Core.Bool.{true, false};
-ghost use mathlib.Core.Path.{_≡_};
-ghost use Prim.Native.Nat.{_+_, _≤_, _<_};
-ghost use lib.ListN.{length, getD};
+ghost use Prim.Native.Nat.{_≤_};
+ghost use lib.ListN.{length};
 ghost use Rattle.sets.specs.Heads.{number-of};
 ghost use Rattle.cell.specs.Cell.{cell-code};
 ghost use Rattle.cell.specs.RowList.{WrittenFirst};
-ghost use Rattle.rowlist.specs.Next.{GivenNext, GivenNextMinus, GivenNextAt, next-made, next-rows, GivenJoined, GivenOthers, others-code};
+ghost use Rattle.rowlist.specs.Next.{GivenNext, GivenNextMinus, GivenNextAt, next-made, next-rows, GivenOthers, others-code};
 ghost use Rattle.rowlist.specs.Grow.{words-list};
 ghost use Rattle.rowlist.specs.Product.{Product};
 
@@ -58,7 +56,14 @@ fn next_minus(tag: u64, full: Heads, lists: &[u64], at: usize, out: &mut [u64]) 
 }
 
 // One argument more, on one side.
-fn next_rows(plus: bool, tag: u64, full: Heads, lists: &[u64], at: usize, out: &mut [u64]) -> usize
+pub fn next_rows(
+    plus: bool,
+    tag: u64,
+    full: Heads,
+    lists: &[u64],
+    at: usize,
+    out: &mut [u64],
+) -> usize
     requires { ⌜ GivenNextAt plus (now lists) at (length (now out)) ⌝ }
     ensures { λ r. ⌜ ((g : GivenNextAt plus (now (lists .entry)) at (length (now (out .entry)))) → Product (next-made plus tag (number-of full) (now (lists .entry)) at (length (now (out .entry))) g) r (now (out .exit))) ⌝ }
 {
@@ -66,43 +71,6 @@ fn next_rows(plus: bool, tag: u64, full: Heads, lists: &[u64], at: usize, out: &
         return next_plus(lists, at, out);
     }
     next_minus(tag, full, lists, at, out)
-}
-
-// Whether this is the plus side and each list has one row: that in front, and that of n words right behind it.
-fn one_each(plus: bool, lists: &[u64], at: usize, n: usize) -> bool
-    requires { ⌜ (at < length (now lists)) × (getD (now lists) 0 0 ≤ length (now lists)) × (getD (now lists) at 0 ≤ length (now lists)) ⌝ }
-    ensures { λ r. ⌜ (r ≡ true → (plus ≡ true) × (getD (now (lists .entry)) 0 0 + 2 ≡ at) × (getD (now (lists .entry)) at 0 + 1 ≡ n)) ⌝ }
-{
-    if !plus {
-        return false;
-    }
-    if lists[0] as usize + 2 != at {
-        return false;
-    }
-    lists[at] as usize + 1 == n
-}
-
-// One argument more, whose list of n words stands in out behind the rows that are begun. Where each list has one row, the argument's words move down to the other's.
-pub fn joined(
-    plus: bool,
-    tag: u64,
-    full: Heads,
-    at: usize,
-    n: usize,
-    out: &mut [u64],
-    work: &mut [u64],
-) -> usize
-    requires { ⌜ GivenJoined plus (now out) at n (length (now work)) ⌝ }
-    ensures { λ r. ⌜ ((g : GivenJoined plus (now (out .entry)) at n (length (now (work .entry)))) → Product (next-made plus tag (number-of full) (now (out .entry)) at (length (now (out .entry))) (g .next)) r (now (out .exit))) ⌝ }
-{
-    if one_each(plus, out, at, n) {
-        move_down(out, at + 1, at - 1, n);
-        let end = at + n - 2;
-        out[0] = (end - 1) as u64;
-        return end;
-    }
-    copy(out, at + n + 1, work, 0);
-    next_rows(plus, tag, full, work, at, out)
 }
 
 // The row of the other heads first in out, if there are any; how many words.

@@ -41,7 +41,8 @@ use Rattle.builder.proofs.build.making_of.Reads as making-of-reads
 use Rattle.builder.proofs.build.times.Reads as times-reads
 use Rattle.pattern.proofs.token.classify.Reads as classify-reads
 use Rattle.pattern.proofs.token.own_words.Reads as own-words-reads
-use Rattle.rowlist.proofs.next.joined.Reads as joined-reads
+use Rattle.rowlist.proofs.grow.copy.Reads as copy-reads
+use Rattle.rowlist.proofs.next.next_rows.Reads as next-rows-reads
 use Rattle.rowlist.proofs.next.others.Reads as others-reads
 use Rattle.signature.proofs.decoded.argument_of.Reads as argument-of-reads
 use Rattle.signature.proofs.decoded.arity_of.Reads as arity-of-reads
@@ -128,7 +129,7 @@ pub +added+args+head-rows+multiplied+rows-spec : {M : Type 1} → statement M
     (λ c. c .before .before .before .before .before .before .rows2 .kept .1 .1 .1 .1 .1 .1 .0 ∙ c .before .before .before .before .before .before .before .before .before .before .before .before .before .before .before .rows .kept .1 .1 .1 .1 .1 .1 .0)
     (λ c g. add-made (g .pat) (g .word) _ (own-given (λ z. omega (arith, z)) g) (c .before .before .before .before .before .before .before .before .before .before .before .before .before .before .before .rows .result .used) (c .before .before .before .before .before .before .before .before .before .before .before .before .before .before .before .rows .result .read) (c .before .before .before .before .before .before .before .before .before .before .before .before .before .before .before .rows .last .1 .1 .1 .1 .1 .0) (c .before .before .before .before .before .before .before .before .before .before .before .before .before .before .before .rows .ensures) _ _ (c .before .before .before .before .before .before .rows2 .result .used) (c .before .before .before .before .before .before .rows2 .result .read) (c .before .before .before .before .before .before .before .before .before .before .before .before .before .before .before .rows .kept .1 .1 .1 .1 .1 .0) (c .before .before .before .before .before .before .before .before .before .before .before .before .before .before .before .rows .kept .1 .1 .1 .1 .1 .1 .0) refl (c .before .before .before .before .before .before .rows2 .last .1 .1 .1 .1 .1 .0) (c .before .before .before .before .before .before .rows2 .ensures) (c .before .before .before .before .before .before .rows2 .kept .1 .1 .1 .1 .1 .0)))
     (λ t. args-lts.spec
-    (arity-of-reads.Asked, arity-of-reads.Learnt, argument-of-reads.Asked, argument-of-reads.Learnt, full-of-reads.Asked, full-of-reads.Learnt, rows-below t, rows.Post, joined-reads.Asked, joined-reads.Learnt, args-below t, args.Post)
+    (arity-of-reads.Asked, arity-of-reads.Learnt, argument-of-reads.Asked, argument-of-reads.Learnt, full-of-reads.Asked, full-of-reads.Learnt, copy-reads.Asked, copy-reads.Learnt, rows-below t, rows.Post, next-rows-reads.Asked, next-rows-reads.Learnt, args-below t, args.Post)
     (args-at t)
     args.Post
     (λ c κs. (long (c .before .before .before .before .pre .1 .known), omega (arith, c .before .before .before .before .pre .1 .head, few-constructors (c .before .before .before .before .pre .1 .known))))
@@ -138,23 +139,24 @@ pub +added+args+head-rows+multiplied+rows-spec : {M : Type 1} → statement M
     (λ c. omega arith)
     (λ c κs. (long (c .before .before .before .before .before .before .before .pre .1 .known), arg-kind (c .before .before .before .before .before .before .before .pre .1) (omega (arith, c .before .if1 .left, c .before .before .arity-of .ensures)) (c .argument-of .result) (c .argument-of .ensures), few-of-kind (c .before .before .before .before .before .before .before .pre .1) (omega (arith, c .before .if1 .left, c .before .before .arity-of .ensures)) (c .argument-of .result) (c .argument-of .ensures)))
     (λ c. omega arith)
-    (λ c. omega (arith, begun-fits (c .before .before .before .before .before .before .before .before .pre .1) (omega (arith, c .before .before .if1 .left, c .before .before .before .arity-of .ensures)) (c .before .argument-of .result) (c .before .argument-of .ensures), c .before .before .before .before .before .before .before .before .good))
-    (λ c. omega (arith, begun-fits (c .before .before .before .before .before .before .before .before .pre .1) (omega (arith, c .before .before .if1 .left, c .before .before .before .arity-of .ensures)) (c .before .argument-of .result) (c .before .argument-of .ensures), c .before .before .before .before .before .before .before .before .good))
-    (λ c. begun-fits (c .before .before .before .before .before .before .before .before .pre .1) (omega (arith, c .before .before .if1 .left, c .before .before .before .arity-of .ensures)) (c .before .argument-of .result) (c .before .argument-of .ensures))
-    (λ c. omega (arith, begun-fits (c .before .before .before .before .before .before .before .before .pre .1) (omega (arith, c .before .before .if1 .left, c .before .before .before .arity-of .ensures)) (c .before .argument-of .result) (c .before .argument-of .ensures)))
+    (λ c. omega (arith, begun-fits (c .before .before .before .before .before .before .before .before .pre .1) (omega (arith, c .before .before .if1 .left, c .before .before .before .arity-of .ensures)) (c .before .argument-of .result) (c .before .argument-of .ensures) .0, c .before .before .before .before .before .before .before .before .good))
+    (λ c κs. (begun-fits (c .before .before .before .before .before .before .before .before .before .before .pre .1) (omega (arith, c .before .before .before .before .if1 .left, c .before .before .before .before .before .arity-of .ensures)) (c .before .before .before .argument-of .result) (c .before .before .before .argument-of .ensures) .0, omega (arith, begun-fits (c .before .before .before .before .before .before .before .before .before .before .pre .1) (omega (arith, c .before .before .before .before .if1 .left, c .before .before .before .before .before .arity-of .ensures)) (c .before .before .before .argument-of .result) (c .before .before .before .argument-of .ensures) .1)))
+    (λ c. omega (arith, begun-fits (c .before .before .before .before .before .before .before .before .before .before .before .before .before .pre .1) (omega (arith, c .before .before .before .before .before .before .before .if1 .left, c .before .before .before .before .before .before .before .before .arity-of .ensures)) (c .before .before .before .before .before .before .argument-of .result) (c .before .before .before .before .before .before .argument-of .ensures) .1, c .before .before .copy .kept .1 .1 .0, c .before .before .before .before .before .before .before .before .before .before .before .before .before .good))
+    (λ c. omega (arith, begun-fits (c .before .before .before .before .before .before .before .before .before .before .before .before .before .pre .1) (omega (arith, c .before .before .before .before .before .before .before .if1 .left, c .before .before .before .before .before .before .before .before .arity-of .ensures)) (c .before .before .before .before .before .before .argument-of .result) (c .before .before .before .before .before .before .argument-of .ensures) .1, c .before .before .copy .kept .1 .1 .0))
+    (λ c. omega (arith, begun-fits (c .before .before .before .before .before .before .before .before .before .before .before .before .before .pre .1) (omega (arith, c .before .before .before .before .before .before .before .if1 .left, c .before .before .before .before .before .before .before .before .arity-of .ensures)) (c .before .before .before .before .before .before .argument-of .result) (c .before .before .before .before .before .before .argument-of .ensures) .1, c .before .before .copy .kept .1 .1 .0))
     (λ c. omega arith)
-    (λ c κs. (omega (arith, c .before .before .before .before .before .before .before .before .before .before .pre .0), arg-given (c .before .before .before .before .before .before .before .before .before .before .pre .1) (omega (arith, c .before .before .before .before .if1 .left, c .before .before .before .before .before .arity-of .ensures)) (c .before .before .before .argument-of .result) (c .before .before .before .argument-of .ensures) (number-of (c .before .before .full-of .result)) (c .before .before .full-of .ensures) _ _ (simp (length-take, length-drop) (omega arith)) refl))
-    (λ c κs. next-given (c .before .before .before .before .before .before .before .before .before .before .before .before .before .before .before .before .before .pre .1) (omega (arith, c .before .before .before .before .before .before .before .before .before .before .before .if1 .left, c .before .before .before .before .before .before .before .before .before .before .before .before .arity-of .ensures)) (c .before .before .before .before .before .before .before .before .before .before .argument-of .result) (c .before .before .before .before .before .before .before .before .before .before .argument-of .ensures) (number-of (c .before .before .before .before .before .before .before .before .before .full-of .result)) (c .before .before .before .before .before .before .before .before .before .full-of .ensures) _ _ (c .before .before .before .before .before .before .rows .result .used) (c .before .before .before .before .before .before .rows .result .read) (simp (length-take, length-drop) (omega arith)) refl (c .before .before .before .before .before .before .rows .last .1 .1 .1 .1 .1 .0) (c .before .before .before .before .before .before .rows .ensures) (c .before .before .before .before .before .before .rows .kept .1 .1 .1 .1 .1 .0) _ (c .before .before .before .before .before .before .rows .kept .1 .1 .1 .1 .1 .1 .0))
+    (λ c κs. (omega (arith, c .before .before .before .before .before .before .before .before .before .before .before .before .before .before .before .pre .0), arg-given (c .before .before .before .before .before .before .before .before .before .before .before .before .before .before .before .pre .1) (omega (arith, c .before .before .before .before .before .before .before .before .before .if1 .left, c .before .before .before .before .before .before .before .before .before .before .arity-of .ensures)) (c .before .before .before .before .before .before .before .before .argument-of .result) (c .before .before .before .before .before .before .before .before .argument-of .ensures) (number-of (c .before .before .before .before .before .before .before .full-of .result)) (c .before .before .before .before .before .before .before .full-of .ensures) _ _ (simp (length-take, length-drop) (omega (arith, c .before .before .before .before .copy .kept .1 .1 .0))) refl))
+    (λ c κs. next-given (c .before .before .before .before .before .before .before .before .before .before .before .before .before .before .before .before .before .before .before .before .before .before .pre .1) (omega (arith, c .before .before .before .before .before .before .before .before .before .before .before .before .before .before .before .before .if1 .left, c .before .before .before .before .before .before .before .before .before .before .before .before .before .before .before .before .before .arity-of .ensures)) (c .before .before .before .before .before .before .before .before .before .before .before .before .before .before .before .argument-of .result) (c .before .before .before .before .before .before .before .before .before .before .before .before .before .before .before .argument-of .ensures) (number-of (c .before .before .before .before .before .before .before .before .before .before .before .before .before .before .full-of .result)) (c .before .before .before .before .before .before .before .before .before .before .before .before .before .before .full-of .ensures) _ _ (c .before .before .before .before .before .before .rows .result .used) (c .before .before .before .before .before .before .rows .result .read) (simp (length-take, length-drop) (omega (arith, c .before .before .before .before .before .before .before .before .before .before .before .copy .kept .1 .1 .0))) refl (c .before .before .before .before .before .before .rows .last .1 .1 .1 .1 .1 .0) (c .before .before .before .before .before .before .rows .ensures) (c .before .before .before .before .before .before .before .before .before .before .before .copy .last .1 .1 .0) (c .before .before .before .before .before .before .before .before .before .before .before .copy .ensures) (c .before .before .before .before .before .before .before .before .before .before .before .copy .kept .1 .1 .0) _ (c .before .before .before .before .before .before .rows .kept .1 .1 .1 .1 .1 .1 .0))
     (λ c. omega arith)
-    (λ c. omega (arith, arg-read (c .before .before .before .before .before .before .before .before .before .before .before .before .before .before .before .before .before .before .before .before .before .before .pre .1) (omega (arith, c .before .before .before .before .before .before .before .before .before .before .before .before .before .before .before .before .if1 .left, c .before .before .before .before .before .before .before .before .before .before .before .before .before .before .before .before .before .arity-of .ensures)) (c .before .before .before .before .before .before .before .before .before .before .before .before .before .before .before .argument-of .result) (c .before .before .before .before .before .before .before .before .before .before .before .before .before .before .before .argument-of .ensures) (number-of (c .before .before .before .before .before .before .before .before .before .before .before .before .before .before .full-of .result)) (c .before .before .before .before .before .before .before .before .before .before .before .before .before .before .full-of .ensures) _ _ (c .before .before .before .before .before .before .before .before .before .before .before .rows .result .used) (c .before .before .before .before .before .before .before .before .before .before .before .rows .result .read) (simp (length-take, length-drop) (omega arith)) refl (c .before .before .before .before .before .before .before .before .before .before .before .rows .last .1 .1 .1 .1 .1 .0) (c .before .before .before .before .before .before .before .before .before .before .before .rows .ensures) .0, c .before .before .before .before .before .before .before .before .before .before .before .before .before .before .before .before .before .before .before .before .before .before .good))
-    (λ c. arg-read (c .before .before .before .before .before .before .before .before .before .before .before .before .before .before .before .before .before .before .before .before .before .before .pre .1) (omega (arith, c .before .before .before .before .before .before .before .before .before .before .before .before .before .before .before .before .if1 .left, c .before .before .before .before .before .before .before .before .before .before .before .before .before .before .before .before .before .arity-of .ensures)) (c .before .before .before .before .before .before .before .before .before .before .before .before .before .before .before .argument-of .result) (c .before .before .before .before .before .before .before .before .before .before .before .before .before .before .before .argument-of .ensures) (number-of (c .before .before .before .before .before .before .before .before .before .before .before .before .before .before .full-of .result)) (c .before .before .before .before .before .before .before .before .before .before .before .before .before .before .full-of .ensures) _ _ (c .before .before .before .before .before .before .before .before .before .before .before .rows .result .used) (c .before .before .before .before .before .before .before .before .before .before .before .rows .result .read) (simp (length-take, length-drop) (omega arith)) refl (c .before .before .before .before .before .before .before .before .before .before .before .rows .last .1 .1 .1 .1 .1 .0) (c .before .before .before .before .before .before .before .before .before .before .before .rows .ensures) .0)
-    (λ c. omega (arith, arg-read (c .before .before .before .before .before .before .before .before .before .before .before .before .before .before .before .before .before .before .before .before .before .before .pre .1) (omega (arith, c .before .before .before .before .before .before .before .before .before .before .before .before .before .before .before .before .if1 .left, c .before .before .before .before .before .before .before .before .before .before .before .before .before .before .before .before .before .arity-of .ensures)) (c .before .before .before .before .before .before .before .before .before .before .before .before .before .before .before .argument-of .result) (c .before .before .before .before .before .before .before .before .before .before .before .before .before .before .before .argument-of .ensures) (number-of (c .before .before .before .before .before .before .before .before .before .before .before .before .before .before .full-of .result)) (c .before .before .before .before .before .before .before .before .before .before .before .before .before .before .full-of .ensures) _ _ (c .before .before .before .before .before .before .before .before .before .before .before .rows .result .used) (c .before .before .before .before .before .before .before .before .before .before .before .rows .result .read) (simp (length-take, length-drop) (omega arith)) refl (c .before .before .before .before .before .before .before .before .before .before .before .rows .last .1 .1 .1 .1 .1 .0) (c .before .before .before .before .before .before .before .before .before .before .before .rows .ensures) .0))
+    (λ c. omega (arith, arg-read (c .before .before .before .before .before .before .before .before .before .before .before .before .before .before .before .before .before .before .before .before .before .before .before .before .before .pre .1) (omega (arith, c .before .before .before .before .before .before .before .before .before .before .before .before .before .before .before .before .before .before .before .if1 .left, c .before .before .before .before .before .before .before .before .before .before .before .before .before .before .before .before .before .before .before .before .arity-of .ensures)) (c .before .before .before .before .before .before .before .before .before .before .before .before .before .before .before .before .before .before .argument-of .result) (c .before .before .before .before .before .before .before .before .before .before .before .before .before .before .before .before .before .before .argument-of .ensures) (number-of (c .before .before .before .before .before .before .before .before .before .before .before .before .before .before .before .before .before .full-of .result)) (c .before .before .before .before .before .before .before .before .before .before .before .before .before .before .before .before .before .full-of .ensures) _ _ (c .before .before .before .before .before .before .before .before .before .rows .result .used) (c .before .before .before .before .before .before .before .before .before .rows .result .read) (simp (length-take, length-drop) (omega (arith, c .before .before .before .before .before .before .before .before .before .before .before .before .before .before .copy .kept .1 .1 .0))) refl (c .before .before .before .before .before .before .before .before .before .rows .last .1 .1 .1 .1 .1 .0) (c .before .before .before .before .before .before .before .before .before .rows .ensures) .0, c .before .before .before .before .before .before .before .before .before .before .before .before .before .before .before .before .before .before .before .before .before .before .before .before .before .good))
+    (λ c. arg-read (c .before .before .before .before .before .before .before .before .before .before .before .before .before .before .before .before .before .before .before .before .before .before .before .before .before .pre .1) (omega (arith, c .before .before .before .before .before .before .before .before .before .before .before .before .before .before .before .before .before .before .before .if1 .left, c .before .before .before .before .before .before .before .before .before .before .before .before .before .before .before .before .before .before .before .before .arity-of .ensures)) (c .before .before .before .before .before .before .before .before .before .before .before .before .before .before .before .before .before .before .argument-of .result) (c .before .before .before .before .before .before .before .before .before .before .before .before .before .before .before .before .before .before .argument-of .ensures) (number-of (c .before .before .before .before .before .before .before .before .before .before .before .before .before .before .before .before .before .full-of .result)) (c .before .before .before .before .before .before .before .before .before .before .before .before .before .before .before .before .before .full-of .ensures) _ _ (c .before .before .before .before .before .before .before .before .before .rows .result .used) (c .before .before .before .before .before .before .before .before .before .rows .result .read) (simp (length-take, length-drop) (omega (arith, c .before .before .before .before .before .before .before .before .before .before .before .before .before .before .copy .kept .1 .1 .0))) refl (c .before .before .before .before .before .before .before .before .before .rows .last .1 .1 .1 .1 .1 .0) (c .before .before .before .before .before .before .before .before .before .rows .ensures) .0)
+    (λ c. omega (arith, arg-read (c .before .before .before .before .before .before .before .before .before .before .before .before .before .before .before .before .before .before .before .before .before .before .before .before .before .pre .1) (omega (arith, c .before .before .before .before .before .before .before .before .before .before .before .before .before .before .before .before .before .before .before .if1 .left, c .before .before .before .before .before .before .before .before .before .before .before .before .before .before .before .before .before .before .before .before .arity-of .ensures)) (c .before .before .before .before .before .before .before .before .before .before .before .before .before .before .before .before .before .before .argument-of .result) (c .before .before .before .before .before .before .before .before .before .before .before .before .before .before .before .before .before .before .argument-of .ensures) (number-of (c .before .before .before .before .before .before .before .before .before .before .before .before .before .before .before .before .before .full-of .result)) (c .before .before .before .before .before .before .before .before .before .before .before .before .before .before .before .before .before .full-of .ensures) _ _ (c .before .before .before .before .before .before .before .before .before .rows .result .used) (c .before .before .before .before .before .before .before .before .before .rows .result .read) (simp (length-take, length-drop) (omega (arith, c .before .before .before .before .before .before .before .before .before .before .before .before .before .before .copy .kept .1 .1 .0))) refl (c .before .before .before .before .before .before .before .before .before .rows .last .1 .1 .1 .1 .1 .0) (c .before .before .before .before .before .before .before .before .before .rows .ensures) .0))
     (λ c. omega arith)
-    (λ c κs. (simp (length-take, length-drop) (omega (arith, c .before .before .before .before .before .before .before .before .before .before .before .before .before .before .before .before .before .before .before .before .before .before .before .before .before .pre .0, arg-read (c .before .before .before .before .before .before .before .before .before .before .before .before .before .before .before .before .before .before .before .before .before .before .before .before .before .pre .1) (omega (arith, c .before .before .before .before .before .before .before .before .before .before .before .before .before .before .before .before .before .before .before .if1 .left, c .before .before .before .before .before .before .before .before .before .before .before .before .before .before .before .before .before .before .before .before .arity-of .ensures)) (c .before .before .before .before .before .before .before .before .before .before .before .before .before .before .before .before .before .before .argument-of .result) (c .before .before .before .before .before .before .before .before .before .before .before .before .before .before .before .before .before .before .argument-of .ensures) (number-of (c .before .before .before .before .before .before .before .before .before .before .before .before .before .before .before .before .before .full-of .result)) (c .before .before .before .before .before .before .before .before .before .before .before .before .before .before .before .before .before .full-of .ensures) _ _ (c .before .before .before .before .before .before .before .before .before .before .before .before .before .before .rows .result .used) (c .before .before .before .before .before .before .before .before .before .before .before .before .before .before .rows .result .read) (simp (length-take, length-drop) (omega arith)) refl (c .before .before .before .before .before .before .before .before .before .before .before .before .before .before .rows .last .1 .1 .1 .1 .1 .0) (c .before .before .before .before .before .before .before .before .before .before .before .before .before .before .rows .ensures) .0, arg-read (c .before .before .before .before .before .before .before .before .before .before .before .before .before .before .before .before .before .before .before .before .before .before .before .before .before .pre .1) (omega (arith, c .before .before .before .before .before .before .before .before .before .before .before .before .before .before .before .before .before .before .before .if1 .left, c .before .before .before .before .before .before .before .before .before .before .before .before .before .before .before .before .before .before .before .before .arity-of .ensures)) (c .before .before .before .before .before .before .before .before .before .before .before .before .before .before .before .before .before .before .argument-of .result) (c .before .before .before .before .before .before .before .before .before .before .before .before .before .before .before .before .before .before .argument-of .ensures) (number-of (c .before .before .before .before .before .before .before .before .before .before .before .before .before .before .before .before .before .full-of .result)) (c .before .before .before .before .before .before .before .before .before .before .before .before .before .before .before .before .before .full-of .ensures) _ _ (c .before .before .before .before .before .before .before .before .before .before .before .before .before .before .rows .result .used) (c .before .before .before .before .before .before .before .before .before .before .before .before .before .before .rows .result .read) (simp (length-take, length-drop) (omega arith)) refl (c .before .before .before .before .before .before .before .before .before .before .before .before .before .before .rows .last .1 .1 .1 .1 .1 .0) (c .before .before .before .before .before .before .before .before .before .before .before .before .before .before .rows .ensures) .1)), rest-given (c .before .before .before .before .before .before .before .before .before .before .before .before .before .before .before .before .before .before .before .before .before .before .before .before .before .pre .1) (omega (arith, c .before .before .before .before .before .before .before .before .before .before .before .before .before .before .before .before .before .before .before .if1 .left, c .before .before .before .before .before .before .before .before .before .before .before .before .before .before .before .before .before .before .before .before .arity-of .ensures)) (c .before .before .before .before .before .before .before .before .before .before .before .before .before .before .before .before .before .before .argument-of .result) (c .before .before .before .before .before .before .before .before .before .before .before .before .before .before .before .before .before .before .argument-of .ensures) (number-of (c .before .before .before .before .before .before .before .before .before .before .before .before .before .before .before .before .before .full-of .result)) (c .before .before .before .before .before .before .before .before .before .before .before .before .before .before .before .before .before .full-of .ensures) _ _ (c .before .before .before .before .before .before .before .before .before .before .before .before .before .before .rows .result .used) (c .before .before .before .before .before .before .before .before .before .before .before .before .before .before .rows .result .read) (simp (length-take, length-drop) (omega arith)) refl (c .before .before .before .before .before .before .before .before .before .before .before .before .before .before .rows .last .1 .1 .1 .1 .1 .0) (c .before .before .before .before .before .before .before .before .before .before .before .before .before .before .rows .ensures) (c .before .before .before .before .before .before .before .before .before .before .before .before .before .before .rows .kept .1 .1 .1 .1 .1 .0) _ (c .before .before .before .before .before .before .before .joined .result) (c .before .before .before .before .before .before .before .before .before .before .before .before .before .before .rows .kept .1 .1 .1 .1 .1 .1 .0) (c .before .before .before .before .before .before .before .joined .last .1 .1 .1 .1 .1 .0) (c .before .before .before .before .before .before .before .joined .kept .1 .1 .1 .1 .1 .0) (c .before .before .before .before .before .before .before .joined .ensures) _ (c .before .before .before .before .before .before .before .joined .kept .1 .1 .1 .1 .1 .1 .0 ∙ c .before .before .before .before .before .before .before .before .before .before .before .before .before .before .rows .kept .1 .1 .1 .1 .1 .1 .0)))
-    (λ c. omega (arith, args-read (c .before .before .before .before .before .before .before .before .before .before .before .before .before .before .before .before .before .before .before .before .before .before .before .before .before .before .before .before .before .before .before .pre .1) (omega (arith, c .before .before .before .before .before .before .before .before .before .before .before .before .before .before .before .before .before .before .before .before .before .before .before .before .before .if1 .left, c .before .before .before .before .before .before .before .before .before .before .before .before .before .before .before .before .before .before .before .before .before .before .before .before .before .before .arity-of .ensures)) (c .before .before .before .before .before .before .before .before .before .before .before .before .before .before .before .before .before .before .before .before .before .before .before .before .argument-of .result) (c .before .before .before .before .before .before .before .before .before .before .before .before .before .before .before .before .before .before .before .before .before .before .before .before .argument-of .ensures) (number-of (c .before .before .before .before .before .before .before .before .before .before .before .before .before .before .before .before .before .before .before .before .before .before .before .full-of .result)) (c .before .before .before .before .before .before .before .before .before .before .before .before .before .before .before .before .before .before .before .before .before .before .before .full-of .ensures) _ _ (c .before .before .before .before .before .before .before .before .before .before .before .before .before .before .before .before .before .before .before .before .rows .result .used) (c .before .before .before .before .before .before .before .before .before .before .before .before .before .before .before .before .before .before .before .before .rows .result .read) (simp (length-take, length-drop) (omega arith)) refl (c .before .before .before .before .before .before .before .before .before .before .before .before .before .before .before .before .before .before .before .before .rows .last .1 .1 .1 .1 .1 .0) (c .before .before .before .before .before .before .before .before .before .before .before .before .before .before .before .before .before .before .before .before .rows .ensures) (c .before .before .before .before .before .before .before .before .before .before .before .before .before .before .before .before .before .before .before .before .rows .kept .1 .1 .1 .1 .1 .0) _ (c .before .before .before .before .before .before .before .before .before .before .before .before .before .joined .result) (c .before .before .before .before .before .before .before .before .before .before .before .before .before .before .before .before .before .before .before .before .rows .kept .1 .1 .1 .1 .1 .1 .0) (c .before .before .before .before .before .before .before .before .before .before .before .before .before .joined .last .1 .1 .1 .1 .1 .0) (c .before .before .before .before .before .before .before .before .before .before .before .before .before .joined .kept .1 .1 .1 .1 .1 .0) (c .before .before .before .before .before .before .before .before .before .before .before .before .before .joined .ensures) _ (c .before .before .before .before .before .args2 .result .used) (c .before .before .before .before .before .args2 .result .read) (c .before .before .before .before .before .before .before .before .before .before .before .before .before .joined .kept .1 .1 .1 .1 .1 .1 .0 ∙ c .before .before .before .before .before .before .before .before .before .before .before .before .before .before .before .before .before .before .before .before .rows .kept .1 .1 .1 .1 .1 .1 .0) (c .before .before .before .before .before .args2 .last .1 .1 .1 .1 .1 .1 .0) (c .before .before .before .before .before .args2 .ensures), c .before .before .before .before .before .before .before .before .before .before .before .before .before .before .before .before .before .before .before .before .before .before .before .before .before .before .before .before .before .before .before .good))
+    (λ c κs. (simp (length-take, length-drop) (omega (arith, c .before .before .before .before .before .before .before .before .before .before .before .before .before .before .before .before .before .before .before .before .before .before .before .before .before .before .before .before .pre .0, arg-read (c .before .before .before .before .before .before .before .before .before .before .before .before .before .before .before .before .before .before .before .before .before .before .before .before .before .before .before .before .pre .1) (omega (arith, c .before .before .before .before .before .before .before .before .before .before .before .before .before .before .before .before .before .before .before .before .before .before .if1 .left, c .before .before .before .before .before .before .before .before .before .before .before .before .before .before .before .before .before .before .before .before .before .before .before .arity-of .ensures)) (c .before .before .before .before .before .before .before .before .before .before .before .before .before .before .before .before .before .before .before .before .before .argument-of .result) (c .before .before .before .before .before .before .before .before .before .before .before .before .before .before .before .before .before .before .before .before .before .argument-of .ensures) (number-of (c .before .before .before .before .before .before .before .before .before .before .before .before .before .before .before .before .before .before .before .before .full-of .result)) (c .before .before .before .before .before .before .before .before .before .before .before .before .before .before .before .before .before .before .before .before .full-of .ensures) _ _ (c .before .before .before .before .before .before .before .before .before .before .before .before .rows .result .used) (c .before .before .before .before .before .before .before .before .before .before .before .before .rows .result .read) (simp (length-take, length-drop) (omega (arith, c .before .before .before .before .before .before .before .before .before .before .before .before .before .before .before .before .before .copy .kept .1 .1 .0))) refl (c .before .before .before .before .before .before .before .before .before .before .before .before .rows .last .1 .1 .1 .1 .1 .0) (c .before .before .before .before .before .before .before .before .before .before .before .before .rows .ensures) .0, arg-read (c .before .before .before .before .before .before .before .before .before .before .before .before .before .before .before .before .before .before .before .before .before .before .before .before .before .before .before .before .pre .1) (omega (arith, c .before .before .before .before .before .before .before .before .before .before .before .before .before .before .before .before .before .before .before .before .before .before .if1 .left, c .before .before .before .before .before .before .before .before .before .before .before .before .before .before .before .before .before .before .before .before .before .before .before .arity-of .ensures)) (c .before .before .before .before .before .before .before .before .before .before .before .before .before .before .before .before .before .before .before .before .before .argument-of .result) (c .before .before .before .before .before .before .before .before .before .before .before .before .before .before .before .before .before .before .before .before .before .argument-of .ensures) (number-of (c .before .before .before .before .before .before .before .before .before .before .before .before .before .before .before .before .before .before .before .before .full-of .result)) (c .before .before .before .before .before .before .before .before .before .before .before .before .before .before .before .before .before .before .before .before .full-of .ensures) _ _ (c .before .before .before .before .before .before .before .before .before .before .before .before .rows .result .used) (c .before .before .before .before .before .before .before .before .before .before .before .before .rows .result .read) (simp (length-take, length-drop) (omega (arith, c .before .before .before .before .before .before .before .before .before .before .before .before .before .before .before .before .before .copy .kept .1 .1 .0))) refl (c .before .before .before .before .before .before .before .before .before .before .before .before .rows .last .1 .1 .1 .1 .1 .0) (c .before .before .before .before .before .before .before .before .before .before .before .before .rows .ensures) .1)), rest-given (c .before .before .before .before .before .before .before .before .before .before .before .before .before .before .before .before .before .before .before .before .before .before .before .before .before .before .before .before .pre .1) (omega (arith, c .before .before .before .before .before .before .before .before .before .before .before .before .before .before .before .before .before .before .before .before .before .before .if1 .left, c .before .before .before .before .before .before .before .before .before .before .before .before .before .before .before .before .before .before .before .before .before .before .before .arity-of .ensures)) (c .before .before .before .before .before .before .before .before .before .before .before .before .before .before .before .before .before .before .before .before .before .argument-of .result) (c .before .before .before .before .before .before .before .before .before .before .before .before .before .before .before .before .before .before .before .before .before .argument-of .ensures) (number-of (c .before .before .before .before .before .before .before .before .before .before .before .before .before .before .before .before .before .before .before .before .full-of .result)) (c .before .before .before .before .before .before .before .before .before .before .before .before .before .before .before .before .before .before .before .before .full-of .ensures) _ _ (c .before .before .before .before .before .before .before .before .before .before .before .before .rows .result .used) (c .before .before .before .before .before .before .before .before .before .before .before .before .rows .result .read) (simp (length-take, length-drop) (omega (arith, c .before .before .before .before .before .before .before .before .before .before .before .before .before .before .before .before .before .copy .kept .1 .1 .0))) refl (c .before .before .before .before .before .before .before .before .before .before .before .before .rows .last .1 .1 .1 .1 .1 .0) (c .before .before .before .before .before .before .before .before .before .before .before .before .rows .ensures) (c .before .before .before .before .before .before .before .before .before .before .before .before .before .before .before .before .before .copy .last .1 .1 .0) (c .before .before .before .before .before .before .before .before .before .before .before .before .before .before .before .before .before .copy .ensures) (c .before .before .before .before .before .before .before .before .before .before .before .before .before .before .before .before .before .copy .kept .1 .1 .0) _ (c .before .before .before .before .before .next-rows .result) (c .before .before .before .before .before .before .before .before .before .before .before .before .rows .kept .1 .1 .1 .1 .1 .1 .0) (c .before .before .before .before .before .next-rows .last .1 .1 .1 .1 .1 .0) (c .before .before .before .before .before .next-rows .kept .1 .1 .1 .1 .1 .0 ∙ c .before .before .before .before .before .before .before .before .before .before .before .before .rows .kept .1 .1 .1 .1 .1 .1 .0) (c .before .before .before .before .before .next-rows .ensures) _ (back-length (c .before .before .before .before .before .before .before .before .before .before .before .before .before .before .before .before .before .copy .last .1 .1 .0) (c .before .before .before .before .before .before .before .before .before .before .before .before .rows .last .1 .1 .1 .1 .1 .0) (c .before .before .before .before .before .before .before .before .before .before .before .before .before .before .before .before .before .before .before .before .before .before .before .before .before .before .before .before .args .used + 1) (omega (arith, begun-fits (c .before .before .before .before .before .before .before .before .before .before .before .before .before .before .before .before .before .before .before .before .before .before .before .before .before .before .before .before .pre .1) (omega (arith, c .before .before .before .before .before .before .before .before .before .before .before .before .before .before .before .before .before .before .before .before .before .before .if1 .left, c .before .before .before .before .before .before .before .before .before .before .before .before .before .before .before .before .before .before .before .before .before .before .before .arity-of .ensures)) (c .before .before .before .before .before .before .before .before .before .before .before .before .before .before .before .before .before .before .before .before .before .argument-of .result) (c .before .before .before .before .before .before .before .before .before .before .before .before .before .before .before .before .before .before .before .before .before .argument-of .ensures) .1, c .before .before .before .before .before .before .before .before .before .before .before .before .before .before .before .before .before .copy .kept .1 .1 .0)) (c .before .before .before .before .before .before .before .before .before .before .before .before .rows .kept .1 .1 .1 .1 .1 .0) ∙ c .before .before .before .before .before .before .before .before .before .before .before .before .before .before .before .before .before .copy .kept .1 .1 .0)))
+    (λ c. omega (arith, args-read (c .before .before .before .before .before .before .before .before .before .before .before .before .before .before .before .before .before .before .before .before .before .before .before .before .before .before .before .before .before .before .before .before .before .before .pre .1) (omega (arith, c .before .before .before .before .before .before .before .before .before .before .before .before .before .before .before .before .before .before .before .before .before .before .before .before .before .before .before .before .if1 .left, c .before .before .before .before .before .before .before .before .before .before .before .before .before .before .before .before .before .before .before .before .before .before .before .before .before .before .before .before .before .arity-of .ensures)) (c .before .before .before .before .before .before .before .before .before .before .before .before .before .before .before .before .before .before .before .before .before .before .before .before .before .before .before .argument-of .result) (c .before .before .before .before .before .before .before .before .before .before .before .before .before .before .before .before .before .before .before .before .before .before .before .before .before .before .before .argument-of .ensures) (number-of (c .before .before .before .before .before .before .before .before .before .before .before .before .before .before .before .before .before .before .before .before .before .before .before .before .before .before .full-of .result)) (c .before .before .before .before .before .before .before .before .before .before .before .before .before .before .before .before .before .before .before .before .before .before .before .before .before .before .full-of .ensures) _ _ (c .before .before .before .before .before .before .before .before .before .before .before .before .before .before .before .before .before .before .rows .result .used) (c .before .before .before .before .before .before .before .before .before .before .before .before .before .before .before .before .before .before .rows .result .read) (simp (length-take, length-drop) (omega (arith, c .before .before .before .before .before .before .before .before .before .before .before .before .before .before .before .before .before .before .before .before .before .before .before .copy .kept .1 .1 .0))) refl (c .before .before .before .before .before .before .before .before .before .before .before .before .before .before .before .before .before .before .rows .last .1 .1 .1 .1 .1 .0) (c .before .before .before .before .before .before .before .before .before .before .before .before .before .before .before .before .before .before .rows .ensures) (c .before .before .before .before .before .before .before .before .before .before .before .before .before .before .before .before .before .before .before .before .before .before .before .copy .last .1 .1 .0) (c .before .before .before .before .before .before .before .before .before .before .before .before .before .before .before .before .before .before .before .before .before .before .before .copy .ensures) (c .before .before .before .before .before .before .before .before .before .before .before .before .before .before .before .before .before .before .before .before .before .before .before .copy .kept .1 .1 .0) _ (c .before .before .before .before .before .before .before .before .before .before .before .next-rows .result) (c .before .before .before .before .before .before .before .before .before .before .before .before .before .before .before .before .before .before .rows .kept .1 .1 .1 .1 .1 .1 .0) (c .before .before .before .before .before .before .before .before .before .before .before .next-rows .last .1 .1 .1 .1 .1 .0) (c .before .before .before .before .before .before .before .before .before .before .before .next-rows .kept .1 .1 .1 .1 .1 .0 ∙ c .before .before .before .before .before .before .before .before .before .before .before .before .before .before .before .before .before .before .rows .kept .1 .1 .1 .1 .1 .1 .0) (c .before .before .before .before .before .before .before .before .before .before .before .next-rows .ensures) _ (c .before .before .before .before .before .args2 .result .used) (c .before .before .before .before .before .args2 .result .read) (back-length (c .before .before .before .before .before .before .before .before .before .before .before .before .before .before .before .before .before .before .before .before .before .before .before .copy .last .1 .1 .0) (c .before .before .before .before .before .before .before .before .before .before .before .before .before .before .before .before .before .before .rows .last .1 .1 .1 .1 .1 .0) (c .before .before .before .before .before .before .before .before .before .before .before .before .before .before .before .before .before .before .before .before .before .before .before .before .before .before .before .before .before .before .before .before .before .before .args .used + 1) (omega (arith, begun-fits (c .before .before .before .before .before .before .before .before .before .before .before .before .before .before .before .before .before .before .before .before .before .before .before .before .before .before .before .before .before .before .before .before .before .before .pre .1) (omega (arith, c .before .before .before .before .before .before .before .before .before .before .before .before .before .before .before .before .before .before .before .before .before .before .before .before .before .before .before .before .if1 .left, c .before .before .before .before .before .before .before .before .before .before .before .before .before .before .before .before .before .before .before .before .before .before .before .before .before .before .before .before .before .arity-of .ensures)) (c .before .before .before .before .before .before .before .before .before .before .before .before .before .before .before .before .before .before .before .before .before .before .before .before .before .before .before .argument-of .result) (c .before .before .before .before .before .before .before .before .before .before .before .before .before .before .before .before .before .before .before .before .before .before .before .before .before .before .before .argument-of .ensures) .1, c .before .before .before .before .before .before .before .before .before .before .before .before .before .before .before .before .before .before .before .before .before .before .before .copy .kept .1 .1 .0)) (c .before .before .before .before .before .before .before .before .before .before .before .before .before .before .before .before .before .before .rows .kept .1 .1 .1 .1 .1 .0) ∙ c .before .before .before .before .before .before .before .before .before .before .before .before .before .before .before .before .before .before .before .before .before .before .before .copy .kept .1 .1 .0) (c .before .before .before .before .before .args2 .last .1 .1 .1 .1 .1 .1 .0) (c .before .before .before .before .before .args2 .ensures), c .before .before .before .before .before .before .before .before .before .before .before .before .before .before .before .before .before .before .before .before .before .before .before .before .before .before .before .before .before .before .before .before .before .before .good))
     (λ c. omega arith)
     (λ c. omega arith)
-    (λ c g. args-made g (omega (arith, c .before .before .before .before .before .before .before .before .before .before .before .before .before .before .before .before .before .before .before .before .before .before .before .before .before .if1 .left, c .before .before .before .before .before .before .before .before .before .before .before .before .before .before .before .before .before .before .before .before .before .before .before .before .before .before .arity-of .ensures)) (c .before .before .before .before .before .before .before .before .before .before .before .before .before .before .before .before .before .before .before .before .before .before .before .before .argument-of .result) (c .before .before .before .before .before .before .before .before .before .before .before .before .before .before .before .before .before .before .before .before .before .before .before .before .argument-of .ensures) (number-of (c .before .before .before .before .before .before .before .before .before .before .before .before .before .before .before .before .before .before .before .before .before .before .before .full-of .result)) (c .before .before .before .before .before .before .before .before .before .before .before .before .before .before .before .before .before .before .before .before .before .before .before .full-of .ensures) _ _ (c .before .before .before .before .before .before .before .before .before .before .before .before .before .before .before .before .before .before .before .before .rows .result .used) (c .before .before .before .before .before .before .before .before .before .before .before .before .before .before .before .before .before .before .before .before .rows .result .read) (simp (length-take, length-drop) (omega arith)) refl (c .before .before .before .before .before .before .before .before .before .before .before .before .before .before .before .before .before .before .before .before .rows .last .1 .1 .1 .1 .1 .0) (c .before .before .before .before .before .before .before .before .before .before .before .before .before .before .before .before .before .before .before .before .rows .ensures) (c .before .before .before .before .before .before .before .before .before .before .before .before .before .before .before .before .before .before .before .before .rows .kept .1 .1 .1 .1 .1 .0) _ (c .before .before .before .before .before .before .before .before .before .before .before .before .before .joined .result) (c .before .before .before .before .before .before .before .before .before .before .before .before .before .before .before .before .before .before .before .before .rows .kept .1 .1 .1 .1 .1 .1 .0) (c .before .before .before .before .before .before .before .before .before .before .before .before .before .joined .last .1 .1 .1 .1 .1 .0) (c .before .before .before .before .before .before .before .before .before .before .before .before .before .joined .kept .1 .1 .1 .1 .1 .0) (c .before .before .before .before .before .before .before .before .before .before .before .before .before .joined .ensures) _ (c .before .before .before .before .before .args2 .result .used) (c .before .before .before .before .before .args2 .result .read) (c .before .before .before .before .before .before .before .before .before .before .before .before .before .joined .kept .1 .1 .1 .1 .1 .1 .0 ∙ c .before .before .before .before .before .before .before .before .before .before .before .before .before .before .before .before .before .before .before .before .rows .kept .1 .1 .1 .1 .1 .1 .0) (c .before .before .before .before .before .args2 .last .1 .1 .1 .1 .1 .1 .0) (c .before .before .before .before .before .args2 .ensures)))
+    (λ c g. args-made g (omega (arith, c .before .before .before .before .before .before .before .before .before .before .before .before .before .before .before .before .before .before .before .before .before .before .before .before .before .before .before .before .if1 .left, c .before .before .before .before .before .before .before .before .before .before .before .before .before .before .before .before .before .before .before .before .before .before .before .before .before .before .before .before .before .arity-of .ensures)) (c .before .before .before .before .before .before .before .before .before .before .before .before .before .before .before .before .before .before .before .before .before .before .before .before .before .before .before .argument-of .result) (c .before .before .before .before .before .before .before .before .before .before .before .before .before .before .before .before .before .before .before .before .before .before .before .before .before .before .before .argument-of .ensures) (number-of (c .before .before .before .before .before .before .before .before .before .before .before .before .before .before .before .before .before .before .before .before .before .before .before .before .before .before .full-of .result)) (c .before .before .before .before .before .before .before .before .before .before .before .before .before .before .before .before .before .before .before .before .before .before .before .before .before .before .full-of .ensures) _ _ (c .before .before .before .before .before .before .before .before .before .before .before .before .before .before .before .before .before .before .rows .result .used) (c .before .before .before .before .before .before .before .before .before .before .before .before .before .before .before .before .before .before .rows .result .read) (simp (length-take, length-drop) (omega (arith, c .before .before .before .before .before .before .before .before .before .before .before .before .before .before .before .before .before .before .before .before .before .before .before .copy .kept .1 .1 .0))) refl (c .before .before .before .before .before .before .before .before .before .before .before .before .before .before .before .before .before .before .rows .last .1 .1 .1 .1 .1 .0) (c .before .before .before .before .before .before .before .before .before .before .before .before .before .before .before .before .before .before .rows .ensures) (c .before .before .before .before .before .before .before .before .before .before .before .before .before .before .before .before .before .before .before .before .before .before .before .copy .last .1 .1 .0) (c .before .before .before .before .before .before .before .before .before .before .before .before .before .before .before .before .before .before .before .before .before .before .before .copy .ensures) (c .before .before .before .before .before .before .before .before .before .before .before .before .before .before .before .before .before .before .before .before .before .before .before .copy .kept .1 .1 .0) _ (c .before .before .before .before .before .before .before .before .before .before .before .next-rows .result) (c .before .before .before .before .before .before .before .before .before .before .before .before .before .before .before .before .before .before .rows .kept .1 .1 .1 .1 .1 .1 .0) (c .before .before .before .before .before .before .before .before .before .before .before .next-rows .last .1 .1 .1 .1 .1 .0) (c .before .before .before .before .before .before .before .before .before .before .before .next-rows .kept .1 .1 .1 .1 .1 .0 ∙ c .before .before .before .before .before .before .before .before .before .before .before .before .before .before .before .before .before .before .rows .kept .1 .1 .1 .1 .1 .1 .0) (c .before .before .before .before .before .before .before .before .before .before .before .next-rows .ensures) _ (c .before .before .before .before .before .args2 .result .used) (c .before .before .before .before .before .args2 .result .read) (back-length (c .before .before .before .before .before .before .before .before .before .before .before .before .before .before .before .before .before .before .before .before .before .before .before .copy .last .1 .1 .0) (c .before .before .before .before .before .before .before .before .before .before .before .before .before .before .before .before .before .before .rows .last .1 .1 .1 .1 .1 .0) (c .before .before .before .before .before .before .before .before .before .before .before .before .before .before .before .before .before .before .before .before .before .before .before .before .before .before .before .before .before .before .before .before .before .before .args .used + 1) (omega (arith, begun-fits g (omega (arith, c .before .before .before .before .before .before .before .before .before .before .before .before .before .before .before .before .before .before .before .before .before .before .before .before .before .before .before .before .if1 .left, c .before .before .before .before .before .before .before .before .before .before .before .before .before .before .before .before .before .before .before .before .before .before .before .before .before .before .before .before .before .arity-of .ensures)) (c .before .before .before .before .before .before .before .before .before .before .before .before .before .before .before .before .before .before .before .before .before .before .before .before .before .before .before .argument-of .result) (c .before .before .before .before .before .before .before .before .before .before .before .before .before .before .before .before .before .before .before .before .before .before .before .before .before .before .before .argument-of .ensures) .1, c .before .before .before .before .before .before .before .before .before .before .before .before .before .before .before .before .before .before .before .before .before .before .before .copy .kept .1 .1 .0)) (c .before .before .before .before .before .before .before .before .before .before .before .before .before .before .before .before .before .before .rows .kept .1 .1 .1 .1 .1 .0) ∙ c .before .before .before .before .before .before .before .before .before .before .before .before .before .before .before .before .before .before .before .before .before .before .before .copy .kept .1 .1 .0) (c .before .before .before .before .before .args2 .last .1 .1 .1 .1 .1 .1 .0) (c .before .before .before .before .before .args2 .ensures)))
     (λ t. head-rows-lts.spec
     (place-of-reads.Asked, place-of-reads.Learnt, only-reads.Asked, only-reads.Learnt, one-reads.Asked, one-reads.Learnt, args-below t, args.Post, without-reads.Asked, without-reads.Learnt, others-reads.Asked, others-reads.Learnt)
     (head-rows-at t)
