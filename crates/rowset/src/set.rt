@@ -95,7 +95,7 @@ pub fn next_in(s: &[u64; SET_WORDS], from: usize, n: usize) -> usize
     first_from(s, i + 1, n)
 }
 
-// The rows of s are those of x from now on.
+// The rows of x are those of s from now on.
 pub fn copy(s: &[u64; SET_WORDS], x: &mut [u64])
     requires { ⌜ length (now x) ≡ set-words ⌝ }
     ensures { λ _. ⌜ ((q : ℕ) → q < row-limit → member (now (x .exit)) q ≡ member (now (s .entry)) q) ⌝ }
