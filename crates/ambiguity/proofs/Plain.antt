@@ -1,30 +1,29 @@
 -- Words with no "or", and no "and" behind a "not", are of a pattern that is not ambiguous.
 use mathlib.Core.Path.{_≡_, refl, sym, ap, _∙_}
 use mathlib.Core.List.{List, [], _∷_, _++_}
-use mathlib.Core.Bool.{Bool, true, false, not, _&&_, _||_}
+use mathlib.Core.Bool.{Bool, true, false, not, _||_}
 use Prim.Native.Nat.{ℕ, _+_, _≤_, _<_}
 use native.Mathlib.Numerals.{add-one}
-use lib.Dec.{eqb}
 use lib.ListN.{length, getD, drop, drop-of-length-le}
 use lib.Seq.{drop-cons}
-use borrow.Author.Tests.{eq-eqb, ne-eqb}
 use Rattle.signature.specs.Signature.{Signature, arguments}
 use Rattle.signature.proofs.Booleans.{and-false, not-true, or-left, or-right}
 use Rattle.signature.proofs.Tests.{true≢false}
 use Rattle.pattern.specs.Pattern.{Pattern, head, and, or, wild, absurd-pat, neg, var, range, Patterns, pnil, pcons, pattern-code, patterns-code}
+use Rattle.pattern.specs.Read.{Form, form}
 use Rattle.row.specs.Overlap.{ambiguous-plus, ambiguous-minus, any-plus, any-minus}
 use Rattle.builder.specs.Build.{GivenWhole}
-use Rattle.ambiguity.specs.Ambiguity.{may-double}
+use Rattle.ambiguity.specs.Ambiguity.{doubles, negates, may-double-at, may-double}
 
 -- what doubles nowhere behind a "not" doubles nowhere
 fewer : (b : Bool) (ws : List ℕ) → may-double true ws ≡ false → may-double b ws ≡ false
 fewer b [] h = refl
 fewer b (w ∷ ws) h =
-    let e : (eqb w 257 || eqb w 256) ≡ false = or-left (eqb w 257 || eqb w 256) (may-double true ws) h in
-    rw (or-left (eqb w 257) (eqb w 256) e, or-right (eqb w 257) (eqb w 256) e, and-false b) (fewer (b || eqb w 260) ws (or-right (eqb w 257 || eqb w 256) (may-double true ws) h))
+    let e : (doubles true (form w) || doubles false (form w)) ≡ false = or-left (doubles true (form w) || doubles false (form w)) (may-double true ws) h in
+    rw (or-left (doubles true (form w)) (doubles false (form w)) e, or-right (doubles true (form w)) (doubles false (form w)) e, and-false b) (fewer (b || negates (form w)) ws (or-right (doubles true (form w) || doubles false (form w)) (may-double true ws) h))
 
 next : (b : Bool) (w : ℕ) (ws : List ℕ) → may-double b (w ∷ ws) ≡ false → may-double b ws ≡ false
-next b w ws h = go b (eqb w 260) (or-right (eqb w 257 || (b && eqb w 256)) (may-double (b || eqb w 260) ws) h)
+next b w ws h = go b (negates (form w)) (or-right (may-double-at b (form w)) (may-double (b || negates (form w)) ws) h)
   where
     go : (a c : Bool) → may-double (a || c) ws ≡ false → may-double a ws ≡ false
     go true c e = e
@@ -33,7 +32,7 @@ next b w ws h = go b (eqb w 260) (or-right (eqb w 257 || (b && eqb w 256)) (may-
 
 front : (b : Bool) (us ws : List ℕ) → may-double b (us ++ ws) ≡ false → may-double b us ≡ false
 front b [] ws h = refl
-front b (u ∷ us) ws h = rw (or-left (eqb u 257 || (b && eqb u 256)) (may-double (b || eqb u 260) (us ++ ws)) h) (front (b || eqb u 260) us ws (or-right (eqb u 257 || (b && eqb u 256)) (may-double (b || eqb u 260) (us ++ ws)) h))
+front b (u ∷ us) ws h = rw (or-left (may-double-at b (form u)) (may-double (b || negates (form u)) (us ++ ws)) h) (front (b || negates (form u)) us ws (or-right (may-double-at b (form u)) (may-double (b || negates (form u)) (us ++ ws)) h))
 
 back : (b : Bool) (us ws : List ℕ) → may-double b (us ++ ws) ≡ false → may-double b ws ≡ false
 back b [] ws h = h
@@ -78,27 +77,27 @@ pub is-plain : {t ws : List ℕ} {n m : ℕ} (g : GivenWhole t ws n m) (r : Bool
 is-plain g r d e = sym (plus (g .known .sig) 0 (g .p) (ap (may-double false) (g .words .is-code) ∙ sym d ∙ not-true r e))
 
 -- one word
-module _ (w : ℕ) (b : Bool) where
-  pub at-or : w ≡ 257 → true ≡ (eqb w 257 || (b && eqb w 256))
-  at-or e = rw (eq-eqb w 257 e)
+module _ (f : Form) (b : Bool) where
+  pub doubled : doubles true f ≡ true → true ≡ may-double-at b f
+  doubled e = rw e
 
-  pub not-behind : (w ≡ 257 → ⊥) → b ≡ false → false ≡ (eqb w 257 || (b && eqb w 256))
-  not-behind d e = rw (ne-eqb w 257 d, e)
+  pub not-behind : doubles true f ≡ false → b ≡ false → false ≡ may-double-at b f
+  not-behind d e = rw (d, e)
 
-  pub at-and : (w ≡ 257 → ⊥) → b ≡ true → eqb w 256 ≡ (eqb w 257 || (b && eqb w 256))
-  at-and d e = rw (ne-eqb w 257 d, e)
+  pub behind-not : doubles true f ≡ false → b ≡ true → doubles false f ≡ may-double-at b f
+  behind-not d e = rw (d, e)
 
 -- the loop over the words
 module _ (p : List ℕ) (b : Bool) (i : ℕ) (rest : may-double false p ≡ may-double b (drop i p)) where
   pub none-left : length p ≤ i → false ≡ may-double false p
   none-left h = rw (rest, drop-of-length-le p h)
 
-  module _ (h : i < length p) (r : Bool) (r-is : r ≡ (eqb (getD p i 0) 257 || (b && eqb (getD p i 0) 256))) where
-    opened : may-double false p ≡ (r || may-double (b || eqb (getD p i 0) 260) (drop (i + 1) p))
-    opened = rw (rest, add-one, drop-cons p i 0 h, r-is)
+  module _ (h : i < length p) (f : Form) (f-is : f ≡ form (getD p i 0)) (r : Bool) (r-is : r ≡ may-double-at b f) where
+    opened : may-double false p ≡ (r || may-double (b || negates f) (drop (i + 1) p))
+    opened = rw (rest, add-one, drop-cons p i 0 h, r-is, f-is)
 
     pub found : r ≡ true → true ≡ may-double false p
     found e = rw (opened, e)
 
-    pub other : r ≡ false → (b′ : Bool) → b′ ≡ (b || eqb (getD p i 0) 260) → may-double false p ≡ may-double b′ (drop (i + 1) p)
-    other e b′ b-is = rw (opened, e, b-is)
+    pub other : r ≡ false → (n b′ : Bool) → n ≡ negates f → b′ ≡ (b || n) → may-double false p ≡ may-double b′ (drop (i + 1) p)
+    other e n b′ n-is b-is = rw (opened, e, b-is, n-is)

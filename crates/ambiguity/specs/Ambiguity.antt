@@ -3,14 +3,13 @@ use mathlib.Core.Path.{_≡_}
 use mathlib.Core.List.{List, [], _∷_}
 use mathlib.Core.Bool.{Bool, true, false, not, _&&_, _||_}
 use Prim.Native.Nat.{ℕ}
-use lib.Dec.{eqb}
 use lib.ListN.{length}
 use Rattle.signature.specs.Decoded.{argument-of}
 use Rattle.signature.specs.Lists.{is-empty}
 use Rattle.signature.specs.Signature.{Signature}
 use Rattle.pattern.specs.Linearity.{side-of, vars-at}
 use Rattle.pattern.specs.Pattern.{Pattern, head, and, or, wild, absurd-pat, neg, var, range, pattern-code}
-use Rattle.pattern.specs.Read.{Form, is-head, is-var, is-and, is-or, is-wild, is-absurd, is-not, is-range, is-other}
+use Rattle.pattern.specs.Read.{Form, form, is-head, is-var, is-and, is-or, is-wild, is-absurd, is-not, is-range, is-other}
 use Rattle.row.specs.Overlap.{ambiguous-plus, ambiguous-minus}
 use Rattle.ambiguity.specs.Parts.{meets}
 use Rattle.ambiguity.specs.declared.ambiguous.Part.{Part}
@@ -23,11 +22,6 @@ ambiguous-of false sig k p = ambiguous-minus sig k p
 abbrev pub has-vars : Bool → Pattern → Bool
 has-vars b p = not (is-empty (vars-at (side-of b) p))
 
--- some word is an "or", or an "and" behind a "not"; b says that a "not" came before these words
-abbrev pub may-double : Bool → List ℕ → Bool
-may-double b [] = false
-may-double b (w ∷ ws) = (eqb w 257 || (b && eqb w 256)) || may-double (b || eqb w 260) ws
-
 -- an "or" on the plus side, an "and" on the minus side
 abbrev pub doubles : Bool → Form → Bool
 doubles b (is-head c) = false
@@ -39,6 +33,26 @@ doubles b is-absurd = false
 doubles b is-not = false
 doubles b is-range = false
 doubles b is-other = false
+
+abbrev pub negates : Form → Bool
+negates (is-head c) = false
+negates (is-var x) = false
+negates is-and = false
+negates is-or = false
+negates is-wild = false
+negates is-absurd = false
+negates is-not = true
+negates is-range = false
+negates is-other = false
+
+-- an "or", or an "and" behind a "not"; b says that a "not" came before
+abbrev pub may-double-at : Bool → Form → Bool
+may-double-at b f = doubles true f || (b && doubles false f)
+
+-- some word is one of these
+abbrev pub may-double : Bool → List ℕ → Bool
+may-double b [] = false
+may-double b (w ∷ ws) = may-double-at b (form w) || may-double (b || negates (form w)) ws
 
 -- and a value of its kind that both parts take
 abbrev pub taken-twice : Bool → Signature → ℕ → Pattern → Bool

@@ -8,21 +8,14 @@ use pattern::token::side_behind;
 use signature::decoded::argument_of;
 ghost use mathlib.Core.Path.{_≡_};
 ghost use mathlib.Core.Bool.{false, _&&_, _||_};
-ghost use lib.Dec.{eqb};
 ghost use lib.ListN.{length};
 ghost use Prim.Native.Nat.{_<_};
 ghost use Rattle.signature.specs.Decoded.{decoded-length};
 ghost use Rattle.signature.specs.Limits.{argument-limit};
 ghost use Rattle.pattern.specs.Word.{form-of, head-small};
 ghost use Rattle.row.specs.Overlap.{ambiguous-plus};
-ghost use Rattle.ambiguity.specs.Ambiguity.{may-double, doubles, taken-twice, kind-behind, own-variable, Judged};
+ghost use Rattle.ambiguity.specs.Ambiguity.{may-double, may-double-at, negates, doubles, taken-twice, kind-behind, own-variable, Judged};
 ghost use Rattle.builder.specs.Build.{GivenPart, GivenWhole};
-
-const AND: u16 = 256;
-
-const OR: u16 = 257;
-
-const NOT: u16 = 260;
 
 // Whether a part has variables at its side, and how many words it takes; or that it, or a part of it, is ambiguous.
 pub enum Part {
@@ -37,36 +30,6 @@ fn either(a: bool, b: bool) -> bool
         return true;
     }
     b
-}
-
-// Whether a value may be taken twice behind a word: "or", or "and" below a "not", which came before it.
-fn may_double_at(w: u16, below: bool) -> bool
-    ensures { λ r. ⌜ r ≡ (eqb w 257 || (below && eqb w 256)) ⌝ }
-{
-    if w == OR {
-        return true;
-    }
-    if below {
-        return w == AND;
-    }
-    false
-}
-
-// Whether some word is one of these; a pattern without them is not ambiguous.
-fn may_double(p: &[u16]) -> bool
-    ensures { λ r. ⌜ r ≡ may-double false (now (p .entry)) ⌝ }
-{
-    let mut below = false;
-    let mut i = 0;
-    while i < p.len() {
-        let w = p[i];
-        if may_double_at(w, below) {
-            return true;
-        }
-        below = either(below, w == NOT);
-        i += 1;
-    }
-    false
 }
 
 fn is_variable(w: Word, plus: bool) -> bool
@@ -100,6 +63,53 @@ fn is_double(w: Word, plus: bool) -> bool
         Word::Range => false,
         Word::Other => false,
     }
+}
+
+// Whether a word is a "not".
+fn is_not(w: Word) -> bool
+    ensures { λ r. ⌜ r ≡ negates (form-of w) ⌝ }
+{
+    match w {
+        Word::Head(_c) => false,
+        Word::And => false,
+        Word::Or => false,
+        Word::Wild => false,
+        Word::Absurd => false,
+        Word::Not => true,
+        Word::Var(_x) => false,
+        Word::Range => false,
+        Word::Other => false,
+    }
+}
+
+// Whether a value may be taken twice behind a word, on the plus side, or below a "not" on either.
+fn may_double_at(w: Word, below: bool) -> bool
+    ensures { λ r. ⌜ r ≡ may-double-at below (form-of w) ⌝ }
+{
+    if is_double(w, true) {
+        return true;
+    }
+    if below {
+        return is_double(w, false);
+    }
+    false
+}
+
+// Whether some word is one of these; a pattern without them is not ambiguous.
+fn may_double(p: &[u16]) -> bool
+    ensures { λ r. ⌜ r ≡ may-double false (now (p .entry)) ⌝ }
+{
+    let mut below = false;
+    let mut i = 0;
+    while i < p.len() {
+        let w = classify(p[i]);
+        if may_double_at(w, below) {
+            return true;
+        }
+        below = either(below, is_not(w));
+        i += 1;
+    }
+    false
 }
 
 // The kind of the j-th part behind a word at a place of kind k.

@@ -7,7 +7,7 @@ use Prim.Native.Nat.{ℕ, suc, _<_, _≤_}
 use native.Mathlib.Decide.{decLe}
 use native.Mathlib.Omega.{arith}
 use lib.ListN.{length, take, drop}
-use lib.Dec.{eqb, ltb}
+use lib.Dec.{ltb}
 use Rattle.signature.specs.Part.{part-call, part-signature, part-booking, part-words, part-at}
 use Rattle.signature.specs.Read.{read-signature, read-booking}
 use Rattle.signature.specs.Signature.{Signature}

@@ -23,7 +23,6 @@ use Rattle.row.specs.Row.{Row, rcons, rnil, rows-plus}
 use Rattle.row.proofs.PassedFacts.{passed-of}
 use Rattle.row.proofs.RowCount.{plus-count}
 use Rattle.cell.specs.Coded.{kinds-of, row-code}
-use Rattle.cell.specs.RowList.{entries}
 use Rattle.rowlist.proofs.Kinded.{kind-zero}
 use Rattle.tree.specs.Tree.{Line}
 use Rattle.table.specs.Limits.{limits}
@@ -31,10 +30,9 @@ use Rattle.table.specs.Matrix.{lines, lines-by}
 use Rattle.table.specs.Rule.{Rule, total-weight}
 use Rattle.table.specs.Sound.{no-shared}
 use Rattle.path.specs.Standing.{RowStands}
-use Rattle.path.specs.Rows.{RuleRow, line-of, Fit}
+use Rattle.path.specs.Rows.{line-of, Fit}
 use Rattle.writer.proofs.RowsFit.{rows-fit}
-use Rattle.loading.specs.Lists.{rows-by, rows-for, lists-for, list-for}
-use Rattle.loading.specs.Load.{patterns}
+use Rattle.loading.specs.Lists.{rows-by, rows-for}
 use Rattle.loading.proofs.Tested.{tests}
 use Rattle.indexing.specs.Indexing.{row-of, rule-rows, rows-all}
 

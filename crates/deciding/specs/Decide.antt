@@ -5,16 +5,12 @@ use mathlib.Core.Option.{some}
 use mathlib.Core.Bool.{true}
 use Prim.Native.Nat.{ℕ, _+_, _<_}
 use lib.ListN.{length, getD}
-use Rattle.signature.specs.Decoded.{Known}
 use Rattle.signature.specs.Read.{read-booking}
 use Rattle.signature.specs.Value.{Value}
 use Rattle.pattern.specs.Decide.{Out, decide, is-fit, fit, fail}
 use Rattle.pattern.specs.Places.{bind-all, unbound}
 use Rattle.matching.specs.Asked.{Asked}
 use Rattle.tree.specs.Answer.{Answer}
-use Rattle.table.specs.Limits.{limits}
-use Rattle.table.specs.Rule.{Rule}
-use Rattle.table.specs.Sound.{sound}
 use Rattle.opening.specs.Open.{Ruled}
 
 -- rules in force and a lawful booking

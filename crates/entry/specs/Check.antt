@@ -1,12 +1,10 @@
 -- 01, Turned down: 4, 5 and 7 to 11 of an entry.
 use mathlib.Core.Path.{_≡_}
 use mathlib.Core.List.{List}
-use mathlib.Core.Option.{some}
 use mathlib.Core.Bool.{cond, not, _&&_}
 use Prim.Native.Nat.{ℕ, _+_, _≤_, _<_}
 use lib.Dec.{leb}
 use lib.ListN.{length}
-use Rattle.signature.specs.Decoded.{Known}
 use Rattle.signature.specs.Lists.{any}
 use Rattle.signature.specs.Signature.{Signature}
 use Rattle.pattern.specs.Weight.{weight}
@@ -16,7 +14,6 @@ use Rattle.tree.specs.Limits.{last-number}
 use Rattle.table.specs.Limits.{limits}
 use Rattle.table.specs.Refusals.{entry-refusal}
 use Rattle.table.specs.Rule.{Rule, held, total-weight}
-use Rattle.table.specs.Sound.{sound}
 use Rattle.builder.specs.Build.{words-room}
 use Rattle.store.specs.Place.{FreeAt}
 use Rattle.loading.specs.Load.{InForce, Ready}

@@ -1,10 +1,8 @@
 -- 01, Turned down: an entry from 4 on, under rules in force.
 use mathlib.Core.Path.{_≡_}
 use mathlib.Core.List.{List}
-use mathlib.Core.Option.{some}
 use Prim.Native.Nat.{ℕ, _+_, _*_, _≤_}
 use lib.ListN.{length}
-use Rattle.signature.specs.Decoded.{Known}
 use Rattle.signature.specs.Signature.{Signature}
 use Rattle.rowset.specs.Limits.{row-limit}
 use Rattle.rowset.specs.Member.{set-words}
@@ -14,7 +12,7 @@ use Rattle.table.specs.Refusals.{entry-refusal}
 use Rattle.table.specs.Rule.{Rule}
 use Rattle.table.specs.Sound.{sound}
 use Rattle.builder.specs.Build.{words-room}
-use Rattle.loading.specs.Load.{InForce, Ready}
+use Rattle.loading.specs.Load.{InForce}
 use Rattle.entry.specs.Check.{Cleared}
 use Rattle.entry.specs.Entry.{entry-answer, Numbered}
 use Rattle.entry.specs.declared.sound.Tried.{Tried}

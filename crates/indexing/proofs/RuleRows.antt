@@ -1,14 +1,13 @@
 -- The rows of rules: what a rule more adds to them.
-use mathlib.Core.Path.{_≡_, refl, sym, ap, ap₂, _∙_}
+use mathlib.Core.Path.{_≡_, refl, sym, ap, _∙_}
 use mathlib.Core.Logic.{_⊎_, inl, inr}
 use mathlib.Core.List.{List, [], _∷_, _++_, map, append-assoc, append-nil}
-use mathlib.Core.Option.{Option, some}
+use mathlib.Core.Option.{some}
 use Prim.Native.Nat.{ℕ, zero, suc, _+_, _≤_}
 use native.Mathlib.Omega.{arith}
 use lib.ListN.{length, length-append, length-map, getElem?}
 use Rattle.signature.specs.Signature.{Signature}
 use Rattle.signature.proofs.Tests.{none≢some, some-inj}
-use Rattle.path.specs.Rows.{RuleRow}
 use Rattle.table.specs.Rule.{Rule}
 use Rattle.loading.specs.Lists.{rows-for}
 use Rattle.indexing.specs.Indexing.{row-of, rule-rows, rows-all}

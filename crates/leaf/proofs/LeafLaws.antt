@@ -148,18 +148,18 @@ module _ (u x f left : ℕ) (h : (j : ℕ) → bit f j ≡ cond (ltb j x) 1 0) (
   below j l = g j ∙ ap (λ (b : ℕ). cond (eqb b 1) 0 (bit u j)) (h j ∙ ap (λ (z : Bool). cond z 1 0) (lt-ltb j x l))
 
   pub next-none : x ≤ variable-count → left ≡ 0 → NextVariable u x variable-count
-  next-none l e = record { least = l; most = omega arith; between = λ z m k. from-on z m ∙ ap (λ (w : ℕ). bit w z) e ∙ bit-zero z }
+  next-none l e = record { least = l; most = omega arith; between = λ z m k. from-on z m ∙ ap (λ (w : ℕ). bit w z) e ∙ bit-zero z; there = λ k. absurd (omega arith) }
 
   module _ (y : ℕ) (w : Lowest set-limit left y) where
     pub next-low : y < variable-count → NextVariable u x y
-    next-low l = record { least = go (ltb y x) refl; most = omega arith; between = λ z m k. from-on z m ∙ w .none-below z k }
+    next-low l = record { least = from (ltb y x) refl; most = omega arith; between = λ z m k. from-on z m ∙ w .none-below z k; there = λ k. from-on y (from (ltb y x) refl) ∙ w .member }
       where
-        go : (b : Bool) → ltb y x ≡ b → x ≤ y
-        go true e = absurd (omega (arith, w .member, below y (ltb-true y x e)))
-        go false e = ltb-false y x e
+        from : (b : Bool) → ltb y x ≡ b → x ≤ y
+        from true e = absurd (omega (arith, w .member, below y (ltb-true y x e)))
+        from false e = ltb-false y x e
 
     pub next-high : x ≤ variable-count → variable-count ≤ y → NextVariable u x variable-count
-    next-high l m = record { least = l; most = omega arith; between = λ z i k. from-on z i ∙ w .none-below z (omega arith) }
+    next-high l m = record { least = l; most = omega arith; between = λ z i k. from-on z i ∙ w .none-below z (omega arith); there = λ k. absurd (omega arith) }
 
 -- variables without pairs
 past-unused : (a rows vis : List ℕ) (r q d x : ℕ) → x + d ≤ variable-count → ((z : ℕ) → x ≤ z → z < x + d → cell-pairs a rows vis r z q ≡ []) → later a rows vis r q x x ≡ later a rows vis r q x (x + d)

@@ -1,25 +1,24 @@
 -- The pairs of a leaf are those of its line, and how they are written one behind the other.
-use mathlib.Core.Path.{_≡_, refl, sym, ap, ap₂, subst, _∙_}
+use mathlib.Core.Path.{_≡_, refl, sym, ap, ap₂, _∙_}
 use mathlib.Core.List.{List, [], _∷_, _++_, append-assoc, append-nil}
 use mathlib.Core.Bool.{Bool, true, false, cond}
-use Prim.Native.Nat.{ℕ, zero, suc, _+_, _-_, _*_, _/_, _≤_, _<_, min}
+use Prim.Native.Nat.{ℕ, zero, suc, _+_, _-_, _*_, _≤_, _<_}
 use native.Mathlib.Nat.{add-zero}
 use native.Mathlib.Omega.{arith}
-use lib.Dec.{eqb, leb}
-use lib.ListN.{length, getD, drop, take, set, length-append, length-take, length-drop, take-append-drop, drop-of-length-le}
-use lib.Seq.{take-at, drop-at, take-all, drop-drop, length-take-le}
+use lib.Dec.{eqb}
+use lib.ListN.{length, drop, take, set, length-append, take-append-drop}
+use lib.Seq.{take-at, drop-at, drop-drop, length-take-le}
 use Rattle.sets.specs.Set.{bit}
 use Rattle.signature.proofs.Tests.{leb-yes, leb-no}
-use Rattle.pattern.specs.Limits.{pattern-limit, variable-count}
-use Rattle.tree.specs.Tree.{hit, insert, inserts}
-use Rattle.tree.specs.Words.{pairs, words}
+use Rattle.pattern.specs.Limits.{variable-count}
+use Rattle.tree.specs.Tree.{insert, inserts}
+use Rattle.tree.specs.Words.{pairs}
 use Rattle.leaf.specs.Leaf.{cell-pair, cell-pairs, pairs-from, all-pairs, Paired}
 use Rattle.cell.specs.Cursor.{cell-at}
 use Rattle.cell.specs.declared.cell.Cell.{Cell}
 use Rattle.path.specs.Standing.{vars-of}
 use Rattle.path.specs.State.{bound, cell-of, visit-of}
 use Rattle.path.specs.Variables.{variables, variables-from}
-use Rattle.path.specs.Wrote.{Wrote}
 
 -- the pairs of each variable, instead of those of each cell
 

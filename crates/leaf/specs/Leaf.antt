@@ -39,6 +39,7 @@ pub record NextVariable (u x y : ℕ) : Type 0 where
   pub least : x ≤ y
   pub most : y ≤ variable-count
   pub between : (z : ℕ) → x ≤ z → z < y → bit u z ≡ 0
+  pub there : y < variable-count → bit u y ≡ 1
 
 -- the cells before q, and their visits
 pub record Pairing (a rows vis : List ℕ) (r q : ℕ) : Type 0 where

@@ -1,18 +1,18 @@
 -- The heads that a place allows, as a list and as a set in a word.
 use mathlib.Core.Path.{_≡_, refl, sym, ap, _∙_}
 use mathlib.Core.List.{List, [], _∷_}
-use mathlib.Core.Bool.{Bool, true, false, _&&_, not, _||_}
+use mathlib.Core.Bool.{Bool, true, false}
 use Prim.Native.Nat.{ℕ, _+_, _-_, _≤_, _<_}
 use native.Mathlib.Omega.{arith}
 use borrow.Author.Tests.{eq-eqb}
 use lib.Dec.{eqb}
 use lib.ListN.{length}
-use Rattle.signature.specs.Lists.{memb, all, first}
+use Rattle.signature.specs.Lists.{memb, all}
 use Rattle.sets.specs.Set.{bit, members, set-of, Within}
-use Rattle.signature.specs.Signature.{Signature, heads}
+use Rattle.signature.specs.Signature.{heads}
 use Rattle.signature.proofs.Booleans.{or-false, both-ways}
 use Rattle.signature.proofs.Members.{all-memb, all-of, all-self}
-use Rattle.signature.proofs.Tests.{eqb-eq, eqb-self}
+use Rattle.signature.proofs.Tests.{eqb-eq}
 use Rattle.sets.proofs.ListSets.{one-if, bit-set-of, same-bits, set-lt, within-one}
 use Rattle.sets.proofs.SetLaws.{size-among}
 use Rattle.signature.specs.Limits.{heads-limit}

@@ -7,14 +7,13 @@ use borrow.Author.Tests.{lt-ltb, le-ltb}
 use lib.ListN.{length, getD, drop, set, length-append, length-set, length-drop}
 use lib.Seq.{getD-set-same, getD-set-other}
 use Rattle.signature.specs.Signature.{Signature, arguments}
-use Rattle.pattern.specs.Limits.{pattern-limit}
 use Rattle.row.specs.Row.{Row, Rows, named, free, rnil, rcons}
 use Rattle.cell.specs.Cell.{kind-tag, words, all-words}
 use Rattle.cell.specs.Coded.{kinds-of, cells, all-cells, row-code}
 use Rattle.cell.specs.Cursor.{opens-of}
 use Rattle.tree.specs.Tree.{rappend}
 use Rattle.path.specs.Standing.{RowStands, RowsStand, At, tag-of}
-use Rattle.path.specs.State.{row-stride, own-of, start-of, stop-of, rule-of, plan-of}
+use Rattle.path.specs.State.{row-stride, own-of}
 use Rattle.path.specs.Rows.{GivenRow, RowCounted, RowIndexed, Before}
 use Rattle.path.proofs.StandingLaws.{RealAt, is-real}
 use Rattle.path.proofs.StepLaws.{after-named, after-free, its-cell, row-tag}

@@ -1,23 +1,22 @@
 -- A step of the writer's state is a step of its lines.
-use mathlib.Core.Path.{_≡_, refl, sym, ap, ap₂, subst, _∙_}
-use mathlib.Core.List.{List, [], _∷_, _++_}
+use mathlib.Core.Path.{_≡_, refl, sym, ap, ap₂, _∙_}
+use mathlib.Core.List.{List, _∷_, _++_}
 use mathlib.Core.Option.{Option, none, some}
 use mathlib.Core.Bool.{Bool, true, false, _&&_, not, cond}
-use Prim.Native.Nat.{ℕ, zero, suc, _+_, _-_, _*_, _≤_, _<_}
-use native.Mathlib.Nat.{add-zero}
+use Prim.Native.Nat.{ℕ, zero, suc, _+_, _-_, _≤_, _<_}
 use native.Mathlib.Omega.{arith}
 use lib.Dec.{eqb}
 use lib.ListN.{length, getD, length-append}
 use Rattle.signature.specs.Lists.{_>>=_, memb, first}
 use Rattle.rowlist.proofs.Kinded.{Sized}
-use Rattle.sets.specs.Set.{bit, Within, set-of}
+use Rattle.sets.specs.Set.{bit}
 use Rattle.signature.specs.Signature.{Signature, heads, arguments}
 use Rattle.sets.proofs.SetLaws.{bit-lt}
 use Rattle.signature.proofs.Tests.{eqb-eq, eqb-ne, none≢some, some-inj}
 use Rattle.row.specs.Row.{Rows}
 use Rattle.cell.specs.Cursor.{opens-of}
 use Rattle.tree.specs.Tree.{Line, inserts, after, taken, passed, refined, holds}
-use Rattle.path.specs.Standing.{At, refined-cell, tag-of, vars-of, allowed-of}
+use Rattle.path.specs.Standing.{refined-cell, tag-of, vars-of, allowed-of}
 use Rattle.path.specs.State.{Indexed, LineAt, RowIs, State, Raised, real-of, kept-by, cell-of, own-of, stop-of, visit-of, bound, one-if}
 use Rattle.path.specs.Variables.{variables}
 use Rattle.path.proofs.StepLaws.{Next, virt-taken, virt-passed, virt-refined, real-taken, real-not, real-passed, real-refined, real-room, real-holds, virt-holds}

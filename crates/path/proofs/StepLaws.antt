@@ -8,10 +8,10 @@ use Prim.Native.Nat.{ℕ, suc, _+_, _-_, _≤_, _<_}
 use native.Mathlib.Omega.{arith}
 use borrow.Author.Tests.{lt-ltb, le-ltb}
 use lib.Dec.{eqb}
-use lib.ListN.{length, getD, drop}
-use Rattle.signature.specs.Lists.{memb, first, require, _>>=_}
+use lib.ListN.{length, drop}
+use Rattle.signature.specs.Lists.{memb, first}
 use Rattle.rowlist.proofs.Kinded.{Sized}
-use Rattle.sets.specs.Set.{bit, set-of, Within}
+use Rattle.sets.specs.Set.{bit, set-of}
 use Rattle.signature.specs.Signature.{Signature, heads, arguments}
 use Rattle.signature.proofs.Heads.{open-refs}
 use Rattle.signature.proofs.Tests.{eqb-eq, eqb-no, eqb-self, eqb-sym, true≢false}
@@ -27,7 +27,7 @@ use Rattle.tree.specs.Tree.{rappend, taken, passed, refined, holds}
 use Rattle.path.specs.Standing.{RowStands, RowsStand, At, refined-cell, tag-of, vars-of, allowed-of}
 use Rattle.path.specs.Variables.{Once}
 use Rattle.path.proofs.HeadSets.{one-yes, one-no, bit-memb, bit-only, full-is}
-use Rattle.path.proofs.StandingLaws.{VirtAt, RealAt, is-virt, is-real, opened, entered}
+use Rattle.path.proofs.StandingLaws.{RealAt, is-virt, is-real, opened, entered}
 
 -- a row's first cell
 abbrev pub row-tag : Row → ℕ → ℕ

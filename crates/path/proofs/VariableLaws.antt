@@ -2,17 +2,16 @@
 use mathlib.Core.Path.{_≡_, refl, sym, ap, _∙_}
 use mathlib.Core.List.{List, [], _∷_}
 use mathlib.Core.Bool.{Bool, true, false, cond}
-use Prim.Native.Nat.{ℕ, zero, suc, _+_, _-_, _^_, _≤_, _<_, max}
+use Prim.Native.Nat.{ℕ, zero, suc, _+_, _-_, _^_, _≤_, _<_}
 use native.Mathlib.Nat.{zero-add}
 use native.Mathlib.Omega.{arith}
 use lib.Bits.{bitOr}
 use lib.Dec.{eqb, leb}
-use Rattle.signature.specs.Lists.{memb}
 use Rattle.sets.specs.Set.{bit, set-of, Within}
 use Rattle.sets.proofs.SetLaws.{bit-or, bit-one-same, bit-one-other, bit-lt, bit-zero}
-use Rattle.signature.proofs.Tests.{eqb-eq, eqb-ne, eqb-no, eqb-self, leb-yes, leb-no, le-of, lt-of-not}
+use Rattle.signature.proofs.Tests.{eqb-eq, eqb-ne, leb-yes, leb-no, le-of, lt-of-not}
 use Rattle.pattern.specs.Limits.{variable-count}
-use Rattle.sets.proofs.ListSets.{one-if, bit-set-of, set-nil}
+use Rattle.sets.proofs.ListSets.{bit-set-of, set-nil}
 use Rattle.tree.specs.Tree.{insert, inserts}
 use Rattle.path.specs.Variables.{variables, variables-from, Once}
 

@@ -9,7 +9,7 @@ use native.Mathlib.Omega.{arith}
 use lib.Dec.{leb}
 use Rattle.signature.specs.Signature.{Signature, arguments-at}
 use Rattle.signature.proofs.Booleans.{and-left, and-right}
-use Rattle.signature.proofs.Tests.{le-of, lt-of-not, leb-yes, true≢false}
+use Rattle.signature.proofs.Tests.{le-of, lt-of-not, true≢false}
 use Rattle.pattern.specs.Limits.{part-weight-limit}
 use Rattle.pattern.specs.Pattern.{Pattern, Patterns, pnil, pcons, head, and, or, wild, absurd-pat, neg, var, range}
 use Rattle.pattern.specs.Side.{Side, TooHeavy, plus, minus, other, weight-at, light-at, Stands, StandsIn, itself, in-not, in-and-left, in-and-right, in-or-left, in-or-right, in-head, in-first, in-rest}

@@ -2,7 +2,7 @@
 use mathlib.Core.Path.{_≡_, refl, sym, ap, subst, _∙_}
 use mathlib.Core.List.{List, [], _∷_, _++_, append-nil}
 use mathlib.Core.Bool.{Bool, true, false}
-use Prim.Native.Nat.{ℕ, zero, suc, _+_, _-_, _≤_, _<_, min}
+use Prim.Native.Nat.{ℕ, zero, suc, _+_, _-_, _≤_, _<_}
 use native.Mathlib.Omega.{arith}
 use borrow.Author.Tests.{ltb-true, ltb-false}
 use lib.Dec.{ltb}
@@ -11,7 +11,7 @@ use lib.Seq.{take-all}
 use Rattle.signature.specs.Limits.{kind-limit}
 use Rattle.signature.specs.Lists.{All, also}
 use Rattle.signature.proofs.ListFacts.{same-lists}
-use Rattle.tree.specs.Tree.{Tree, default, hit, skip}
+use Rattle.tree.specs.Tree.{Tree, default, hit}
 use Rattle.rowset.specs.Member.{member, FirstIn}
 use Rattle.path.specs.State.{Raised, Lowered, Kept, real-of, cell-of, own-of, rule-of, plan-of, default-in, bound, one-if}
 use Rattle.column.specs.Column.{Column, Looking}

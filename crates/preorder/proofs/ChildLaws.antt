@@ -1,7 +1,6 @@
 -- The children of a node, one for each head of the first column's kind.
 use mathlib.Core.Path.{_≡_, refl, sym, ap, ap₂, subst, _∙_}
-use mathlib.Core.List.{List, [], _∷_, _++_}
-use mathlib.Core.Option.{Option}
+use mathlib.Core.List.{List, _++_}
 use mathlib.Core.Bool.{Bool, true, false, _&&_, not, cond}
 use Prim.Native.Nat.{ℕ, suc, _+_, _-_, _*_, _^_, _≤_, _<_}
 use native.Mathlib.Omega.{arith}
@@ -13,8 +12,7 @@ use Rattle.signature.specs.Lists.{_>>=_, All, first}
 use Rattle.sets.specs.Set.{bit, heads-width}
 use Rattle.signature.specs.Signature.{heads, arguments}
 use Rattle.signature.proofs.ListFacts.{all-append, all-first}
-use Rattle.pattern.specs.Limits.{pattern-limit}
-use Rattle.tree.specs.Tree.{Line, taken, after, compile}
+use Rattle.tree.specs.Tree.{taken, after, compile}
 use Rattle.signature.proofs.Tests.{le-of}
 use Rattle.rowset.specs.Member.{member}
 use Rattle.path.specs.Standing.{allowed-of}

@@ -1,11 +1,11 @@
 -- What the loop over the children of a node keeps.
-use mathlib.Core.Path.{_≡_, refl, sym, ap, ap₂, subst, _∙_}
+use mathlib.Core.Path.{_≡_, refl, sym, ap, ap₂, _∙_}
 use mathlib.Core.List.{List, [], _∷_, _++_, append-assoc, append-nil}
-use Prim.Native.Nat.{ℕ, zero, suc, _+_, _-_, _≤_, _<_, min}
+use Prim.Native.Nat.{ℕ, suc, _+_, _-_, _≤_}
 use native.Mathlib.Omega.{arith}
 use lib.ListN.{length, drop, take, set, length-append, drop-of-length-le, take-append-drop, length-drop}
 use lib.Seq.{length-take-le, take-all, take-at, drop-at, set-at, drop-drop}
-use Rattle.tree.specs.Tree.{Tree, Trees, children}
+use Rattle.tree.specs.Tree.{Tree, children}
 use Rattle.tree.specs.Words.{words, words-all, links, layout, layout-all}
 use Rattle.tree.proofs.RunFacts.{length-layout}
 use Rattle.path.specs.Wrote.{Wrote}

@@ -1,17 +1,16 @@
 -- The levels that are ends by the cells of the rows are those of the lines.
 use mathlib.Core.Path.{_≡_, refl, sym, ap, ap₂, subst, _∙_}
-use mathlib.Core.List.{List, [], _∷_}
+use mathlib.Core.List.{List, _∷_}
 use mathlib.Core.Option.{Option, none, some}
-use mathlib.Core.Bool.{Bool, true, false, _&&_, _||_, cond, not}
+use mathlib.Core.Bool.{Bool, true, false, _&&_, _||_, cond}
 use Prim.Native.Nat.{ℕ, zero, suc, _+_, _-_, _≤_, _<_}
 use native.Mathlib.Omega.{arith}
 use lib.Dec.{eqb, ltb}
-use lib.ListN.{length, getD}
+use lib.ListN.{getD}
 use Rattle.signature.specs.Decoded.{first-of, count-of}
-use Rattle.signature.specs.Limits.{level-base, last-level, level-count, heads-limit}
+use Rattle.signature.specs.Limits.{level-base, last-level, level-count}
 use Rattle.signature.specs.Lists.{memb, first, keep, any, somes, count-up}
 use Rattle.signature.specs.Signature.{Signature, heads, levels, is-number-kind}
-use Rattle.signature.proofs.Booleans.{or-false}
 use Rattle.signature.proofs.Heads.{memb-count}
 use Rattle.signature.proofs.KnownFacts.{number-first}
 use Rattle.signature.proofs.Tests.{eqb-eq, eqb-ne, eqb-no, le-of, true≢false}
@@ -20,11 +19,11 @@ use Rattle.tree.specs.Tree.{Line, holds, just-one, is-end, branches}
 use Rattle.tree.proofs.EndFacts.{number-heads, split-branches, test-branches}
 use Rattle.rowset.specs.Member.{member}
 use Rattle.path.specs.Standing.{allowed-of}
-use Rattle.path.specs.State.{options, State, real-of, cell-of, own-of, one-if}
+use Rattle.path.specs.State.{options, State, cell-of, one-if}
 use Rattle.path.proofs.StateLaws.{row-holds}
-use Rattle.column.specs.Column.{edge-by, edge-of, end-of, has-child}
+use Rattle.column.specs.Column.{edge-of, end-of, has-child}
 use Rattle.preorder.specs.Front.{heads-in}
-use Rattle.preorder.specs.Node.{Given, Branching, lines}
+use Rattle.preorder.specs.Node.{Branching, lines}
 use Rattle.preorder.proofs.HeadsLaws.{heads-kept, keep-all}
 use Rattle.preorder.proofs.KindLaws.{heads-are, heads-few}
 use Rattle.preorder.proofs.NodeLaws.{row-dead-line, real-same}

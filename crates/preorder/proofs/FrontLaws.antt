@@ -2,17 +2,17 @@
 use mathlib.Core.Path.{_≡_, refl, sym, ap, ap₂, _∙_}
 use mathlib.Core.List.{List, [], _∷_, _++_, map, append-assoc, append-nil}
 use mathlib.Core.Bool.{Bool, true, false, cond}
-use Prim.Native.Nat.{ℕ, zero, suc, _+_, _-_, _≤_, _<_}
+use Prim.Native.Nat.{ℕ, suc, _+_, _-_, _≤_, _<_}
 use native.Mathlib.Omega.{arith}
 use lib.Dec.{eqb}
-use lib.ListN.{length, drop, take, set, length-append, length-drop, drop-of-length-le}
+use lib.ListN.{length, drop, take, set, length-append, drop-of-length-le}
 use lib.Seq.{drop-drop, set-at, take-all, drop-cons}
 use Rattle.signature.specs.Limits.{level-base}
 use Rattle.signature.specs.Lists.{first}
 use Rattle.signature.specs.Signature.{Signature, heads, is-number-kind, level-of}
 use Rattle.signature.proofs.Tests.{eqb-eq, eqb-no}
 use Rattle.sets.specs.Set.{members, Lowest, heads-width, bit}
-use Rattle.tree.specs.Tree.{Tree, Trees, test, split, branch, children, tcons, tnil}
+use Rattle.tree.specs.Tree.{Tree, branch, children}
 use Rattle.tree.specs.Words.{words, words-all, count, links, layout, layout-all}
 use Rattle.tree.proofs.EndFacts.{split-branch, test-branch}
 use Rattle.preorder.specs.Front.{heads-in, front-of, front-length}

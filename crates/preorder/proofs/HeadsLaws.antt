@@ -8,7 +8,7 @@ use lib.Dec.{eqb, ltb}
 use lib.ListN.{length}
 use Rattle.signature.specs.Lists.{keep, count-up}
 use Rattle.signature.proofs.Booleans.{and-true, and-false}
-use Rattle.signature.proofs.Tests.{eqb-eq, eqb-ne, eqb-self, eqb-no, ltb-yes, ltb-no, true≢false}
+use Rattle.signature.proofs.Tests.{eqb-eq, eqb-ne, eqb-self, eqb-no, ltb-yes, ltb-no}
 use Rattle.sets.specs.Set.{bit, members, heads-width, Lowest}
 use Rattle.sets.proofs.SetLaws.{size-some}
 use Rattle.preorder.specs.Front.{heads-in}

@@ -106,6 +106,9 @@ module _ (sig : Signature) (tree : List ℕ) where
           let z : booking-at + getD left 2 0 - booking-at ≡ length (here .charge .booking) = omega (arith, words-is) in
           ap (λ n. take n (drop booking-at left)) z ∙ booking-words (here .charge) (here .recordable) left (list-words (here .later)) (here .words-are)
 
+      pub few-words : length (take (booking-at + getD left 2 0 - booking-at) (drop booking-at left)) ≤ booking-room
+      few-words = omega (arith, ap length booking-is, here .recordable .1)
+
       module _ (number : ℕ) (a : Answer) (ran : (number, a) ≡ run-booking sig tree (read-booking sig (take (booking-at + getD left 2 0 - booking-at) (drop booking-at left)))) where
         answer-is : (number, a) ≡ new-answer sig tree (here .charge)
         answer-is = ran ∙ ap (λ b. run-booking sig tree (read-booking sig b)) booking-is

@@ -4,6 +4,7 @@ use crate::list::CHARGES;
 use crate::list::LENGTH;
 use crate::list::PLAN;
 use crate::list::RECORD;
+use crate::list::ROOM;
 use run::run_decoded;
 ghost use mathlib.Core.Path.{_≡_};
 ghost use mathlib.Core.Bool.{cond};
@@ -23,11 +24,12 @@ pub fn answer_all(t: &[u16], tree: &[u16], charges: &[u16], answers: &mut [u16])
     requires { ⌜ Known (now t) × Charged (now charges) × (length (now answers) ≡ answers-room) ⌝ }
     ensures { λ r. ⌜ ((g : Known (now (t .entry))) (k : Charged (now (charges .entry))) → (r ≡ first-refused (g .sig) (now (tree .entry)) (k .charges)) × (r ≡ 0 → Answers (map (answered (g .sig) (now (tree .entry))) (k .charges)) (now (answers .exit)))) ⌝ }
 {
+    let mut visits = [0u16; ROOM];
     let mut left = charges;
     let mut i = 0;
     while left.len() > 0 {
         let end = BOOKING + left[LENGTH] as usize;
-        let r = run_decoded(t, tree, &left[BOOKING..end]);
+        let r = run_decoded(t, tree, &left[BOOKING..end], &mut visits);
         if r.number > 0 {
             return r.number;
         }

@@ -1,7 +1,7 @@
 -- What a row takes and binds, how many places it has, and which rows take some value.
 use mathlib.Core.Path.{_≡_}
 use mathlib.Core.List.{List, [], _∷_}
-use mathlib.Core.Option.{Option, none, some}
+use mathlib.Core.Option.{some}
 use mathlib.Core.Bool.{Bool, _&&_, true, false, _||_}
 use Prim.Native.Nat.{ℕ, suc, _+_, _<_}
 use lib.Dec.{eqb}

@@ -69,36 +69,36 @@ fn walk_in(table: &[u16], tree: &[u16], book: &[u16], visits: &mut [u16]) -> Ran
     }
 }
 
-// With an array for the visits of every booking.
-fn walk_tree(table: &[u16], tree: &[u16], book: &[u16]) -> Ran
-    requires { ⌜ Booked (now table) (now book) ⌝ }
-    ensures { λ r. ⌜ ((k : Booked (now (table .entry)) (now (book .entry))) → outcome r ≡ run-at (run-of (length (now (tree .entry))) (k .known .sig) (now (tree .entry)) 0 (vcons (k .value) vnil) 0 [])) ⌝ }
+// Under a signature that is decoded already, with room for the visits of the booking: refusals 13 and 15.
+pub fn run_decoded(t: &[u16], tree: &[u16], b: &[u16], visits: &mut [u16]) -> Ran
+    requires { ⌜ Known (now t) × (length (now b) ≤ length (now visits)) ⌝ }
+    ensures { λ r. ⌜ ((g : Known (now (t .entry))) → outcome r ≡ run-booking (g .sig) (now (tree .entry)) (read-booking (g .sig) (now (b .entry)))) ⌝ }
 {
-    let mut visits = [0u16; BOOKING_LIMIT];
-    walk_in(table, tree, book, &mut visits)
+    if !walk::lawful(t, b) {
+        return leaf::refused(BOOKING_UNLAWFUL);
+    }
+    walk_in(t, tree, b, visits)
 }
 
-// With a smaller one, which takes less time to clear.
-fn walk_short(table: &[u16], tree: &[u16], book: &[u16]) -> Ran
-    requires { ⌜ Booked (now table) (now book) × (length (now book) ≤ short-booking) ⌝ }
-    ensures { λ r. ⌜ ((k : Booked (now (table .entry)) (now (book .entry))) → outcome r ≡ run-at (run-of (length (now (tree .entry))) (k .known .sig) (now (tree .entry)) 0 (vcons (k .value) vnil) 0 [])) ⌝ }
+// With an array for the visits of a short booking, which takes less time to clear.
+fn run_short(t: &[u16], tree: &[u16], b: &[u16]) -> Ran
+    requires { ⌜ Known (now t) × (length (now b) ≤ short-booking) ⌝ }
+    ensures { λ r. ⌜ ((g : Known (now (t .entry))) → outcome r ≡ run-booking (g .sig) (now (tree .entry)) (read-booking (g .sig) (now (b .entry)))) ⌝ }
 {
     let mut visits = [0u16; SHORT];
-    walk_in(table, tree, book, &mut visits)
+    run_decoded(t, tree, b, &mut visits)
 }
 
-// Under a signature that is decoded already: refusals 13 and 15.
-pub fn run_decoded(t: &[u16], tree: &[u16], b: &[u16]) -> Ran
+// With one for the visits of every lawful booking, which is cleared only for a lawful one.
+fn run_long(t: &[u16], tree: &[u16], b: &[u16]) -> Ran
     requires { ⌜ Known (now t) ⌝ }
     ensures { λ r. ⌜ ((g : Known (now (t .entry))) → outcome r ≡ run-booking (g .sig) (now (tree .entry)) (read-booking (g .sig) (now (b .entry)))) ⌝ }
 {
     if !walk::lawful(t, b) {
         return leaf::refused(BOOKING_UNLAWFUL);
     }
-    if b.len() <= SHORT {
-        return walk_short(t, tree, b);
-    }
-    walk_tree(t, tree, b)
+    let mut visits = [0u16; BOOKING_LIMIT];
+    walk_in(t, tree, b, &mut visits)
 }
 
 pub fn run(ss: &[u16], tree: &[u16], b: &[u16]) -> Ran
@@ -108,5 +108,8 @@ pub fn run(ss: &[u16], tree: &[u16], b: &[u16]) -> Ran
     if !decode::decode(ss, &mut t) {
         return leaf::refused(SIGNATURE_UNLAWFUL);
     }
-    run_decoded(&t, tree, b)
+    if b.len() <= SHORT {
+        return run_short(&t, tree, b);
+    }
+    run_long(&t, tree, b)
 }

@@ -1,13 +1,13 @@
 -- What the loops keep, as equations of lists.
-use mathlib.Core.Path.{_≡_, refl, sym, ap, ap₂, _∙_}
+use mathlib.Core.Path.{_≡_, sym, ap, ap₂, _∙_}
 use mathlib.Core.List.{List, [], _∷_, _++_, append-assoc, append-nil}
-use Prim.Native.Nat.{ℕ, zero, suc, _+_, _-_, _≤_, _<_}
+use Prim.Native.Nat.{ℕ, suc, _+_, _-_, _≤_, _<_}
 use native.Mathlib.Nat.{sub-self}
 use native.Mathlib.Numerals.{add-one}
 use native.Mathlib.Omega.{arith}
-use lib.ListN.{length, getD, drop, take, set, replicate, length-append, take-append-drop, length-take, length-drop, length-set, length-replicate, List·getD-append}
+use lib.ListN.{length, getD, drop, take, set, replicate, length-append, take-append-drop, length-drop, List·getD-append}
 use borrow.Author.Fill.{fill-more}
-use lib.Seq.{take-all, take-at, drop-at, set-at, getD-at, drop-drop, take-suc, drop-cons, length-take-le, getD-take, getD-drop, getD-append-add, take-take, take-append-le, drop-append-le, drop-length}
+use lib.Seq.{take-all, take-at, drop-at, set-at, drop-drop, take-suc, drop-cons, length-take-le, getD-take, getD-drop, getD-append-add, take-take, take-append-le, drop-length}
 
 -- to the right
 

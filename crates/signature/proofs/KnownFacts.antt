@@ -13,9 +13,9 @@ use Rattle.signature.specs.Decoded.{Known, decoded-length, kind-of, arit
 use Rattle.signature.specs.Lawful.{SignatureWords}
 use Rattle.signature.specs.Limits.{argument-limit, constructor-limit, kind-limit, heads-limit, level-base, level-count}
 use Rattle.signature.specs.Lists.{All, memb, first, count-up}
-use Rattle.signature.specs.Signature.{Constructor, arguments, arguments-at, numbers, heads, levels, declares, is-number-kind, is-level}
+use Rattle.signature.specs.Signature.{Constructor, arguments, arguments-at, numbers, heads, declares, is-number-kind, is-level}
 use Rattle.signature.proofs.Booleans.{and-left, and-right, or-false}
-use Rattle.signature.proofs.Heads.{Plain, any-at, any-there, has-number, number-has, has-kind, args-same, kind-of-head, no-head, constructor-arguments, constructor-of, level-of-kind, level-is, level-bare, level-arguments}
+use Rattle.signature.proofs.Heads.{Plain, any-at, any-there, has-number, number-has, args-same, kind-of-head, no-head, constructor-arguments, constructor-of, level-of-kind, level-is, level-bare, level-arguments}
 use Rattle.signature.proofs.ListFacts.{all-at, at-getD, at-out}
 use Rattle.signature.proofs.SignatureBack.{signature-is, plain-words, is-kinds}
 use Rattle.signature.proofs.LeastValue.{arguments-exist}

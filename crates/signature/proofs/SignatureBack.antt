@@ -7,7 +7,7 @@ use Prim.Native.Nat.{ℕ, suc, zero, _≤_, _<_, _+_}
 use native.Mathlib.Nat.{zero-add}
 use native.Mathlib.Omega.{arith}
 use lib.Dec.{eqb, leb, ltb}
-use lib.ListN.{length, getElem?}
+use lib.ListN.{length}
 use Rattle.signature.specs.Lawful.{KindsRise, rise-end, rise-same, rise-next, KindsStart, start-0, constructor-words, SignatureWords}
 use Rattle.signature.specs.Limits.{constructor-limit, kind-limit, row-limit, number-count, small-size, argument-limit}
 use Rattle.signature.specs.Lists.{require, split, All, none-left, also, all, count-up, _>>=_}

@@ -2,11 +2,11 @@
 use mathlib.Core.Path.{_≡_}
 use mathlib.Core.List.{List, [], _∷_, map}
 use mathlib.Core.Option.{Option, some, none}
-use mathlib.Core.Bool.{cond, Bool, true, false, not, _&&_, _||_}
+use mathlib.Core.Bool.{cond, Bool, false, not, _&&_, _||_}
 use Prim.Native.Nat.{ℕ, zero, suc, _+_, min}
 use lib.Dec.{leb, eqb, ltb}
 use lib.ListN.{length, getElem?}
-use Rattle.signature.specs.Limits.{booking-limit, depth-limit, constructor-limit, kind-limit, row-limit, number-count, small-size, over-small, argument-limit}
+use Rattle.signature.specs.Limits.{booking-limit, depth-limit, constructor-limit, kind-limit, row-limit, number-count, small-size, over-small}
 use Rattle.signature.specs.Lists.{_>>=_, require, split, count-up, all, whole}
 use Rattle.signature.specs.Signature.{Signature, Constructor, numbers, arguments-at}
 use Rattle.signature.specs.Value.{Value, Values, vnil, vcons, con}

@@ -6,7 +6,7 @@ use mathlib.Core.Bool.{_&&_}
 use Prim.Native.Nat.{ℕ, _≤_}
 use lib.Dec.{leb}
 use lib.ListN.{length, take}
-use Rattle.signature.specs.Lists.{require, _>>=_}
+use Rattle.signature.specs.Lists.{_>>=_, require}
 use Rattle.table.specs.Limits.{Limits, table-length, rules-length}
 use Rattle.table.specs.Rule.{Rule, default-of, table-words, Rises}
 use Rattle.table.specs.Sound.{read-rules}

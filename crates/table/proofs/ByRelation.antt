@@ -1,20 +1,18 @@
 -- An answer by the one rule that takes the booking says of each rule what demand 2 asks.
-use mathlib.Core.Path.{_≡_, refl, ap, sym, subst, _∙_}
-use mathlib.Core.Logic.{_⊎_, inl, inr, _↔_}
+use mathlib.Core.Path.{_≡_, refl, ap, sym, subst}
+use mathlib.Core.Logic.{_⊎_, inl, inr}
 use mathlib.Core.List.{List}
 use mathlib.Core.Option.{some}
-use Prim.Native.Nat.{ℕ, _≤_, _<_}
+use Prim.Native.Nat.{ℕ, _≤_}
 use native.Mathlib.Omega.{arith}
 use Rattle.signature.specs.Lists.{In, in-here, in-there}
 use Rattle.signature.specs.Read.{read-booking, Signed}
 use Rattle.signature.specs.Signature.{Signature}
 use Rattle.signature.specs.Value.{Value}
 use Rattle.pattern.specs.Match.{Binds}
-use Rattle.pattern.specs.Places.{PlacesOf}
 use Rattle.pattern.specs.Takes.{Takes, TakesNot}
-use Rattle.pattern.proofs.Decided.{not-takes}
 use Rattle.row.proofs.PassedFacts.{of-passed}
-use Rattle.tree.specs.Answer.{Answer, no-rule}
+use Rattle.tree.specs.Answer.{Answer}
 use Rattle.table.specs.Decide.{Answered, by-default, by-rule, OneRule}
 use Rattle.table.specs.Demand2.{ByRelation}
 use Rattle.table.specs.Limits.{limits}

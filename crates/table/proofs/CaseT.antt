@@ -24,7 +24,7 @@ use Rattle.pattern.proofs.Exclusive.{exclusive}
 use Rattle.row.proofs.Exists.{shares-exists}
 use Rattle.tree.specs.Cases.{tree-T}
 use Rattle.tree.specs.Limits.{last-number}
-use Rattle.table.specs.Calls.{Entered, Empty, Enter, Compile, CompileFrom, TreeIn, Shows, long-witness, too-large}
+use Rattle.table.specs.Calls.{Entered, Enter, Compile, CompileFrom, TreeIn, Shows, long-witness, too-large}
 use Rattle.table.specs.CaseT.{CaseT, IntoEmpty}
 use Rattle.table.specs.Cases.{rules-T, table-T, ors-8-8, ors-5-13}
 use Rattle.table.specs.Limits.{limits, witness-length, emptied-default}

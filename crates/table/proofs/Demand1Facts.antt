@@ -9,7 +9,7 @@ use native.Mathlib.Omega.{arith}
 use lib.Dec.{leb, eqb, ltb}
 use lib.ListN.{length}
 use Rattle.signature.specs.Lawful.{SignatureWords}
-use Rattle.signature.specs.Lists.{any, In}
+use Rattle.signature.specs.Lists.{any}
 use Rattle.signature.specs.Part.{part-call, part-signature, part-booking, part-words, part-at}
 use Rattle.signature.specs.Read.{read-signature, read-booking}
 use Rattle.signature.specs.Signature.{Signature}

@@ -3,7 +3,7 @@ use mathlib.Core.Path.{_≡_, refl, ap, ap₂, _∙_, sym, subst}
 use mathlib.Core.Logic.{_↔_}
 use mathlib.Core.List.{List, [], _∷_, _++_}
 use mathlib.Core.Option.{some}
-use mathlib.Core.Bool.{Bool, true, false, cond}
+use mathlib.Core.Bool.{true, false, cond}
 use Prim.Native.Nat.{ℕ, suc, _≤_, _<_}
 use native.Mathlib.Omega.{arith}
 use lib.Dec.{eqb, ltb}
@@ -15,7 +15,7 @@ use Rattle.signature.proofs.Booleans.{or-right, or-left}
 use Rattle.signature.proofs.ListFacts.{drop-exact}
 use Rattle.signature.proofs.Tests.{pass, lt-of-not, ltb-no, true≢false}
 use Rattle.tree.specs.Limits.{tree-limit}
-use Rattle.table.specs.Calls.{start, Entered, Enter, Empty, too-large, Compile, CompileFrom}
+use Rattle.table.specs.Calls.{Entered, Enter, Empty, too-large, Compile, CompileFrom}
 use Rattle.table.specs.Decide.{Answered}
 use Rattle.table.specs.Demand3.{AfterList, Alike, Demand3, Earlier, sets, UnderOne}
 use Rattle.table.specs.Limits.{limits, table-length, emptied-default}

@@ -1,7 +1,6 @@
 -- The laws of tables and of the tree of their rules hold, and so does demand 2.
 use mathlib.Core.List.{List}
 use Prim.Native.Nat.{ℕ}
-use lib.ListN.{length}
 use Rattle.signature.specs.Read.{Signed}
 use Rattle.signature.specs.Signature.{Signature}
 use Rattle.signature.proofs.LawfulFacts.{sig-facts}
@@ -10,7 +9,6 @@ use Rattle.tree.proofs.CompiledFacts.{compiled-only}
 use Rattle.table.specs.Demand2.{Demand2}
 use Rattle.table.specs.Laws.{Laws}
 use Rattle.table.specs.Limits.{limits}
-use Rattle.table.specs.ListsOfCalls.{enter}
 use Rattle.table.specs.Rule.{Rule, default-of}
 use Rattle.table.specs.Sound.{SoundTable}
 use Rattle.table.proofs.ByRelation.{by-relation}

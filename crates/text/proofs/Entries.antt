@@ -7,7 +7,7 @@ use lib.Dec.{eqb}
 use Rattle.signature.specs.Signature.{Signature}
 use Rattle.table.specs.Limits.{limits}
 use Rattle.table.specs.Calls.{long-witness}
-use Rattle.table.specs.ListsOfCalls.{ListCall, enter, numbers-reckoned, rules-left, reckon-number, reckon-rules}
+use Rattle.table.specs.ListsOfCalls.{enter, numbers-reckoned, rules-left, reckon-number, reckon-rules}
 use Rattle.table.specs.Refusals.{entry-refusal}
 use Rattle.table.specs.Rule.{Rule, add-rule}
 use Rattle.text.specs.Print.{entries, first-refusal, enter-all, entered, stopped, EnteredAll}

@@ -1,8 +1,8 @@
 -- The ends of a split: they rise to the last level, and a level's lines are those of the first end not below it.
 use mathlib.Core.Path.{_≡_, refl, ap, ap₂, _∙_, sym, subst}
 use mathlib.Core.List.{List, [], _∷_, map}
-use mathlib.Core.Option.{Option, some, none}
-use mathlib.Core.Bool.{Bool, true, false, _&&_, _||_, not, cond}
+use mathlib.Core.Option.{some}
+use mathlib.Core.Bool.{Bool, true, false, not, cond}
 use Prim.Native.Nat.{ℕ, zero, suc, _+_, _-_, _≤_, _<_}
 use native.Mathlib.Decide.{decLe}
 use native.Mathlib.Nat.{add-zero, add-suc, suc-add}
@@ -10,13 +10,13 @@ use native.Mathlib.Omega.{arith}
 use lib.Dec.{eqb, leb}
 use lib.ListN.{getElem?}
 use Rattle.signature.specs.Limits.{level-base, last-level}
-use Rattle.signature.specs.Lists.{All, none-left, also, any, count-up, first, keep, memb, require, _>>=_}
+use Rattle.signature.specs.Lists.{All, none-left, also, any, count-up, first, keep, memb, _>>=_}
 use Rattle.signature.specs.Signature.{Signature, heads, numbers, levels, level-of, is-number-kind}
-use Rattle.signature.proofs.Booleans.{and-left, and-right, or-left, or-right}
+use Rattle.signature.proofs.Booleans.{and-left, and-right, or-right}
 use Rattle.signature.proofs.Heads.{count-memb}
-use Rattle.signature.proofs.ListFacts.{all-with, all-imp, in-all}
+use Rattle.signature.proofs.ListFacts.{all-with, in-all}
 use Rattle.signature.proofs.Members.{memb-keep}
-use Rattle.signature.proofs.Tests.{true≢false, leb-yes, leb-no, eqb-self, eqb-eq, lt-of-not}
+use Rattle.signature.proofs.Tests.{true≢false, leb-yes, leb-no, eqb-self, eqb-eq}
 use Rattle.row.specs.Row.{Rows, rnil, rcons, named, free}
 use Rattle.tree.specs.Run.{rise-to, place-of}
 use Rattle.tree.specs.Tree.{Line, Trees, split, test, inserts, taken, after, holds, just-one, is-end, branches, branch}

@@ -7,7 +7,6 @@ use Prim.Native.Nat.{ℕ, _*_, suc, _+_, _≤_, zero, _-_, _<_}
 use native.Mathlib.Nat.{add-zero}
 use native.Mathlib.Numerals.{add-one}
 use native.Mathlib.Omega.{arith}
-use lib.Dec.{eqb}
 use lib.ListN.{length, length-append, set, getD, drop, getElem?}
 use lib.Seq.{drop-drop, drop-append-seam}
 use Rattle.signature.specs.Lawful.{OfKinds, of-kinds-nil, of-kinds-cons, of-kind}

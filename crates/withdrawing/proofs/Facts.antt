@@ -4,7 +4,7 @@ use mathlib.Core.List.{List}
 use mathlib.Core.Bool.{false, cond, not}
 use Prim.Native.Nat.{ℕ, _<_, _≤_}
 use native.Mathlib.Omega.{arith}
-use lib.Dec.{eqb, leb}
+use lib.Dec.{eqb}
 use Rattle.signature.proofs.Tests.{leb-yes, leb-no}
 use Rattle.tree.specs.Limits.{last-number}
 use Rattle.table.specs.Limits.{limits}

@@ -1,9 +1,9 @@
 -- The rows of a pattern that passed its checks are fit to be written.
 use mathlib.Core.Path.{_≡_, refl, sym, ap, subst, _∙_}
-use mathlib.Core.List.{List, [], _∷_, _++_, map}
+use mathlib.Core.List.{List, [], _∷_, _++_}
 use mathlib.Core.Option.{some}
 use mathlib.Core.Bool.{Bool, true, false, not, cond}
-use Prim.Native.Nat.{ℕ, suc, _+_, _*_, _≤_, _<_}
+use Prim.Native.Nat.{ℕ, _+_, _*_, _≤_, _<_}
 use native.Mathlib.Omega.{arith}
 use lib.Dec.{eqb}
 use lib.ListN.{length}
@@ -14,7 +14,7 @@ use Rattle.signature.proofs.Booleans.{and-left}
 use Rattle.signature.proofs.Heads.{args-same, has-kind}
 use Rattle.signature.proofs.ListFacts.{all-append, all-map, all-somes, all-both, all-imp, Kept, kept, dropped, kept-bind, kept-if}
 use Rattle.signature.proofs.Members.{memb-keep}
-use Rattle.signature.proofs.Tests.{eqb-eq, eqb-self, true≢false}
+use Rattle.signature.proofs.Tests.{eqb-eq, eqb-self}
 use Rattle.pattern.specs.Limits.{pattern-limit, variable-count}
 use Rattle.pattern.specs.Linear.{linear-plus, E}
 use Rattle.pattern.specs.Pattern.{Pattern, Patterns, head, and, or, neg, wild, absurd-pat, var, range, pnil, pcons, pattern-code}
@@ -23,7 +23,6 @@ use Rattle.pattern.specs.Places.{tick}
 use Rattle.pattern.specs.WellFormed.{WellFormed, well-head, well-and, well-or, well-not, well-var, AllWellFormed, well-nil, well-cons}
 use Rattle.pattern.proofs.Once.{tick-one}
 use Rattle.row.specs.Row.{Row, Rows, named, free, rnil, rcons, combine, combines, each, open-row, open-rows, allowing, rows-plus, rows-minus, args-plus, args-minus}
-use Rattle.row.specs.RowFits.{place-count}
 use Rattle.row.proofs.Places.{all-each, plus-places}
 use Rattle.row.proofs.RowCount.{counts, occurs, occurs-all, plus-once}
 use Rattle.cell.specs.Coded.{kinds-of, row-code, Typed, Typeds}

@@ -1,12 +1,12 @@
 -- `leaf::leaf` meets its contract. Assumes nothing.
-use mathlib.Core.Path.{_≡_, refl, sym, _∙_}
-use Prim.Native.Nat.{ℕ, _+_, _-_, _≤_}
+use mathlib.Core.Path.{refl}
+use Prim.Native.Nat.{_-_}
 use native.Mathlib.Omega.{arith}
 use borrow.Author.Needs.{needs}
 use borrow.Rule.Slice.PartMut.{same-len-mid}
-use lib.ListN.{length, getD, length-set, length-take, length-drop}
+use lib.ListN.{length, getD, length-set}
 use Rattle.path.specs.State.{rule-of, plan-of}
-use Rattle.leaf.proofs.LeafLaws.{pairing, leaf-short, leaf-most, leaf-full, leaf-wrote}
+use Rattle.leaf.proofs.LeafLaws.{pairing, leaf-short, leaf-full, leaf-wrote}
 use Rattle.leaf.proofs.leaf.Statement.{statement}
 use Rattle.leaf.proofs.leaf.Tie as tie
 

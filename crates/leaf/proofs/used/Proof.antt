@@ -1,7 +1,6 @@
 -- `used` meets its contract: what no cell before p binds.
-use Prim.Native.Nat.{ℕ, _-_, _≤_}
+use Prim.Native.Nat.{_-_, _≤_}
 use native.Mathlib.Omega.{arith}
-use borrow.Author.Needs.{needs}
 use Rattle.leaf.specs.Leaf.{Used}
 use Rattle.leaf.proofs.LeafLaws.{used-more}
 use Rattle.leaf.proofs.used.Statement.{statement}

@@ -1,8 +1,7 @@
 -- `leaf::variable_pairs` meets its contract. Assumes nothing.
-use mathlib.Core.Path.{_≡_, _∙_}
-use Prim.Native.Nat.{ℕ, _≤_}
+use mathlib.Core.Path.{_∙_}
+use Prim.Native.Nat.{_≤_}
 use native.Mathlib.Omega.{arith}
-use lib.ListN.{length}
 use Rattle.leaf.specs.Leaf.{cell-pairs}
 use Rattle.leaf.proofs.LeafLaws.{cell-more, cell-full, cell-end, pairing-less}
 use Rattle.leaf.proofs.PairLaws.{Sofar, sofar-start}

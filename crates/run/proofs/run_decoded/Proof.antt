@@ -10,10 +10,9 @@ pub run-decoded-spec : {M : Type 1} → statement M
 run-decoded-spec =
     tie.close
     (tie.spec
-    (λ c κs. c .before .before .before .pre)
     (λ c κs. search needs)
-    (λ c g. refused-13 g (c .before .before .before .before .before .before .args .tree .now) (c .before .before .before .before .before .before .args .b .now) (c .refused .result) (sym (not-true _ (c .before .if1 .taken)) ∙ c .before .before .lawful .ensures g) (c .refused .ensures))
-    (λ c κs. (let g = c .before .before .before .before .before .before .pre in booked g (c .before .before .before .before .before .before .args .tree .now) (c .before .before .before .before .before .before .args .b .now) (sym (not-false _ (c .before .if1 .left)) ∙ c .before .before .lawful .ensures g), c .if2 .taken))
-    (λ c g. walked g (c .before .before .before .before .before .before .before .args .tree .now) (c .before .before .before .before .before .before .before .args .b .now) (c .walk-short .result) (sym (not-false _ (c .before .before .if1 .left)) ∙ c .before .before .before .lawful .ensures g) (c .walk-short .ensures))
-    (λ c κs. let g = c .before .before .before .before .before .before .pre in booked g (c .before .before .before .before .before .before .args .tree .now) (c .before .before .before .before .before .before .args .b .now) (sym (not-false _ (c .before .if1 .left)) ∙ c .before .before .lawful .ensures g))
-    (λ c g. walked g (c .before .before .before .before .before .before .before .args .tree .now) (c .before .before .before .before .before .before .before .args .b .now) (c .walk-tree .result) (sym (not-false _ (c .before .before .if1 .left)) ∙ c .before .before .before .lawful .ensures g) (c .walk-tree .ensures)))
+    (λ c κs. search needs)
+    (λ c g. refused-13 g (c .before .before .before .before .before .before .before .args .tree .now) (c .before .before .before .before .before .before .before .args .b .now) (c .refused .result) (sym (not-true _ (c .before .if1 .taken)) ∙ c .before .before .lawful .ensures g) (c .refused .ensures))
+    (λ c κs. let e = c .before .before .before .before .before .before .before in (booked (e .pre .0) (e .args .tree .now) (e .args .b .now) (sym (not-false _ (c .before .if1 .left)) ∙ c .before .before .lawful .ensures (e .pre .0)), e .pre .1))
+    (λ c. search needs)
+    (λ c g. walked g (c .before .before .before .before .before .before .before .before .before .before .args .tree .now) (c .before .before .before .before .before .before .before .before .before .before .args .b .now) (c .before .before .walk-in .result) (sym (not-false _ (c .before .before .before .before .if1 .left)) ∙ c .before .before .before .before .before .lawful .ensures g) (c .before .before .walk-in .ensures)))

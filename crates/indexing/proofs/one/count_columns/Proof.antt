@@ -1,13 +1,12 @@
 -- `indexing::one::count_columns` meets its contract. Assumes nothing.
-use mathlib.Core.Path.{_≡_, refl, _∙_}
-use Prim.Native.Nat.{ℕ, _+_, _-_, _*_, _≤_}
+use mathlib.Core.Path.{_≡_, refl}
+use Prim.Native.Nat.{_+_, _-_, _*_}
 use native.Mathlib.Omega.{arith}
-use borrow.Author.Needs.{needs}
 use lib.ListN.{length, length-set}
 use Rattle.signature.proofs.KnownFacts.{long}
 use Rattle.path.specs.State.{row-stride}
 use Rattle.path.specs.Rows.{GivenRow, Before}
-use Rattle.path.proofs.IndexLaws.{OwnAt, own-start, own-cells, own-next, own-end, own-on, row-within, Counting, counting-start, counted-on, counting-end, before-set}
+use Rattle.path.proofs.IndexLaws.{OwnAt, own-start, own-cells, own-end, own-on, row-within, Counting, counting-start, counted-on, counting-end, before-set}
 use Rattle.indexing.proofs.one.count_columns.Statement.{statement}
 use Rattle.indexing.proofs.one.count_columns.Tie as tie
 

@@ -1,7 +1,6 @@
 -- `indexing::one::index_row` meets its contract. Assumes nothing.
-use mathlib.Core.Path.{_≡_, _∙_}
+use mathlib.Core.Path.{_∙_}
 use native.Mathlib.Omega.{arith}
-use borrow.Author.Needs.{needs}
 use lib.ListN.{length-set}
 use Rattle.path.proofs.IndexLaws.{row-indexed}
 use Rattle.indexing.proofs.one.index_row.Statement.{statement}

@@ -1,6 +1,6 @@
 -- `node::follow` meets its contract: each return is one case of the link.
 use mathlib.Core.Path.{_∙_, ap, sym}
-use Prim.Native.Nat.{_+_, _-_}
+use Prim.Native.Nat.{_-_}
 use native.Mathlib.Omega.{arith}
 use borrow.Author.Needs.{needs}
 use Rattle.signature.proofs.KnownFacts.{long, constructors, few-constructors}

@@ -2,7 +2,6 @@
 use Prim.Native.Nat.{_≤_, _-_}
 use native.Mathlib.Omega.{arith}
 use lib.ListN.{length}
-use borrow.Author.Needs.{needs}
 use Rattle.nodes.proofs.EndLaws.{Before, before-first, here, before-next, at-end}
 use Rattle.nodes.proofs.node.place.Statement.{statement}
 use Rattle.nodes.proofs.node.place.Tie as tie

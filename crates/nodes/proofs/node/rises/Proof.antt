@@ -2,7 +2,6 @@
 use Prim.Native.Nat.{_≤_, _-_, _+_}
 use native.Mathlib.Omega.{arith}
 use lib.ListN.{length}
-use borrow.Author.Needs.{needs}
 use Rattle.signature.specs.Limits.{last-level}
 use Rattle.nodes.proofs.EndLaws.{Rest, no-ends, rest-first, falls, too-high, rest-next, rest-last}
 use Rattle.nodes.proofs.node.rises.Statement.{statement}

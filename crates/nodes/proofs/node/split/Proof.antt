@@ -1,5 +1,5 @@
 -- `node::split` meets its contract: each return is one case of the ends.
-use mathlib.Core.Path.{_≡_, refl, _∙_, ap, sym}
+use mathlib.Core.Path.{refl, _∙_, ap, sym}
 use Prim.Native.Nat.{_+_, _-_}
 use native.Mathlib.Omega.{arith}
 use lib.ListN.{getD, take, drop, length-drop}

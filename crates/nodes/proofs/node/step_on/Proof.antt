@@ -1,5 +1,4 @@
 -- `node::step_on` meets its contract.
-use borrow.Author.Needs.{needs}
 use Rattle.signature.proofs.Tests.{eqb-no}
 use Rattle.nodes.proofs.node.step_on.Statement.{statement}
 use Rattle.nodes.proofs.node.step_on.Tie as tie

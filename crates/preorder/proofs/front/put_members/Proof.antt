@@ -1,9 +1,8 @@
 -- `front::put_members` meets its contract: the lowest member that is left comes next.
-use mathlib.Core.Path.{_≡_, refl, _∙_}
+use mathlib.Core.Path.{_≡_, refl}
 use Prim.Native.Nat.{_-_, _≤_}
 use native.Mathlib.Omega.{arith}
 use lib.ListN.{length, length-set}
-use borrow.Author.Needs.{needs}
 use Rattle.sets.specs.Heads.{number-of}
 use Rattle.preorder.proofs.FrontLaws.{Put, put-first, some-left, put-more, put-all}
 use Rattle.preorder.proofs.front.put_members.Statement.{statement}

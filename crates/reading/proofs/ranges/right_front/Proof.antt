@@ -1,5 +1,5 @@
 -- `ranges::right_front` meets its contract. Assumes nothing.
-use mathlib.Core.Path.{ap, _∙_, sym}
+use mathlib.Core.Path.{ap}
 use native.Mathlib.Omega.{arith}
 use borrow.Author.Needs.{needs}
 use Rattle.pattern.specs.Word.{form-of, own-words}

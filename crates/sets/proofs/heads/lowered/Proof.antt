@@ -1,6 +1,5 @@
 -- `heads::lowered` meets its contract.
 use Rattle.sets.proofs.HeadSets.{lowered-fits, bit-lowered}
-use borrow.Author.Needs.{needs}
 use native.Mathlib.Omega.{arith}
 use Rattle.sets.proofs.heads.lowered.Statement.{statement}
 use Rattle.sets.proofs.heads.lowered.Tie as tie

@@ -1,5 +1,4 @@
 -- `store::find::find` meets its contract. Assumes nothing.
-use mathlib.Core.Path.{sym}
 use mathlib.Core.List.{List}
 use Prim.Native.Nat.{_+_, _-_, _≤_}
 use native.Mathlib.Omega.{arith}

@@ -1,9 +1,7 @@
 -- `store::layout::rule_from` meets its contract. Assumes nothing.
-use Prim.Native.Nat.{ℕ, _+_, _≤_}
+use Prim.Native.Nat.{_+_}
 use native.Mathlib.Omega.{arith}
-use lib.ListN.{getD}
 use borrow.Author.Needs.{needs}
-use Rattle.table.specs.Limits.{limits, table-length}
 use Rattle.store.proofs.Reading.{no-room, falls, high, cut, on}
 use Rattle.store.proofs.layout.rule_from.Statement.{statement}
 use Rattle.store.proofs.layout.rule_from.Tie as tie
