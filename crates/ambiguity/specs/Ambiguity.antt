@@ -34,6 +34,18 @@ doubles b is-not = false
 doubles b is-range = false
 doubles b is-other = false
 
+-- and a value of its kind that both parts take
+abbrev pub taken-twice : Bool → Signature → ℕ → Pattern → Bool
+taken-twice b sig k (head c ps) = false
+taken-twice b sig k (and p q) = not b && meets b sig k p q
+taken-twice b sig k (or p q) = b && meets b sig k p q
+taken-twice b sig k wild = false
+taken-twice b sig k absurd-pat = false
+taken-twice b sig k (neg p) = false
+taken-twice b sig k (var x) = false
+taken-twice b sig k (range low high) = false
+
+-- a "not": its part stands at the other side
 abbrev pub negates : Form → Bool
 negates (is-head c) = false
 negates (is-var x) = false
@@ -53,17 +65,6 @@ may-double-at b f = doubles true f || (b && doubles false f)
 abbrev pub may-double : Bool → List ℕ → Bool
 may-double b [] = false
 may-double b (w ∷ ws) = may-double-at b (form w) || may-double (b || negates (form w)) ws
-
--- and a value of its kind that both parts take
-abbrev pub taken-twice : Bool → Signature → ℕ → Pattern → Bool
-taken-twice b sig k (head c ps) = false
-taken-twice b sig k (and p q) = not b && meets b sig k p q
-taken-twice b sig k (or p q) = b && meets b sig k p q
-taken-twice b sig k wild = false
-taken-twice b sig k absurd-pat = false
-taken-twice b sig k (neg p) = false
-taken-twice b sig k (var x) = false
-taken-twice b sig k (range low high) = false
 
 -- t is the table of a signature: the kind of the j-th part behind a word at a place of kind k
 abbrev pub kind-behind : List ℕ → ℕ → Form → ℕ → ℕ
