@@ -1,6 +1,6 @@
 /* Bellgantlet: which charging plan a booking gets.
  *
- * Link target/staticlib/libbellgantlet.a, which `rt staticlib bellgantlet` writes (x86-64 Linux).
+ * Link target/staticlib/libbellgantlet.a, which `sh host/library` proves and builds (x86-64 Linux).
  *
  * Words are 16 bits. A slice is a pointer and a number of words; the pointer is not null, also where the number is 0.
  * What a call writes (table, witness, space, check, charges) must not overlap anything else that the same call is lent. No call

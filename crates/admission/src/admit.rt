@@ -9,7 +9,7 @@ use reading::read::well_formed;
 use signature::refusals::{AMBIGUOUS, MALFORMED, NOT_LINEAR, RANGE_WRONG, TOO_HEAVY};
 use weighing::weight::{Weighed, weigh};
 
-#[derive(Drop)]
+#[derive(Clone, Copy)]
 pub enum Admission {
     Passed(u16),
     Refused(u16),

@@ -12,7 +12,7 @@ use pattern::token::{Word, classify, own_words, parts, side_behind};
 use signature::decoded::argument_of;
 
 // Whether a part has variables at its side, and how many words it takes; or that it, or a part of it, is ambiguous.
-#[derive(Drop)]
+#[derive(Clone, Copy)]
 pub enum Part {
     Clear(bool, usize),
     Ambiguous,

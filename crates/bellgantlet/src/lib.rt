@@ -1,4 +1,6 @@
 // The calls for a host in C or Rust: a slice goes over as a pointer and a length, an answer as a struct of numbers.
+#![tactic(auto)]
+
 pub mod promises;
 
 ghost use Rattle.std.specs.Prelude.{◌≡◌};
@@ -30,7 +32,7 @@ use stepping::step::step;
 
 // On 12 the rule that shares a booking and the length of the booking.
 #[repr(C)]
-#[derive(Drop)]
+#[derive(Clone, Copy)]
 pub struct Entered {
     pub number: u16,
     pub rule: u16,
@@ -38,7 +40,7 @@ pub struct Entered {
 }
 
 #[repr(C)]
-#[derive(Drop)]
+#[derive(Clone, Copy)]
 pub struct Tree {
     pub number: u16,
     pub length: usize,
@@ -46,14 +48,14 @@ pub struct Tree {
 
 // The length of the booking that is shown.
 #[repr(C)]
-#[derive(Drop)]
+#[derive(Clone, Copy)]
 pub struct Shown {
     pub number: u16,
     pub length: usize,
 }
 
 #[repr(C)]
-#[derive(Drop)]
+#[derive(Clone, Copy)]
 pub struct Answer {
     pub number: u16,
     pub rule: u16,
@@ -63,7 +65,7 @@ pub struct Answer {
 
 // The part of a booking: where it begins, and its length.
 #[repr(C)]
-#[derive(Drop)]
+#[derive(Clone, Copy)]
 pub struct Part {
     pub number: u16,
     pub start: usize,
@@ -72,7 +74,7 @@ pub struct Part {
 
 // How often each rule stands in a log, by rule number, and how many entries there are.
 #[repr(C)]
-#[derive(Drop)]
+#[derive(Clone, Copy)]
 pub struct Tallied {
     pub number: u16,
     pub total: u16,
@@ -81,21 +83,19 @@ pub struct Tallied {
 
 // How many plans of open charges changed.
 #[repr(C)]
-#[derive(Drop)]
+#[derive(Clone, Copy)]
 pub struct Replanned {
     pub number: u16,
     pub changed: u16,
 }
 
-#[unsafe(no_mangle)]
-pub extern "C" fn bellgantlet_empty(table: &mut [u16]) -> u16
+pub fn bellgantlet_empty(table: &mut [u16]) -> u16
     ensures { Empty limits table.old result table.new }
 {
     empty(table)
 }
 
-#[unsafe(no_mangle)]
-pub extern "C" fn bellgantlet_enter(
+pub fn bellgantlet_enter(
     signature: &[u16],
     number: u16,
     plan: u16,
@@ -125,22 +125,19 @@ pub extern "C" fn bellgantlet_enter(
     }
 }
 
-#[unsafe(no_mangle)]
-pub extern "C" fn bellgantlet_withdraw(signature: &[u16], number: u16, table: &mut [u16]) -> u16
+pub fn bellgantlet_withdraw(signature: &[u16], number: u16, table: &mut [u16]) -> u16
     ensures { Withdraw limits signature.now number table.old result table.new }
 {
     withdrawing::withdraw(signature, number, table)
 }
 
-#[unsafe(no_mangle)]
-pub extern "C" fn bellgantlet_set_default(signature: &[u16], plan: u16, table: &mut [u16]) -> u16
+pub fn bellgantlet_set_default(signature: &[u16], plan: u16, table: &mut [u16]) -> u16
     ensures { SetDefault limits signature.now plan table.old result table.new }
 {
     set_default(signature, plan, table)
 }
 
-#[unsafe(no_mangle)]
-pub extern "C" fn bellgantlet_compile(signature: &[u16], table: &[u16], space: &mut [u16]) -> Tree
+pub fn bellgantlet_compile(signature: &[u16], table: &[u16], space: &mut [u16]) -> Tree
     ensures { Compile limits signature.now table.now space.old result.number result.length space.new }
 {
     let c = compile(signature, table, space);
@@ -150,8 +147,7 @@ pub extern "C" fn bellgantlet_compile(signature: &[u16], table: &[u16], space: &
     }
 }
 
-#[unsafe(no_mangle)]
-pub extern "C" fn bellgantlet_decide(signature: &[u16], table: &[u16], booking: &[u16]) -> Answer
+pub fn bellgantlet_decide(signature: &[u16], table: &[u16], booking: &[u16]) -> Answer
     ensures { DecideCall limits signature.now table.now booking.now result.number (host_answer result) }
 {
     let a = decide(signature, table, booking);
@@ -164,8 +160,7 @@ pub extern "C" fn bellgantlet_decide(signature: &[u16], table: &[u16], booking: 
     }
 }
 
-#[unsafe(no_mangle)]
-pub extern "C" fn bellgantlet_gap(signature: &[u16], table: &[u16], witness: &mut [u16]) -> Shown
+pub fn bellgantlet_gap(signature: &[u16], table: &[u16], witness: &mut [u16]) -> Shown
     ensures { GapCall limits signature.now table.now witness.old result.number result.length witness.new }
 {
     let g = gap(signature, table, witness);
@@ -175,8 +170,7 @@ pub extern "C" fn bellgantlet_gap(signature: &[u16], table: &[u16], witness: &mu
     }
 }
 
-#[unsafe(no_mangle)]
-pub extern "C" fn bellgantlet_run(signature: &[u16], tree: &[u16], booking: &[u16]) -> Answer
+pub fn bellgantlet_run(signature: &[u16], tree: &[u16], booking: &[u16]) -> Answer
     ensures { RunCall signature.now tree.now booking.now result.number (host_answer result) }
 {
     let r = run(signature, tree, booking);
@@ -189,8 +183,7 @@ pub extern "C" fn bellgantlet_run(signature: &[u16], tree: &[u16], booking: &[u1
     }
 }
 
-#[unsafe(no_mangle)]
-pub extern "C" fn bellgantlet_part(signature: &[u16], booking: &[u16], place: usize) -> Part
+pub fn bellgantlet_part(signature: &[u16], booking: &[u16], place: usize) -> Part
     ensures { PartCall signature.now booking.now place result.number result.start result.length }
 {
     let p = booking::part::part(signature, booking, place);
@@ -209,33 +202,25 @@ pub extern "C" fn bellgantlet_part(signature: &[u16], booking: &[u16], place: us
     }
 }
 
-#[unsafe(no_mangle)]
-pub extern "C" fn bellgantlet_check_begin(signature: &[u16], check: &mut [u16; STATE]) -> u16
+pub fn bellgantlet_check_begin(signature: &[u16], check: &mut [u16; STATE]) -> u16
     ensures { (check.new ≡ begin_state signature.now) × (result ≡ refusal_in (begin_state signature.now)) }
 {
     begin(signature, check)
 }
 
-#[unsafe(no_mangle)]
-pub extern "C" fn bellgantlet_check_step(
-    signature: &[u16],
-    check: &mut [u16; STATE],
-    word: u16,
-) -> u16
+pub fn bellgantlet_check_step(signature: &[u16], check: &mut [u16; STATE], word: u16) -> u16
     ensures { (check.new ≡ step_state signature.now check.old word) × (result ≡ refusal_in (step_state signature.now check.old word)) }
 {
     step(signature, check, word)
 }
 
-#[unsafe(no_mangle)]
-pub extern "C" fn bellgantlet_check_end(check: &[u16; STATE]) -> u16
+pub fn bellgantlet_check_end(check: &[u16; STATE]) -> u16
     ensures { result ≡ end_number check.now }
 {
     end(check)
 }
 
-#[unsafe(no_mangle)]
-pub extern "C" fn bellgantlet_tally(log: &[u16]) -> Tallied
+pub fn bellgantlet_tally(log: &[u16]) -> Tallied
     ensures { TallyCall log.now result.number result.total result.counts }
 {
     let t = tally(log);
@@ -247,12 +232,7 @@ pub extern "C" fn bellgantlet_tally(log: &[u16]) -> Tallied
     }
 }
 
-#[unsafe(no_mangle)]
-pub extern "C" fn bellgantlet_replan(
-    signature: &[u16],
-    tree: &[u16],
-    charges: &mut [u16],
-) -> Replanned
+pub fn bellgantlet_replan(signature: &[u16], tree: &[u16], charges: &mut [u16]) -> Replanned
     ensures { ReplanCall signature.now tree.now charges.old result.number result.changed charges.new }
 {
     let r = replan(signature, tree, charges);

@@ -49,13 +49,13 @@ front ws at h =
 
 -- the open values lie behind the words of the slice that stay, which end at r
 abbrev Lies : List ℕ → List ℕ → List ℕ → ℕ → Type 0
-Lies ws ws' os r = (ws' ≡ laid ws os) × (r + length os ≡ length ws)
+Lies ws ws' os r = record { left : ws' ≡ laid ws os; place : r + length os ≡ length ws }
 
 pub lies_same : (ws : List ℕ) (at : ℕ) → at ≤ length ws → Lies ws ws (drop at ws) at
-lies_same ws at h = (laid_same ws at h, omega (arith, length-drop at ws))
+lies_same ws at h = record { left = laid_same ws at h; place = omega (arith, length-drop at ws) }
 
 lies_two : (ws : List ℕ) (a p x : ℕ) → a + 2 ≤ length ws → Lies ws (set (set ws a p) (a + 1) x) (p ∷ (x ∷ drop (a + 2) ws)) a
-lies_two ws a p x h = (laid_two ws a p x h, omega (arith, length-drop (a + 2) ws))
+lies_two ws a p x h = record { left = laid_two ws a p x h; place = omega (arith, length-drop (a + 2) ws) }
 
 -- the arguments of a head
 module _ (ws : List ℕ) (at p m deep : ℕ) where
@@ -138,4 +138,7 @@ module _ (ws us : List ℕ) (at i a : ℕ) (l : at ≤ length ws) (e : us ≡ la
       let b : drop a us ≡ rest i (drop at ws) = ap (drop a) e ∙ drop_laid ws (rest i (drop at ws)) a f in
       let os = opened p m deep (rest i (drop at ws)) in
       let h' : r + length os ≡ length us = ap (λ qs. r + length (opened p m deep qs)) (sym b) ∙ h in
-      (g ∙ ap (λ qs. laid us (opened p m deep qs)) b ∙ ap (λ zs. laid zs os) e ∙ laid_laid ws os (rest i (drop at ws)) (opened_longer p m deep (rest i (drop at ws))) (omega (arith, kept)), h' ∙ kept)
+      record {
+        left = g ∙ ap (λ qs. laid us (opened p m deep qs)) b ∙ ap (λ zs. laid zs os) e ∙ laid_laid ws os (rest i (drop at ws)) (opened_longer p m deep (rest i (drop at ws))) (omega (arith, kept));
+        place = h' ∙ kept;
+      }

@@ -11,7 +11,7 @@ use lib.Seq.{drop-cons}
 use Rattle.signature.specs.Limits.{depth_limit}
 use Rattle.signature.specs.Lists.{◌>>=◌, require, is_empty, All, also}
 use Rattle.signature.specs.Signature.{Signature, arguments_at}
-use Rattle.booking.specs.Walk.{View, walk_at, walk_word, ended, open_word, open_limit, left_in, deep_in, due_in, due_after, next, one_less, opened, step_by, Nested}
+use Rattle.booking.specs.Walk.{View, walk_at, walk_word, ended, open_word, open_limit, left_in, deep_in, due_in, due_after, one_less, opened, step_by, Nested}
 use Rattle.signature.proofs.ListFacts.{rest_of}
 use Rattle.signature.proofs.Tests.{eqb_eq, eqb_ne, le_of, lt_of_not, leb_yes, ltb_yes, none≢some, some_inj}
 

@@ -9,7 +9,7 @@ use signature::decoded;
 use signature::refusals::{BOOKING_UNLAWFUL, PLACE_OUTSIDE, SIGNATURE_UNLAWFUL};
 
 // The length of the part that begins at a place, or the refusal.
-#[derive(Drop)]
+#[derive(Clone, Copy)]
 enum Found {
     Part(usize),
     Refused(u16),

@@ -24,14 +24,14 @@ const ROW: u16 = decoded::STRIDE as u16;
 pub const OPEN: usize = 2 * DEPTH_LIMIT as usize;
 
 // The value due next: its kind, and how deep it may be nested.
-#[derive(Drop)]
+#[derive(Clone, Copy)]
 pub enum Expected {
     Value(u16, u16),
     Nothing,
 }
 
 // From where on the values stand that are open after a word, if the word may stand there.
-#[derive(Drop)]
+#[derive(Clone, Copy)]
 enum Walked {
     At(usize),
     Refused,

@@ -57,6 +57,7 @@ next_arg sig b n k js ks ps e h l r a = go ps (subst (λ (z : List ℕ). AllWell
     go (pcons p qs) (well_cons w ws) z r (also i t ts) =
         let y = split b p qs z in
         record { p = p; qs = qs; kinds_are = e; parts_are = refl; well = w; wells = ws; light = y.0; lights = y.1; ranges = (and_left (ranged p) (all_ranged qs) r, and_right (ranged p) (all_ranged qs) r); there = t; theres = ts }
+    go pnil x4 z r _ = elim x4 [ ]
 
 pub drop_next : (j : ℕ) (l : List ℕ) → j < length l → drop j l ≡ get_or l j 0 ∷ drop (j + 1) l
 drop_next j [] h = absurd (omega arith)
@@ -81,3 +82,4 @@ module _ {t : List ℕ} {c j : ℕ} {w : List ℕ} {b : Bool} {used : ℕ} {o : 
       go : (ks : List ℕ) (ps : Patterns) → ks ≡ [] → AllWellFormed g.known.sig ks ps → MadeArgs g.known.sig b ks ps g.begun (g.a + length (patterns_code ps)) used 0 o
       go [] pnil e well_nil = record { read_is = refl; list = rw (behind_nil b g.known.sig g.begun) g.list; small = omega (arith, g.small) }
       go (k ∷ ks) ps e h = absurd (omega (arith, ap length e))
+      go [] (pcons _ _) e h = elim h [ ]

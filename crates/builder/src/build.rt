@@ -25,7 +25,7 @@ use sets::heads::{Heads, between, full, is_empty, minus, only, without};
 use signature::decoded::{argument_of, arity_of, count_of, first_of};
 
 // How the rows of a pattern are made on one side: a constructor's; the products of its two parts' rows; both parts' rows; one row of one cell, with these variables; none; its part's on the other side; those of a range.
-#[derive(Drop)]
+#[derive(Clone, Copy)]
 pub enum Making {
     Head(u16),
     Multiply,
@@ -159,7 +159,7 @@ pub fn words_room(n: usize) -> usize
     ROOM_UNIT * n + 1
 }
 
-#[derive(Drop)]
+#[derive(Clone, Copy)]
 pub struct Built {
     pub used: usize,
     pub read: usize,

@@ -24,7 +24,7 @@ const TAG_LIMIT: u64 = 65536;
 pub const CELL: usize = 3;
 
 // A cell: the constructor that is named, or KIND_TAG and the kind; the variables; the heads still allowed.
-#[derive(Drop)]
+#[derive(Clone, Copy)]
 pub struct Cell {
     pub tag: u64,
     pub vars: u64,
@@ -32,13 +32,13 @@ pub struct Cell {
 }
 
 // The columns still to take: so many wildcards, then the cells from a word on.
-#[derive(Drop)]
+#[derive(Clone, Copy)]
 pub struct Cursor {
     pub at: usize,
     pub wildcards: usize,
 }
 
-#[derive(Drop)]
+#[derive(Clone, Copy)]
 pub enum Out {
     Kept(usize),
     Dropped,

@@ -1,4 +1,6 @@
 // The first column: of which kind it is where a row refines it, which of its heads have a child there, and which rows allow a head.
+#![tactic(auto)]
+
 ghost use Rattle.std.specs.Prelude.{◌≡◌, Bool, true, ◌&&◌, cond, ℕ, ◌<◌, ltb, length};
 ghost use Rattle.signature.specs.Decoded.{count_of};
 ghost use Rattle.signature.specs.Limits.{level_count};

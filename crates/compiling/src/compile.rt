@@ -17,14 +17,14 @@ use signature::refusals::UNSOUND;
 use store::layout::TABLE;
 
 // The call's number, and the tree's length in words.
-#[derive(Drop)]
+#[derive(Clone, Copy)]
 pub struct Compiled {
     pub number: u16,
     pub len: usize,
 }
 
 // An answer; or that the lists of rows are too small for the table.
-#[derive(Drop)]
+#[derive(Clone, Copy)]
 pub enum Tried {
     Done(Compiled),
     NoRoom,

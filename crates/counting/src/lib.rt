@@ -1,7 +1,9 @@
 // 02, job 5: how often each rule stands in a log, in one pass over it.
+#![tactic(auto)]
+
 ghost use Rattle.std.specs.Prelude.{◌≡◌, true, ◌≤◌, length, replicate};
 ghost use Rattle.day_log.specs.Limits.{log_limit, rule_numbers};
-ghost use Rattle.day_log.specs.Log.{counts as Counts-of, rules_only, TallyCall};
+ghost use Rattle.day_log.specs.Log.{counts as counts_of, rules_only, TallyCall};
 ghost use Rattle.counting.specs.Refused.{Refused};
 
 use signature::refusals::LOG_BEYOND;
@@ -13,7 +15,7 @@ pub const LOG_LIMIT: usize = 4096;
 pub const RULE_NUMBERS: usize = LAST_NUMBER as usize + 1;
 
 // The counts by rule number, and how many entries there are; on a refusal all but the number are 0.
-#[derive(Drop)]
+#[derive(Clone, Copy)]
 pub struct Tallied {
     pub number: u16,
     pub total: u16,
@@ -23,7 +25,7 @@ pub struct Tallied {
 // Whether all entries are rule numbers; then they are counted.
 fn count(log: &[u16], counts: &mut [u16]) -> bool
     requires { (length log.now ≤ log_limit) × (counts.old ≡ replicate rule_numbers 0) }
-    ensures { (result ≡ rules_only log.now) × (result ≡ true → counts.new ≡ Counts-of log.now) }
+    ensures { (result ≡ rules_only log.now) × (result ≡ true → counts.new ≡ counts_of log.now) }
 {
     let mut i = 0;
     while i < log.len() {

@@ -46,6 +46,7 @@ memb_in n (m ∷ log) e = go (eqb n m) refl e (memb_in n log)
     go false q z f = in_there (f (rw q at z))
 
 pub in_memb : (n : ℕ) (log : List ℕ) → In n log → memb n log ≡ true
+in_memb n [] x' = elim x' [ ]
 in_memb n (m ∷ log) in_here = rw (eqb_self n)
 in_memb n (m ∷ log) (in_there i) = go (eqb n m) (in_memb n log i)
   where

@@ -33,10 +33,10 @@ use Rattle.decoding.proofs.Narrow.{Exist, least_number, size_same, small_same, h
 
 -- both promises of decoding
 abbrev pub Answer : List ℕ → Bool → List ℕ → Type 0
-Answer w r u = (r ≡ is_some (read_signature w)) × ((sig : Signature) → read_signature w ≡ some sig → Decoded sig u)
+Answer w r u = record { answer : r ≡ is_some (read_signature w); table : (sig : Signature) → read_signature w ≡ some sig → Decoded sig u }
 
 refused : (w u : List ℕ) → read_signature w ≡ none → Answer w false u
-refused w u e = (rw e, λ sig f. none≢some (sym e ∙ f))
+refused w u e = record { answer = rw e; table = λ sig f. none≢some (sym e ∙ f) }
 
 -- the constructor count is wrong, or there is none
 module _ (w u : List ℕ) where
@@ -331,7 +331,7 @@ module _ {w : List ℕ} {n : ℕ} {u : List ℕ} {m top declared : ℕ} (k : Beg
     }
 
     pub decoded : Answer w r y
-    decoded = (answer ∙ sym (ap is_some (signed) ∙ some_when (lawful sig) sig), λ q e. go q e (same_sig q e))
+    decoded = record { answer = answer ∙ sym (ap is_some (signed) ∙ some_when (lawful sig) sig); table = λ q e. go q e (same_sig q e) }
       where
         same_sig : (q : Signature) → read_signature w ≡ some q → sig ≡ q
         same_sig q e = let (z, e₁, e₂) = bind_some (require (lawful sig)) (λ z. some sig) q (sym (signed) ∙ e) in some_inj sig q e₂

@@ -30,7 +30,7 @@ pub const SMALL_SIZE: u16 = 6;
 pub const OVER_SMALL: u16 = 7;
 
 // What reading has come to: the place of the next row, the number of kinds, the highest argument kind, and how many rows declare number kinds.
-#[derive(Drop)]
+#[derive(Clone, Copy)]
 struct Read {
     place: usize,
     kinds: usize,
@@ -39,7 +39,7 @@ struct Read {
 }
 
 // The words of a row, and the highest argument kind so far.
-#[derive(Drop)]
+#[derive(Clone, Copy)]
 struct Row {
     words: usize,
     most: u16,

@@ -1,2 +1,4 @@
 // Checking and decoding a signature.
+#![tactic(auto)]
+
 pub mod decode;

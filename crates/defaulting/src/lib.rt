@@ -1,4 +1,6 @@
 // The call set_default (1 to 3).
+#![tactic(auto)]
+
 ghost use Rattle.table.specs.Limits.{limits};
 ghost use Rattle.table.specs.Calls.{SetDefault};
 

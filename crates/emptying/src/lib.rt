@@ -1,2 +1,4 @@
 // The call that empties a table.
+#![tactic(auto)]
+
 pub mod empty;

@@ -1,2 +1,4 @@
 // The call that enters a rule.
+#![tactic(auto)]
+
 pub mod enter;

@@ -13,7 +13,7 @@ use store::layout::RULES;
 use tree::words::LAST_NUMBER;
 
 // The index at which the rule goes in, or the refusal.
-#[derive(Drop)]
+#[derive(Clone, Copy)]
 pub enum Checked {
     Free(usize),
     Refused(u16),

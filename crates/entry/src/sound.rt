@@ -12,7 +12,7 @@ use crate::settle::settle;
 use loading::add::has_room;
 
 // What an entry answers: the rule is in; a refusal; or a held rule's number, and the length of the booking that it shares.
-#[derive(Drop)]
+#[derive(Clone, Copy)]
 pub enum Entry {
     Entered,
     Refused(u16),
@@ -20,7 +20,7 @@ pub enum Entry {
 }
 
 // An entry in workspaces that may be too small: then nothing is written.
-#[derive(Drop)]
+#[derive(Clone, Copy)]
 pub enum Tried {
     Done(Entry),
     NoRoom,

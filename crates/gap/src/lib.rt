@@ -1,4 +1,6 @@
 // The gap call (1 to 3): a booking that no rule in force takes.
+#![tactic(auto)]
+
 ghost use Rattle.std.specs.Prelude.{◌+◌, ◌*◌, ◌≤◌, ◌<◌, length};
 ghost use Rattle.signature.specs.Limits.{booking_limit};
 ghost use Rattle.row.specs.Limits.{place_words};
@@ -26,14 +28,14 @@ use store::layout::TABLE;
 use values::shortest::VALUE_ROOM;
 
 // The call's number, and the booking's length in words.
-#[derive(Drop)]
+#[derive(Clone, Copy)]
 pub struct Shown {
     pub number: u16,
     pub len: usize,
 }
 
 // An answer; or that the lists of rows are too small for the table.
-#[derive(Drop)]
+#[derive(Clone, Copy)]
 pub enum Tried {
     Done(Shown),
     NoRoom,

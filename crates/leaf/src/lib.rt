@@ -1,4 +1,6 @@
 // A leaf: the default's plan; or a row's rule and plan, and which visit bound each of its variables.
+#![tactic(auto)]
+
 ghost use Rattle.std.specs.Prelude.{◌≡◌, ◌+◌, ◌*◌, ◌≤◌, ◌<◌, length, get_or};
 ghost use Rattle.pattern.specs.Limits.{variable_count};
 ghost use Rattle.sets.specs.Set.{set_limit};

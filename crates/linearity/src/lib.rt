@@ -1,2 +1,4 @@
 // Whether patterns are linear.
+#![tactic(auto)]
+
 pub mod linear;

@@ -10,14 +10,14 @@ use pattern::token::{Word, classify, own_words, parts, side_behind};
 use sets::set::{join, meet, only, size};
 
 // The set of a part at a side, E or O, and how many words the part takes.
-#[derive(Drop)]
+#[derive(Clone, Copy)]
 pub enum Part {
     Is(u64, usize),
     NotLinear,
 }
 
 // How the sets of the parts behind a word must stand to each other: disjoint, equal, or each empty.
-#[derive(Drop)]
+#[derive(Clone, Copy)]
 pub enum Joint {
     Apart,
     Alike,

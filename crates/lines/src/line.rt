@@ -11,20 +11,20 @@ use numbers::{bytes, list, number};
 
 pub const LIST_LIMIT: usize = 4096;
 
-#[derive(Drop)]
+#[derive(Clone, Copy)]
 pub enum WordLine {
     Is { word: u16, used: usize },
     Broken,
 }
 
-#[derive(Drop)]
+#[derive(Clone, Copy)]
 pub enum CountLine {
     Is { count: usize, used: usize },
     Broken,
 }
 
 // The lines of a rule: the pattern's words stand in the lent space.
-#[derive(Drop)]
+#[derive(Clone, Copy)]
 pub enum RuleLines {
     Is {
         number: u16,

@@ -24,7 +24,7 @@ pub const SMALL_ROWS: usize = 4096;
 pub const SMALL_WORK: usize = ROOM_UNIT * 8 + 1;
 
 // The words used and the weight, with the rule; or that no sound table has it; or that the slices are too small.
-#[derive(Drop)]
+#[derive(Clone, Copy)]
 pub enum Addition {
     Added(usize, u16),
     Unsound,

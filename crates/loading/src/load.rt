@@ -9,7 +9,7 @@ use meeting::rows::MATRIX;
 use store::layout::{LENGTH, RULE_HEAD, RULES_AT, layout};
 
 // The words used and the weight of all rules; or that the table is not sound; or that the slices are too small for it.
-#[derive(Drop)]
+#[derive(Clone, Copy)]
 pub enum Loaded {
     Sound(usize, u16),
     Unsound,

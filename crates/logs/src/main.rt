@@ -1,37 +1,41 @@
 // Logs of every kind through the call `tally`: a line for each log of logs.bin.
+#![tactic(auto)]
+
 use counting::tally;
 use shown::file::{read_words, size};
 use shown::print;
+use std::io;
 
 // The words of logs.bin at most.
 const WORDS: usize = 65536;
 
 // What the call gives, as a line: the number, the total, and each rule that has a count.
-fn show_tally(log: &[u16]) {
+fn show_tally(rt: &impl Print, log: &[u16]) -> io::Result<()> {
     let t = tally(log);
-    print::number(size(t.number));
-    print::spaced(size(t.total));
+    print::number(rt, size(t.number))?;
+    print::spaced(rt, size(t.total))?;
     let counts = t.counts;
-    print::pairs(&counts, 0);
-    print::end();
+    print::pairs(rt, &counts, 0)?;
+    print::end(rt)
 }
 
 // Logs behind each other, each with its length before it.
-fn show_tallies(words: &[u16]) {
+fn show_tallies(rt: &impl Print, words: &[u16]) -> io::Result<()> {
     let mut rest = words;
     while rest.len() > 0 {
         let n = size(rest[0]);
         if rest.len() <= n {
-            return;
+            return Ok(());
         }
         let end = n + 1;
-        show_tally(&rest[1..end]);
+        show_tally(rt, &rest[1..end])?;
         rest = &rest[end..];
     }
+    Ok(())
 }
 
-fn main() {
+fn main(rt: HostRuntime) -> io::Result<()> {
     let mut words = [0u16; WORDS];
-    let m = read_words(b"logs.bin", false, &mut words);
-    show_tallies(&words[..m]);
+    let m = read_words(&rt, b"logs.bin", false, &mut words)?;
+    show_tallies(&rt, &words[..m])
 }

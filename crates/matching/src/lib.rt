@@ -1,4 +1,6 @@
 // Patterns against bookings.
+#![tactic(auto)]
+
 pub mod places;
 pub mod promises;
 mod span;

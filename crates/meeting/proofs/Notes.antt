@@ -31,8 +31,8 @@ at_word i w q j = eqb q i && eqb (j / set_limit) w
 
 row_grow : (i w q : ℕ) → Grows (in_row i w q) (at_word i w q) (in_row i (w + 1) q)
 row_grow i w q = record {
-  apart = λ j l e. apart j (eqb q i) (eqb (j / 64) w) refl e;
-  both = λ j l. both j (eqb q i);
+  apart = λ j e. apart j (eqb q i) (eqb (j / 64) w) refl e;
+  both = λ j. both j (eqb q i);
 }
   where
     apart : (j : ℕ) (x y : Bool) → eqb (j / 64) w ≡ y → (x && y) ≡ true → (x && ltb j (64 * w)) ≡ false

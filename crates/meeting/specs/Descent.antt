@@ -8,7 +8,9 @@ use Rattle.cell.specs.declared.cell.Cell.{Cell}
 use Rattle.row.specs.Row.{Row, Rows, combine, combines}
 use Rattle.row.specs.RowFits.{place_count, places_count}
 use Rattle.rowset.specs.Limits.{row_limit}
-use Rattle.rowset.specs.Member.{member, set_words, in_word}
+use Rattle.rowset.specs.Member.{member, set_words}
+-- the rows of a word of a set stand with the sets
+pub use Rattle.rowset.specs.Member.{in_word}
 use Rattle.meeting.specs.Matrix.{meets}
 use Rattle.meeting.specs.Part.{RowAt, RowsAt}
 

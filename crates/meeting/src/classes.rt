@@ -13,14 +13,14 @@ use sets::heads::is_empty;
 use sets::set::{lowest, rest, with};
 
 // Rows of one word of a set.
-#[derive(Drop)]
+#[derive(Clone, Copy)]
 pub struct WordSorts {
     pub same: u64,
     pub clash: u64,
 }
 
 // Rows with one and the same cell, and rows whose cells have no head in common with it.
-#[derive(Drop)]
+#[derive(Clone, Copy)]
 pub struct Sorts {
     pub same: [u64; SET_WORDS],
     pub clash: [u64; SET_WORDS],

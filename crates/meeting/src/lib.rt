@@ -1,4 +1,6 @@
 // Which rows meet, every two at once: one descent over the places at which rows have cells.
+#![tactic(auto)]
+
 mod classes;
 pub mod lists;
 mod matrix;

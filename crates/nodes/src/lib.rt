@@ -1,2 +1,4 @@
 // The nodes of a tree.
+#![tactic(auto)]
+
 pub mod node;

@@ -13,7 +13,7 @@ use signature::decoded::{LAST_LEVEL, LEVEL_BASE};
 use tree::words::{DEFAULT, DEFAULT_WORDS, HIT, SKIP, SPLIT, SPLIT_WORDS, TEST, TEST_WORDS};
 
 // The default, with its plan; the hit leaf's answer; so many words on in the tree and in the booking; or the tree is broken.
-#[derive(Drop)]
+#[derive(Clone, Copy)]
 pub enum Step {
     Default { plan: u16 },
     Hit,

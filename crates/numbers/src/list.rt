@@ -8,7 +8,7 @@ use crate::number::Word;
 use crate::{bytes, number};
 
 // How many numbers.
-#[derive(Drop)]
+#[derive(Clone, Copy)]
 pub enum Count {
     Is(usize),
     Broken,

@@ -15,7 +15,7 @@ pub const FIRST_DIGIT: u8 = 48;
 
 pub const LAST_DIGIT: u8 = 57;
 
-#[derive(Drop)]
+#[derive(Clone, Copy)]
 pub enum Word {
     Is(u16),
     Broken,

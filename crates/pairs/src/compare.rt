@@ -11,6 +11,7 @@ use overlap::pair::rows_meet;
 use rowset::set::{ROWS, SET_WORDS, WORD};
 use sets::set::has;
 use shown::print;
+use std::io;
 
 const MATRIX: usize = SET_WORDS * ROWS;
 
@@ -57,7 +58,14 @@ fn checked(h: usize, k: usize, meets: bool) -> usize
     h
 }
 
-fn line(t: &[u16], a: &[u64], n: usize, begins: &[u64; ROWS], m: &[u64; MATRIX])
+fn line(
+    rt: &impl Print,
+    t: &[u16],
+    a: &[u64],
+    n: usize,
+    begins: &[u64; ROWS],
+    m: &[u64; MATRIX],
+) -> io::Result<()>
     requires { GivenMeet t.now a.now n begins.now (set_words * row_limit) }
 {
     let mut matrix = 0;
@@ -74,16 +82,16 @@ fn line(t: &[u16], a: &[u64], n: usize, begins: &[u64; ROWS], m: &[u64; MATRIX])
         differ += one(x != y);
         k += 1;
     }
-    print::number(n);
-    print::spaced(matrix);
-    print::spaced(pairs);
-    print::spaced(differ);
-    print::spaced(check);
-    print::end();
+    print::number(rt, n)?;
+    print::spaced(rt, matrix)?;
+    print::spaced(rt, pairs)?;
+    print::spaced(rt, differ)?;
+    print::spaced(rt, check)?;
+    print::end(rt)
 }
 
 // A line for the rows of a list.
-pub fn compare(t: &[u16], a: &[u64])
+pub fn compare(rt: &impl Print, t: &[u16], a: &[u64]) -> io::Result<()>
     requires { Listed t.now a.now }
 {
     let mut begins = [0u64; ROWS];
@@ -92,5 +100,5 @@ pub fn compare(t: &[u16], a: &[u64])
     gather(a, 0, 0, &mut cur);
     let mut m = [0u64; MATRIX];
     meet(t, a, n, &mut cur, &mut m);
-    line(t, a, n, &begins, &m);
+    line(rt, t, a, n, &begins, &m)
 }

@@ -17,7 +17,7 @@ use weighing::weight::{Weighed, weigh};
 pub const ROOM: usize = ROWS * (1 + CELL * PATTERN_WORDS) + ROW_ROOM;
 
 // The words of the list without its end, and what its patterns weigh.
-#[derive(Drop)]
+#[derive(Clone, Copy)]
 struct Held {
     used: usize,
     weight: usize,

@@ -5,16 +5,16 @@ use booking::walk::lawful;
 use decoding::decode::decode;
 use shown::print;
 use signature::decoded::DECODED;
+use std::io;
 
 // So many words of a part are written.
 const SHOWN: usize = 8;
 
-fn yes(ok: bool) {
+fn yes(rt: &impl Print, ok: bool) -> io::Result<()> {
     if ok {
-        print::text(b" yes");
-        return;
+        return print::text(rt, b" yes");
     }
-    print::text(b" no");
+    print::text(rt, b" no")
 }
 
 // The first n words.
@@ -25,34 +25,34 @@ pub fn front(s: &[u16], n: usize) -> &[u16] {
     &s[0..n]
 }
 
-fn words(p: &[u16]) {
-    print::words(front(p, SHOWN));
+fn words(rt: &impl Print, p: &[u16]) -> io::Result<()> {
+    print::words(rt, front(p, SHOWN))?;
     if SHOWN < p.len() {
-        print::text(b" ..");
+        print::text(rt, b" ..")?;
     }
+    Ok(())
 }
 
 // Whether the signature is lawful; then whether the booking is.
-fn checked(ss: &[u16], b: &[u16]) {
+fn checked(rt: &impl Print, ss: &[u16], b: &[u16]) -> io::Result<()> {
     let mut t = [0u16; DECODED];
     if !decode(ss, &mut t) {
-        yes(false);
-        return;
+        return yes(rt, false);
     }
-    yes(true);
-    yes(lawful(&t, b));
+    yes(rt, true)?;
+    yes(rt, lawful(&t, b))
 }
 
-pub fn case(n: usize, ss: &[u16], b: &[u16], place: usize) {
-    print::text(b"case");
-    print::spaced(n);
-    print::text(b":");
-    checked(ss, b);
-    print::spaced(part_number(ss, b, place) as usize);
+pub fn case(rt: &impl Print, n: usize, ss: &[u16], b: &[u16], place: usize) -> io::Result<()> {
+    print::text(rt, b"case")?;
+    print::spaced(rt, n)?;
+    print::text(rt, b":")?;
+    checked(rt, ss, b)?;
+    print::spaced(rt, part_number(ss, b, place) as usize)?;
     let p = part(ss, b, place);
-    print::text(b",");
-    print::spaced(p.len());
-    print::text(b":");
-    words(p);
-    print::end();
+    print::text(rt, b",")?;
+    print::spaced(rt, p.len())?;
+    print::text(rt, b":")?;
+    words(rt, p)?;
+    print::end(rt)
 }

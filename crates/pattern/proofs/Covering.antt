@@ -52,6 +52,7 @@ none_of x xs n e = rw (memb_empty x xs e) (omega arith)
 
 mutual
   pub fit_bound : (p : Pattern) {v : Value} {i : ℕ} {σ : Binds} → linear_plus p ≡ true → Fits p v i σ → (x : ℕ) → tick (memb x (E p)) ≤ times x σ
+  fit_bound absurd_pat l bad x = elim bad [ ]
   fit_bound (var y) l fits_var x = one_back (eqb x y)
   fit_bound wild l fits_wild x = omega arith
   fit_bound (neg p) l (fits_not f) x = fail_bound p l f x
@@ -68,6 +69,8 @@ mutual
   fit_bound (range low high) l (fits_range e) x = omega arith
 
   pub fail_bound : (p : Pattern) {v : Value} {i : ℕ} {σ : Binds} → linear_minus p ≡ true → Fails p v i σ → (x : ℕ) → tick (memb x (O p)) ≤ times x σ
+  fail_bound wild l bad x = elim bad [ ]
+  fail_bound (var _) l bad x = elim bad [ ]
   fail_bound absurd_pat l fails_absurd x = omega arith
   fail_bound (neg p) l (fails_not f) x = fit_bound p l f x
   fail_bound (or p q) l (fails_or {σ = σ} {τ = τ} f g) x =

@@ -71,6 +71,8 @@ module _ (sig : Signature) where
         go false q = says_fails (fails_range q)
 
     pub decides_says : {ks : List ℕ} (ps : Patterns) → AllWellFormed sig ks ps → (vs : Values) → OfKinds sig ks vs → (i : ℕ) → SaysAll ps vs i (decides ps vs i)
+    decides_says pnil well_nil (vcons v vs) bad i = elim bad [ ]
+    decides_says (pcons p ps) (well_cons s t) vnil bad i = elim bad [ ]
     decides_says pnil well_nil vnil of_kinds_nil i = says_all all_nil
     decides_says (pcons p ps) (well_cons s t) (vcons v vs) (of_kinds_cons h g) i = says_cons (decide_says p s v h i) (decides_says ps t vs g (i + size v))
 

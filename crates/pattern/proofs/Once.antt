@@ -58,6 +58,7 @@ tick_one false = omega arith
 -- a fit binds a variable of E at most once and no other, a failure likewise of O
 mutual
   pub fit_once : (p : Pattern) {v : Value} {i : ℕ} {σ : Binds} → linear_plus p ≡ true → Fits p v i σ → (x : ℕ) → times x σ ≤ tick (memb x (E p))
+  fit_once absurd_pat l bad x = elim bad [ ]
   fit_once (var y) l fits_var x = one_tick (eqb x y)
   fit_once wild l fits_wild x = omega arith
   fit_once (neg p) l (fits_not f) x = fail_once p l f x
@@ -74,6 +75,8 @@ mutual
   fit_once (range low high) l (fits_range e) x = omega arith
 
   pub fail_once : (p : Pattern) {v : Value} {i : ℕ} {σ : Binds} → linear_minus p ≡ true → Fails p v i σ → (x : ℕ) → times x σ ≤ tick (memb x (O p))
+  fail_once wild l bad x = elim bad [ ]
+  fail_once (var _) l bad x = elim bad [ ]
   fail_once absurd_pat l fails_absurd x = omega arith
   fail_once (neg p) l (fails_not f) x = fit_once p l f x
   fail_once (or p q) l (fails_or {σ = σ} {τ = τ} f g) x =
@@ -96,6 +99,7 @@ mutual
       omega (arith, times_append x σ τ, fit_once p (and_left (linear_plus p) (all_plus ps) a) f x, all_once ps (and_right (linear_plus p) (all_plus ps) a) g x, disjoint_tick x (E p) (E_all ps) (and_right (linear_plus p && all_plus ps) (disjoint (E p) (E_all ps)) l))
 
   some_once : (ps : Patterns) {vs : Values} {i : ℕ} {σ : Binds} → all_minus ps ≡ true → SomeFails ps vs i σ → (x : ℕ) → times x σ ≤ tick (memb x (O_all ps))
+  some_once pnil l bad x = elim bad [ ]
   some_once (pcons p ps) l (some_here f) x =
       let a : (linear_minus p && all_minus ps) ≡ true = and_left (linear_minus p && all_minus ps) (is_empty (O p)) l in
       omega (arith, fail_once p (and_left (linear_minus p) (all_minus ps) a) f x, left_tick x (O p) (O_all ps))

@@ -5,7 +5,7 @@ use mathlib.Core.Bool.{◌&&◌, Bool, true, false, ◌||◌}
 use Prim.Native.Nat.{ℕ, ◌≤◌}
 use native.Mathlib.Omega.{arith}
 use lib.Dec.{eqb}
-use Rattle.signature.specs.Lawful.{OfKind, of_kind, OfKinds, of_kinds_cons}
+use Rattle.signature.specs.Lawful.{OfKind, of_kind, OfKinds, of_kinds_cons, of_kinds_nil}
 use Rattle.signature.specs.Lists.{memb, is_empty}
 use Rattle.signature.specs.Signature.{Signature}
 use Rattle.signature.specs.Value.{Value, Values}
@@ -32,6 +32,7 @@ join x j σ τ xs ys f g = rw (binds_append x j σ τ, memb_append x xs ys) (imp
 -- a fit binds variables of E only, a failure variables of O only
 mutual
   pub fit_in_E : (p : Pattern) {v : Value} {i : ℕ} {σ : Binds} → Fits p v i σ → (x j : ℕ) → Imp (binds x j σ) (memb x (E p))
+  fit_in_E absurd_pat bad x j = elim bad [ ]
   fit_in_E (var y) (fits_var {i = i}) x j = one_in (eqb x y) (eqb j i)
   fit_in_E wild fits_wild x j = λ e. e
   fit_in_E (neg p) (fits_not f) x j = fail_in_O p f x j
@@ -42,6 +43,8 @@ mutual
   fit_in_E (range low high) (fits_range a) x j = λ e. e
 
   pub fail_in_O : (p : Pattern) {v : Value} {i : ℕ} {σ : Binds} → Fails p v i σ → (x j : ℕ) → Imp (binds x j σ) (memb x (O p))
+  fail_in_O wild bad x j = elim bad [ ]
+  fail_in_O (var _) bad x j = elim bad [ ]
   fail_in_O absurd_pat fails_absurd x j = λ e. e
   fail_in_O (neg p) (fails_not f) x j = fit_in_E p f x j
   fail_in_O (and p q) (fails_left {σ = σ} f) x j = imp_append_left (binds x j σ) x (O p) (O q) (fail_in_O p f x j)
@@ -56,6 +59,7 @@ mutual
   all_in_E (pcons p ps) (all_cons {σ = σ} {τ = τ} f g) x j = join x j σ τ (E p) (E_all ps) (fit_in_E p f x j) (all_in_E ps g x j)
 
   some_in_O : (ps : Patterns) {vs : Values} {i : ℕ} {σ : Binds} → SomeFails ps vs i σ → (x j : ℕ) → Imp (binds x j σ) (memb x (O_all ps))
+  some_in_O pnil bad x j = elim bad [ ]
   some_in_O (pcons p ps) (some_here {σ = σ} f) x j = imp_append_left (binds x j σ) x (O p) (O_all ps) (fail_in_O p f x j)
   some_in_O (pcons p ps) (some_there {σ = σ} f) x j = imp_append_right (binds x j σ) x (O p) (O_all ps) (some_in_O ps f x j)
 
@@ -92,6 +96,7 @@ module _ (sig : Signature) where
     pub same_fits : {k : ℕ} (p : Pattern) {v : Value} {i : ℕ} {σ τ : Binds} → linear_plus p ≡ true → (AmbiguousAt sig plus k p → ⊥) → OfKind sig k v → Fits p v i σ → Fits p v i τ → Same σ τ
     same_fits (var y) l n h fits_var fits_var = λ x j. refl
     same_fits wild l n h fits_wild fits_wild = λ x j. refl
+    same_fits absurd_pat l n h bad _ = elim bad [ ]
     same_fits (neg p) l n h (fits_not f) (fits_not g) = same_fails p l (λ a. n (under_not a)) h f g
     same_fits (and p q) l n h (fits_and {σ = σ} {τ = τ} f f') (fits_and {σ = σ'} {τ = τ'} g g') =
         let a : (linear_plus p && linear_plus q) ≡ true = and_left (linear_plus p && linear_plus q) _ l in
@@ -104,6 +109,8 @@ module _ (sig : Signature) where
     same_fits (range low high) l n h (fits_range a) (fits_range b) = λ x j. refl
 
     pub same_fails : {k : ℕ} (p : Pattern) {v : Value} {i : ℕ} {σ τ : Binds} → linear_minus p ≡ true → (AmbiguousAt sig minus k p → ⊥) → OfKind sig k v → Fails p v i σ → Fails p v i τ → Same σ τ
+    same_fails (var y) l n h bad _ = elim bad [ ]
+    same_fails wild l n h bad _ = elim bad [ ]
     same_fails absurd_pat l n h fails_absurd fails_absurd = λ x j. refl
     same_fails (neg p) l n h (fails_not f) (fails_not g) = same_fits p l (λ a. n (under_not a)) h f g
     same_fails (or p q) l n h (fails_or {σ = σ} {τ = τ} f f') (fails_or {σ = σ'} {τ = τ'} g g') =
@@ -120,6 +127,7 @@ module _ (sig : Signature) where
     same_fails (range low high) l n h (fails_range a) (fails_range b) = λ x j. refl
 
     same_all : {ks : List ℕ} (ps : Patterns) {vs : Values} {i : ℕ} {σ τ : Binds} → all_plus ps ≡ true → (AmbiguousIn sig plus ks ps → ⊥) → OfKinds sig ks vs → AllFit ps vs i σ → AllFit ps vs i τ → Same σ τ
+    same_all (pcons p ps) l n of_kinds_nil bad _ = elim bad [ ]
     same_all pnil l n h all_nil all_nil = λ x j. refl
     same_all (pcons p ps) l n (of_kinds_cons h h') (all_cons {σ = σ} {τ = τ} f f') (all_cons {σ = σ'} {τ = τ'} g g') =
         let a : (linear_plus p && all_plus ps) ≡ true = and_left (linear_plus p && all_plus ps) _ l in

@@ -13,7 +13,7 @@ pub const LAST_VARIABLE: u16 = 276;
 
 pub const RANGE: u16 = 280;
 
-#[derive(Drop)]
+#[derive(Clone, Copy)]
 pub enum Word {
     Head(u16),
     And,

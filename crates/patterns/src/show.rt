@@ -4,6 +4,7 @@ ghost use Rattle.signature.specs.Decoded.{Known};
 use matching::places::places;
 use matching::takes::takes;
 use shown::print;
+use std::io;
 use weighing::weight::Weighed;
 
 // The refusal of a pattern by itself: 7, 18, 8, 9, or 0 for none.
@@ -26,34 +27,40 @@ fn refusal(t: &[u16], p: &[u16]) -> usize
 }
 
 // Whether the pattern takes the booking.
-fn answer(t: &[u16], p: &[u16], b: &[u16])
+fn answer(rt: &impl Print, t: &[u16], p: &[u16], b: &[u16]) -> io::Result<()>
     requires { Known t.now }
 {
     if !reading::read::well_formed(t, p) {
-        return;
+        return Ok(());
     }
     if !booking::walk::lawful(t, b) {
-        return;
+        return Ok(());
     }
     if !takes(t, p, b) {
-        print::text(b" no");
-        return;
+        return print::text(rt, b" no");
     }
-    print::text(b" yes");
+    print::text(rt, b" yes")?;
     let out = places(t, p, b);
-    print::bindings(&out);
+    print::bindings(rt, &out)
 }
 
 // Against three bookings.
-pub fn line(t: &[u16], p: &[u16], first: &[u16], second: &[u16], third: &[u16])
+pub fn line(
+    rt: &impl Print,
+    t: &[u16],
+    p: &[u16],
+    first: &[u16],
+    second: &[u16],
+    third: &[u16],
+) -> io::Result<()>
     requires { Known t.now }
 {
     let n = refusal(t, p);
-    print::number(n);
+    print::number(rt, n)?;
     if n == 0 {
-        answer(t, p, first);
-        answer(t, p, second);
-        answer(t, p, third);
+        answer(rt, t, p, first)?;
+        answer(rt, t, p, second)?;
+        answer(rt, t, p, third)?;
     }
-    print::end();
+    print::end(rt)
 }

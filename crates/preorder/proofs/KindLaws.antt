@@ -1,5 +1,5 @@
 -- What the table of a signature says of a kind's heads.
-use mathlib.Core.Path.{◌≡◌, refl, sym, ap, ap₂, ◌∙◌}
+use mathlib.Core.Path.{◌≡◌, refl, sym, ap, ap₂, ◌∙◌, subst}
 use mathlib.Core.Logic.{◌⊎◌, inl, inr}
 use mathlib.Core.List.{List, [], ◌∷◌}
 use mathlib.Core.Bool.{Bool, true, false, ◌||◌}
@@ -29,7 +29,7 @@ run_first (consecutive_cons r) e = refl
 memb_up : (f j m : ℕ) → j < m → memb (f + j) (count_up f m) ≡ true
 memb_up f j zero h = absurd (omega arith)
 memb_up f zero (suc m) h = let q : f + 0 ≡ f = omega arith in rw (q, eqb_self f)
-memb_up f (suc j) (suc m) h = let q : f + suc j ≡ suc f + j = omega arith in rw q (go (eqb (suc f + j) f) (memb_up (suc f) j m (omega arith)))
+memb_up f (suc j) (suc m) h = let q : f + suc j ≡ suc f + j = omega arith in subst (λ z. memb z (count_up f (suc m)) ≡ true) (sym q) (go (eqb (suc f + j) f) (memb_up (suc f) j m (omega arith)))
   where
     go : (b : Bool) → memb (suc f + j) (count_up (suc f) m) ≡ true → (b || memb (suc f + j) (count_up (suc f) m)) ≡ true
     go true e = refl

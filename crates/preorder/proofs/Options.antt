@@ -39,7 +39,7 @@ module _ {A : Type 0} where
   somes_first f i (suc n) r a h g e z = go (eqb i r) refl (λ l. somes_first f (suc i) n r a l (omega arith) e (λ q x y. z q (omega arith) y))
     where
       go : (b : Bool) → eqb i r ≡ b → (suc i ≤ r → FirstIs a (somes (options f (suc i) n))) → FirstIs a (somes (f i ∷ options f (suc i) n))
-      go true q ih = rw (eqb_eq i r q, e) (record { rest = somes (options f (suc i) n); is = refl })
+      go true q ih = rw (eqb_eq i r q, e) (record { rest = somes (options f (suc r) n); is = refl })
       go false q ih = let l : suc i ≤ r = omega (arith, eqb_ne i r q) in rw (z i (omega arith) l) (ih l)
 
   -- a test of those that are there

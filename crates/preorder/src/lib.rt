@@ -1,4 +1,6 @@
 // The tree of the rows that stand at their cursors. The tail behind a node is lent to the child's writer.
+#![tactic(auto)]
+
 pub mod front;
 
 ghost use Rattle.std.specs.Prelude.{◌≡◌, ◌++◌, ◌≤◌, length, replicate, drop};

@@ -1,2 +1,4 @@
 // The products of lists of rows.
+#![tactic(auto)]
+
 pub mod product;

@@ -12,7 +12,7 @@ use pattern::token::{Word, classify, own_words, parts};
 use signature::decoded::{LEVEL_BASE, argument_of, constructors_of, first_of, kind_of};
 
 // How many words a pattern takes.
-#[derive(Drop)]
+#[derive(Clone, Copy)]
 pub enum End {
     At(usize),
     Bad,

@@ -1,4 +1,6 @@
 // 02, job 6: the bookings of open charges answered again by a new tree, each in its record.
+#![tactic(auto)]
+
 mod list;
 mod records;
 
@@ -15,7 +17,7 @@ use signature::decoded::DECODED;
 use signature::refusals::{CHARGES_MALFORMED, SIGNATURE_UNLAWFUL};
 
 // The refusal's number or 0, and how many plans changed.
-#[derive(Drop)]
+#[derive(Clone, Copy)]
 pub struct Replanned {
     pub number: u16,
     pub changed: u16,

@@ -1,10 +1,13 @@
 // Open charges answered again, good lists and bad: the file has, for each, the lengths of the signature, the tree and the
 // list, then their words, 16 bits each, the lower byte first. Prints the number, how many plans changed, and the list afterwards.
-ghost use Rattle.std.specs.Prelude.{◌≡◌, ◌≤◌, length};
+#![tactic(auto)]
+
+ghost use Rattle.std.specs.Prelude.{◌≡◌, ◌≤◌, length, IfOk};
 
 use replanning::replan;
 use shown::file::{read_words, size};
 use shown::print;
+use std::io;
 
 // The words of replans.bin at most.
 const WORDS: usize = 65536;
@@ -13,52 +16,58 @@ const WORDS: usize = 65536;
 const LIST: usize = 3200;
 
 // What the call makes of a list, in words of its own, since it writes them: each that is not 0.
-fn show(ss: &[u16], tree: &[u16], list: &[u16], charges: &mut [u16])
+fn show(
+    rt: &impl Print,
+    ss: &[u16],
+    tree: &[u16],
+    list: &[u16],
+    charges: &mut [u16],
+) -> io::Result<()>
     requires { length charges.old ≡ length list.now }
 {
     shift::copy(charges, list);
     let r = replan(ss, tree, charges);
-    print::number(size(r.number));
-    print::spaced(size(r.changed));
-    print::pairs(charges, 0);
-    print::end();
+    print::number(rt, size(r.number))?;
+    print::spaced(rt, size(r.changed))?;
+    print::pairs(rt, charges, 0)?;
+    print::end(rt)
 }
 
 // The first case of these words; how many words it has, 0 where there is none. A list for which there is no room is left out.
-fn case(w: &[u16], room: &mut [u16]) -> usize
-    ensures { result ≤ length w.now }
+fn case(rt: &impl Print, w: &[u16], room: &mut [u16]) -> io::Result<usize>
+    ensures { IfOk result (λ n. n ≤ length w.now) }
 {
     if w.len() < 3 {
-        return 0;
+        return Ok(0);
     }
     let n = size(w[2]);
     let s = 3 + size(w[0]);
     let t = s + size(w[1]);
     let e = t + n;
     if w.len() < e {
-        return 0;
+        return Ok(0);
     }
     if room.len() < n {
-        return e;
+        return Ok(e);
     }
-    show(&w[3..s], &w[s..t], &w[t..e], &mut room[0..n]);
-    e
+    show(rt, &w[3..s], &w[s..t], &w[t..e], &mut room[0..n])?;
+    Ok(e)
 }
 
-fn cases(all: &[u16], room: &mut [u16]) {
+fn cases(rt: &impl Print, all: &[u16], room: &mut [u16]) -> io::Result<()> {
     let mut w = all;
     loop {
-        let n = case(w, room);
+        let n = case(rt, w, room)?;
         if n == 0 {
-            return;
+            return Ok(());
         }
         w = &w[n..];
     }
 }
 
-fn main() {
+fn main(rt: HostRuntime) -> io::Result<()> {
     let mut all = [0u16; WORDS];
-    let n = read_words(b"replans.bin", false, &mut all);
+    let n = read_words(&rt, b"replans.bin", false, &mut all)?;
     let mut room = [0u16; LIST];
-    cases(&all[..n], &mut room);
+    cases(&rt, &all[..n], &mut room)
 }

@@ -1,4 +1,4 @@
--- The report by the counts, as it is put. `log/Laws` has it by the log; `reporting/proofs/Lines` that they are the same bytes.
+-- The report by the counts, as it is put. `day_log/Laws` has it by the log; `reporting/proofs/Lines` that they are the same bytes.
 use Rattle.std.specs.Prelude.{List, [], ◌∷◌, ◌++◌, cond, ℕ, suc, eqb}
 use Rattle.text.specs.Print.{decimal, line}
 use Rattle.day_log.specs.Report.{count_line, key_total}

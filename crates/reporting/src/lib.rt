@@ -1,4 +1,6 @@
 // The report of a log, as bytes in a lent space.
+#![tactic(auto)]
+
 ghost use Rattle.std.specs.Prelude.{◌+◌, ◌≤◌, length};
 ghost use Rattle.day_log.specs.Limits.{rule_numbers};
 ghost use Rattle.printing.specs.Printed.{Printed};

@@ -8,7 +8,7 @@ use Prim.Native.Nat.{ℕ, ◌≤◌}
 use native.Mathlib.Omega.{arith}
 use lib.ListN.{length, length-append}
 use Rattle.signature.specs.Lawful.{OfKind}
-use Rattle.signature.specs.Lists.{somes, All, is_empty, also}
+use Rattle.signature.specs.Lists.{somes, All, is_empty, also, none_left}
 use Rattle.signature.specs.Read.{Signed}
 use Rattle.signature.specs.Signature.{Signature}
 use Rattle.signature.specs.Value.{Value, code, size, con}
@@ -27,7 +27,7 @@ use Rattle.pattern.specs.Linear.{E, O}
 use Rattle.pattern.specs.Match.{Binds, Fits, Fails}
 use Rattle.pattern.specs.Pattern.{Pattern, pattern_code, var, wild, absurd_pat, neg, and, or, head, range, Patterns, pnil, pcons}
 use Rattle.pattern.specs.Read.{read_pattern}
-use Rattle.pattern.specs.WellFormed.{WellFormed, PatternWords, well_not, well_and, well_or, well_head, AllWellFormed, well_cons}
+use Rattle.pattern.specs.WellFormed.{WellFormed, PatternWords, well_not, well_and, well_or, well_head, AllWellFormed, well_cons, well_nil}
 use Rattle.pattern.proofs.Decided.{fits_decide, fails_decide, decide_fits, decide_fails}
 use Rattle.pattern.proofs.PatternBack.{pattern_words}
 use Rattle.row.specs.Overlap.{overlap, overlap_minus, Shared, ambiguous_plus, any_plus, ambiguous_minus, any_minus, shares, SharesBooking, shared_by}
@@ -141,6 +141,7 @@ module _ (sig : Signature) where
 
       ambiguous_exists_all : (ps : Patterns) {ks : List ℕ} → All (Small sig) ks → AllWellFormed sig ks ps → any_plus sig ks ps ≡ true → AmbiguousIn sig plus ks ps
       ambiguous_exists_all pnil m s e = true≢false (sym e)
+      ambiguous_exists_all (pcons p ps) none_left bad e = elim bad [ ]
       ambiguous_exists_all (pcons p ps) (also k {xs = ks} m ms) (well_cons s t) e = go (either (ambiguous_plus sig k p) (any_plus sig ks ps) e) (λ y. ambiguous_exists p m s y) (λ y. ambiguous_exists_all ps ms t y)
         where
           go : (ambiguous_plus sig k p ≡ true) ⊎ (any_plus sig ks ps ≡ true) → (ambiguous_plus sig k p ≡ true → AmbiguousAt sig plus k p) → (any_plus sig ks ps ≡ true → AmbiguousIn sig plus ks ps) → AmbiguousIn sig plus (k ∷ ks) (pcons p ps)
@@ -149,6 +150,7 @@ module _ (sig : Signature) where
 
       ambiguous_exists_all' : (ps : Patterns) {ks : List ℕ} → All (Small sig) ks → AllWellFormed sig ks ps → any_minus sig ks ps ≡ true → AmbiguousIn sig minus ks ps
       ambiguous_exists_all' pnil m s e = true≢false (sym e)
+      ambiguous_exists_all' (pcons p ps) none_left bad e = elim bad [ ]
       ambiguous_exists_all' (pcons p ps) (also k {xs = ks} m ms) (well_cons s t) e = go (either (ambiguous_minus sig k p) (any_minus sig ks ps) e) (λ y. ambiguous_exists' p m s y) (λ y. ambiguous_exists_all' ps ms t y)
         where
           go : (ambiguous_minus sig k p ≡ true) ⊎ (any_minus sig ks ps ≡ true) → (ambiguous_minus sig k p ≡ true → AmbiguousAt sig minus k p) → (any_minus sig ks ps ≡ true → AmbiguousIn sig minus ks ps) → AmbiguousIn sig minus (k ∷ ks) (pcons p ps)
@@ -158,6 +160,9 @@ module _ (sig : Signature) where
 module _ (sig : Signature) where
   mutual
     ambiguous_parts : (p : Pattern) {k j : ℕ} {r : Side} {q : Pattern} → WellFormed sig k p → Stands sig plus k p r j q → AmbiguousPart sig r j q → ambiguous_plus sig k p ≡ true
+    ambiguous_parts (head c ps) (well_head l b s) itself a = elim a [ ]
+    ambiguous_parts (and p q) (well_and s t) itself a = elim a [ ]
+    ambiguous_parts (neg p) (well_not s) itself a = elim a [ ]
     ambiguous_parts (or p q) {k} (well_or s t) itself (an_or e h f g) = rw (e, fit_overlap sig p q s t h f g)
     ambiguous_parts (var x) s itself a = elim a [ ]
     ambiguous_parts wild s itself a = elim a [ ]
@@ -171,6 +176,9 @@ module _ (sig : Signature) where
     ambiguous_parts (head c ps) {k} {j} {r} {q} (well_head {ks = ks} l b s) (in_head d h) a = ap (λ js. any_plus sig js ps) (args_same sig k c ks b) ∙ ambiguous_arguments ps s (subst (λ js. StandsIn sig plus js ps r j q) (sym (args_same sig k c _ d) ∙ args_same sig k c ks b) h) a
 
     ambiguous_parts' : (p : Pattern) {k j : ℕ} {r : Side} {q : Pattern} → WellFormed sig k p → Stands sig minus k p r j q → AmbiguousPart sig r j q → ambiguous_minus sig k p ≡ true
+    ambiguous_parts' (head c ps) (well_head l b s) itself a = elim a [ ]
+    ambiguous_parts' (or p q) (well_or s t) itself a = elim a [ ]
+    ambiguous_parts' (neg p) (well_not s) itself a = elim a [ ]
     ambiguous_parts' (and p q) {k} (well_and s t) itself (an_and e h f g) = rw (e, fail_overlap sig p q s t h f g)
     ambiguous_parts' (var x) s itself a = elim a [ ]
     ambiguous_parts' wild s itself a = elim a [ ]
@@ -184,10 +192,12 @@ module _ (sig : Signature) where
     ambiguous_parts' (head c ps) {k} {j} {r} {q} (well_head {ks = ks} l b s) (in_head d h) a = ap (λ js. any_minus sig js ps) (args_same sig k c ks b) ∙ ambiguous_arguments' ps s (subst (λ js. StandsIn sig minus js ps r j q) (sym (args_same sig k c _ d) ∙ args_same sig k c ks b) h) a
 
     ambiguous_arguments : (ps : Patterns) {ks : List ℕ} {j : ℕ} {r : Side} {q : Pattern} → AllWellFormed sig ks ps → StandsIn sig plus ks ps r j q → AmbiguousPart sig r j q → any_plus sig ks ps ≡ true
+    ambiguous_arguments pnil well_nil bad a = elim bad [ ]
     ambiguous_arguments (pcons p ps) (well_cons {k = k} {ks = ks} s t) (in_first h) a = or_true_left (ambiguous_plus sig k p) (any_plus sig ks ps) (ambiguous_parts p s h a)
     ambiguous_arguments (pcons p ps) (well_cons {k = k} {ks = ks} s t) (in_rest h) a = or_true_right (ambiguous_plus sig k p) (any_plus sig ks ps) (ambiguous_arguments ps t h a)
 
     ambiguous_arguments' : (ps : Patterns) {ks : List ℕ} {j : ℕ} {r : Side} {q : Pattern} → AllWellFormed sig ks ps → StandsIn sig minus ks ps r j q → AmbiguousPart sig r j q → any_minus sig ks ps ≡ true
+    ambiguous_arguments' pnil well_nil bad a = elim bad [ ]
     ambiguous_arguments' (pcons p ps) (well_cons {k = k} {ks = ks} s t) (in_first h) a = or_true_left (ambiguous_minus sig k p) (any_minus sig ks ps) (ambiguous_parts' p s h a)
     ambiguous_arguments' (pcons p ps) (well_cons {k = k} {ks = ks} s t) (in_rest h) a = or_true_right (ambiguous_minus sig k p) (any_minus sig ks ps) (ambiguous_arguments' ps t h a)
 

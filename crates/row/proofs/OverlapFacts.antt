@@ -44,6 +44,9 @@ module _ (sig : Signature) where
 
   mutual
     pub combine_good : {k : ℕ} (r s : Row) → Good sig k r → Good sig k s → Kept (Good sig k) (combine r s)
+    combine_good (named xs c rs) (free ys []) _ bad = elim bad [ ]
+    combine_good (free xs []) s bad _ = elim bad [ ]
+    combine_good (free xs (c ∷ cs)) (free ys []) _ bad = elim bad [ ]
     combine_good {k} (named xs c rs) (named ys d ss) (good_named {js = js} l e g) (good_named {js = is} l' e' h) = go (eqb c d) refl (λ h'. combines_good rs ss g h')
       where
         go : (b : Bool) → eqb c d ≡ b → (Goods sig js ss → Kept (Goods sig js) (combines rs ss)) → Kept (Good sig k) (combine (named xs c rs) (named ys d ss))
@@ -102,10 +105,12 @@ module _ (sig : Signature) where
 
       pub args_plus_good : {ks : List ℕ} (ps : Patterns) → All (Small sig) ks → AllWellFormed sig ks ps → All (Goods sig ks) (args_plus sig ks ps)
       args_plus_good pnil m well_nil = also rnil goods_nil none_left
+      args_plus_good (pcons p ps) none_left bad = elim bad [ ]
       args_plus_good (pcons p ps) (also k m ms) (well_cons s t) = all_each rcons (λ a b g h. goods_cons g h) (plus_good p m s) (args_plus_good ps ms t)
 
       pub args_minus_good : {ks : List ℕ} (ps : Patterns) → All (Small sig) ks → AllWellFormed sig ks ps → All (Goods sig ks) (args_minus sig ks ps)
       args_minus_good pnil m well_nil = none_left
+      args_minus_good (pcons p ps) none_left bad = elim bad [ ]
       args_minus_good (pcons p ps) (also k {xs = ks} m ms) (well_cons s t) = all_append (all_map (λ r. rcons r (open_rows sig ks)) (λ r g. goods_cons g (opens_good sig ms)) (minus_good p m s)) (all_map (rcons (open_row sig k)) (λ rs g. goods_cons (all_good sig [] m) g) (args_minus_good ps ms t))
 
     -- a value that a good row fits
@@ -122,6 +127,7 @@ module _ (sig : Signature) where
 
     mutual
       pub fill : {k : ℕ} (r : Row) → Good sig k r → Filled k r
+      fill (free xs []) bad = elim bad [ ]
       fill {k} (named xs c rs) (good_named l e g) =
           let (vs, h, f, l, m) = fills rs g in
           (con c vs, of_kind e h, rw (eqb_self c) f, omega arith, omega arith)

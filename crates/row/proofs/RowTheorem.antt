@@ -113,9 +113,13 @@ module _ (sig : Signature) where
     minus_fits {k} (range low high) s (con d vs) (of_kind {ks = js} e h) i = kept_fits_so (λ x. not (within low high x)) k d vs (has_kind sig k d js e) ∙ ap not (sym (fit_when (within low high d)))
 
     pub args_plus_fit : {ks : List ℕ} (ps : Patterns) → AllWellFormed sig ks ps → (vs : Values) → OfKinds sig ks vs → (i : ℕ) → fits_somes (args_plus sig ks ps) vs ≡ is_fit (decides ps vs i)
+    args_plus_fit pnil well_nil (vcons v vs) bad i = elim bad [ ]
+    args_plus_fit (pcons p ps) (well_cons s t) vnil bad i = elim bad [ ]
     args_plus_fit pnil well_nil vnil of_kinds_nil i = refl
     args_plus_fit (pcons p ps) (well_cons {k = k} {ks = ks} s t) (vcons v vs) (of_kinds_cons h g) i = cons_each (rows_plus sig k p) (args_plus sig ks ps) v vs ∙ ap₂ ◌&&◌ (plus_fits p s v h i) (args_plus_fit ps t vs g (i + size v)) ∙ sym (fit_both (decide p v i) (decides ps vs (i + size v)))
 
     pub args_minus_fit : {ks : List ℕ} (ps : Patterns) → AllWellFormed sig ks ps → (vs : Values) → OfKinds sig ks vs → (i : ℕ) → fits_somes (args_minus sig ks ps) vs ≡ not (is_fit (decides ps vs i))
+    args_minus_fit pnil well_nil (vcons v vs) bad i = elim bad [ ]
+    args_minus_fit (pcons p ps) (well_cons s t) vnil bad i = elim bad [ ]
     args_minus_fit pnil well_nil vnil of_kinds_nil i = refl
     args_minus_fit (pcons p ps) (well_cons {k = k} {ks = ks} s t) (vcons v vs) (of_kinds_cons h g) i = any_append (λ q. rows_fit q (vcons v vs)) (map (λ r. rcons r (open_rows sig ks)) (rows_minus sig k p)) (map (rcons (open_row sig k)) (args_minus sig ks ps)) ∙ ap₂ ◌||◌ (cons_open (rows_minus sig k p) (open_rows sig ks) v vs (opens_fit sig g) ∙ minus_fits p s v h i) (cons_map (open_row sig k) (args_minus sig ks ps) v vs ∙ ap (λ b. b && fits_somes (args_minus sig ks ps) vs) (open_fits sig h []) ∙ args_minus_fit ps t vs g (i + size v)) ∙ not_both (decide p v i) (decides ps vs (i + size v))

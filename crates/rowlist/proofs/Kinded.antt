@@ -1,7 +1,7 @@
 -- What the table of a lawful signature gives to rows: each constructor is known, each kind is open, and its full set is that of its heads.
 use borrow.Author.Tests.{ltb-true, ltb-false}
 use mathlib.Core.Path.{◌≡◌, refl, ap, ◌∙◌, sym, subst}
-use mathlib.Core.List.{List}
+use mathlib.Core.List.{List, ◌∷◌}
 use mathlib.Core.Option.{some}
 use mathlib.Core.Bool.{Bool, true, false, cond}
 use Prim.Native.Nat.{ℕ, zero, suc, ◌+◌, ◌-◌, ◌^◌, ◌≤◌, ◌<◌}
@@ -51,7 +51,7 @@ memb_run i consecutive_nil = sym (ltb_no i 0 (omega arith))
 memb_run zero (consecutive_cons {f = f} {xs = xs} r) = rw (add-zero f, eqb_self f, ltb_yes 0 (suc (length xs)) (omega arith))
 memb_run (suc i) (consecutive_cons {f = f} {xs = xs} r) =
     let z : f + suc i ≡ suc f + i = omega arith in
-    rw (z, eqb_no (suc f + i) f (omega arith)) (memb_run i r ∙ sym (ltb_next i (length xs) (ltb i (length xs)) refl))
+    subst (λ n. memb n (f ∷ xs) ≡ ltb (suc i) (suc (length xs))) (sym z) (rw (eqb_no (suc f + i) f (omega arith)) (memb_run i r ∙ sym (ltb_next i (length xs) (ltb i (length xs)) refl)))
 
 -- the heads of a kind are counted by their set
 abbrev pub Sized : Signature → ℕ → Type 0

@@ -87,6 +87,8 @@ module _ {t : List ℕ} (g : Known t) where
     typed_args_plus pnil [] none_left well_nil = (tt, tt)
     typed_args_plus (pcons p ps) (k ∷ ks) (also j l m) (well_cons h i) =
         every_each (λ r. Typed (kinds_of g.sig) t r k) (λ rs. Typeds (kinds_of g.sig) t rs ks) (λ rs. Typeds (kinds_of g.sig) t rs (k ∷ ks)) rcons (λ r rs a b. (a, b)) (rows_plus g.sig k p) (args_plus g.sig ks ps) (typed_rows p true k l h) (typed_args_plus ps ks m i)
+    typed_args_plus pnil (k ∷ ks) _ x9 = elim x9 [ ]
+    typed_args_plus (pcons p ps) [] _ x10 = elim x10 [ ]
 
     pub typed_args_minus : (ps : Patterns) (ks : List ℕ) → All (λ j. j < g.decoded.n) ks → AllWellFormed g.sig ks ps → Every (λ rs. Typeds (kinds_of g.sig) t rs ks) (args_minus g.sig ks ps)
     typed_args_minus pnil [] none_left well_nil = tt
@@ -94,3 +96,5 @@ module _ {t : List ℕ} (g : Known t) where
         every_append (λ rs. Typeds (kinds_of g.sig) t rs (k ∷ ks)) (map (λ r. rcons r (open_rows g.sig ks)) (rows_minus g.sig k p)) (map (rcons (open_row g.sig k)) (args_minus g.sig ks ps))
         (every_map (λ r. Typed (kinds_of g.sig) t r k) (λ rs. Typeds (kinds_of g.sig) t rs (k ∷ ks)) (λ r. rcons r (open_rows g.sig ks)) (λ r a. (a, typed_opens ks m)) (rows_minus g.sig k p) (typed_rows p false k l h))
         (every_map (λ rs. Typeds (kinds_of g.sig) t rs ks) (λ rs. Typeds (kinds_of g.sig) t rs (k ∷ ks)) (rcons (open_row g.sig k)) (λ rs a. (typed_open k l, a)) (args_minus g.sig ks ps) (typed_args_minus ps ks m i))
+    typed_args_minus pnil (k ∷ ks) _ x9 = elim x9 [ ]
+    typed_args_minus (pcons p ps) [] _ x10 = elim x10 [ ]

@@ -1,3 +1,5 @@
 // Lists of rows: rows behind rows.
+#![tactic(auto)]
+
 pub mod grow;
 pub mod next;

@@ -1,2 +1,4 @@
 // Sets of rows.
+#![tactic(auto)]
+
 pub mod set;

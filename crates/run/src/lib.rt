@@ -1,4 +1,6 @@
 // A run of a tree over a booking, with refusals 1, 13 and 15.
+#![tactic(auto)]
+
 pub mod leaf;
 pub mod promises;
 
@@ -24,7 +26,7 @@ use signature::refusals::{BOOKING_UNLAWFUL, SIGNATURE_UNLAWFUL, TREE_BROKEN};
 const SHORT: usize = 64;
 
 // The answer of a run: the refusal's number or 0, the rule, its plan, and a place for each variable.
-#[derive(Drop)]
+#[derive(Clone, Copy)]
 pub struct Ran {
     pub number: u16,
     pub rule: u16,

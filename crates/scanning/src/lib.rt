@@ -1,4 +1,6 @@
 // The log in a text: one line log=, in the format of 01 (17).
+#![tactic(auto)]
+
 ghost use Rattle.std.specs.Prelude.{◌≡◌, ◌≤◌, length};
 ghost use Rattle.numbers.specs.Lists.{count_of, Filled};
 ghost use Rattle.day_log.specs.Format.{read_log};

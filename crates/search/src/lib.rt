@@ -1,4 +1,6 @@
 // A value that no row takes, by a search that leaves one row after the other.
+#![tactic(auto)]
+
 mod cells;
 mod choice;
 mod cube;

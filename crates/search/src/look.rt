@@ -11,7 +11,7 @@ use rowset::set::SET_WORDS;
 use values::shortest::{Outcome, shortest};
 
 // No value that is as short as a booking; or the words of one that no row takes; or a row that takes one, and its open cells.
-#[derive(Drop)]
+#[derive(Clone, Copy)]
 pub enum Seen {
     Nothing,
     Free(usize),

@@ -1,3 +1,5 @@
 // Sets of at most 64 numbers, and sets of heads.
+#![tactic(auto)]
+
 pub mod heads;
 pub mod set;

@@ -53,6 +53,7 @@ below_before (q ∷ before) r after (rises_cons a b h) s (in_there i) l = in_the
 
 in_last : (before : List Rule) (r : Rule) (s : Rule) → In s (before ++ (r ∷ [])) → (P : Rule → Type 0) → P r → ((q : Rule) → In q before → P q) → P s
 in_last [] r s in_here P a f = a
+in_last [] r s (in_there i) P a f = elim i [ ]
 in_last (q ∷ before) r s in_here P a f = f s in_here
 in_last (q ∷ before) r s (in_there i) P a f = in_last before r s i P a (λ u j. f u (in_there j))
 

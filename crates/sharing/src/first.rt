@@ -10,7 +10,7 @@ use store::layout::{LENGTH, RULE_HEAD, RULES_AT};
 use witness::lists::witness;
 
 // A rule's number, and the length of a booking that it shares; both 0 where no rule does.
-#[derive(Drop)]
+#[derive(Clone, Copy)]
 pub struct Sharer {
     pub rule: u16,
     pub length: usize,

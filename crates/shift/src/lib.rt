@@ -1,4 +1,6 @@
 // A packed list in a lent slice: its tail is shifted to put words in and to take words out, and the words that come free are set to 0.
+#![tactic(auto)]
+
 ghost use Rattle.std.specs.Prelude.{◌≡◌, ◌++◌, ◌+◌, ◌-◌, ◌≤◌, length, take, drop, replicate};
 
 // Every word becomes 0.

@@ -1,8 +1,10 @@
 // The bytes of a file, and words of 16 bits in it, the lower byte first.
-ghost use Rattle.std.specs.Prelude.{◌≤◌, length};
-ghost use Rattle.io.specs.Counts.{IsPrefixLen};
+ghost use Rattle.std.specs.Prelude.{◌≡◌, ◌≤◌, length, IfOk, OnErr};
+ghost use Rattle.std.specs.Io.{ReadsAtMost};
 
-use libc::STDOUT_FILENO;
+use std::io::Read;
+use std::rt::Files;
+use std::{fs, io};
 
 const BYTES: usize = 196608;
 
@@ -13,7 +15,7 @@ fn wide(x: u8) -> u16
 }
 
 fn words(bytes: &[u8], out: &mut [u16]) -> usize
-    ensures { IsPrefixLen result out.new }
+    ensures { result ≤ length out.new }
 {
     let mut n = 0;
     while n < out.len() {
@@ -26,18 +28,41 @@ fn words(bytes: &[u8], out: &mut [u16]) -> usize
     n
 }
 
-// How many bytes there are; of a file that cannot be opened none, and a line says so.
-pub fn read(name: &[u8], out: &mut [u8]) -> usize
-    ensures { IsPrefixLen result out.new }
+// Reads until the room is full or nothing is left; how many bytes there are.
+pub fn read_full(from: &mut impl Read, out: &mut [u8]) -> io::Result<usize>
+    ensures within { ReadsAtMost result out.new }
+    ensures err { OnErr result (length out.new ≡ length out.old) }
 {
-    let fd = os::open_read(name);
-    if fd < 0 {
-        io::write_all(STDOUT_FILENO, b"no file\n");
-        return 0;
+    let mut done = 0;
+    while done < out.len() {
+        let n = from.read(&mut out[done..])?;
+        if n == 0 {
+            return Ok(done);
+        }
+        done += n;
     }
-    let n = io::read_full(fd, out);
-    libc::close(fd);
-    n
+    Ok(done)
+}
+
+fn none(rt: &impl Print) -> io::Result<usize>
+    ensures { IfOk result (λ n. n ≡ 0) }
+{
+    rt.write_all(b"no file\n")?;
+    Ok(0)
+}
+
+// How many bytes there are; of a file that cannot be opened none, and a line says so.
+pub fn read(rt: &(impl Files + Print), name: &[u8], out: &mut [u8]) -> io::Result<usize>
+    ensures within { ReadsAtMost result out.new }
+    ensures err { OnErr result (length out.new ≡ length out.old) }
+{
+    let Ok(path) = str::from_utf8(name) else {
+        return none(rt);
+    };
+    let Ok(mut file) = fs::open(rt, path) else {
+        return none(rt);
+    };
+    read_full(&mut file, out)
 }
 
 // Between two bytes of a text: 0; inside a number that is worth n so far, n + 1; behind a #, COMMENT.
@@ -112,7 +137,7 @@ fn put(out: &mut [u16], n: usize, s: usize, t: usize) -> usize
 
 // The numbers of a text; what stands behind a # is passed over to the end of its line.
 fn numbers(text: &[u8], out: &mut [u16]) -> usize
-    ensures { IsPrefixLen result out.new }
+    ensures { result ≤ length out.new }
 {
     let mut n = 0;
     let mut s = 0;
@@ -127,15 +152,21 @@ fn numbers(text: &[u8], out: &mut [u16]) -> usize
 }
 
 // The words of a file: numbers of a text, or two bytes each.
-pub fn read_words(name: &[u8], text: bool, out: &mut [u16]) -> usize
-    ensures { IsPrefixLen result out.new }
+pub fn read_words(
+    rt: &(impl Files + Print),
+    name: &[u8],
+    text: bool,
+    out: &mut [u16],
+) -> io::Result<usize>
+    ensures within { ReadsAtMost result out.new }
+    ensures err { OnErr result (length out.new ≡ length out.old) }
 {
     let mut bytes = [0u8; BYTES];
-    let n = read(name, &mut bytes);
+    let n = read(rt, name, &mut bytes)?;
     if text {
-        return numbers(&bytes[..n], out);
+        return Ok(numbers(&bytes[..n], out));
     }
-    words(&bytes[..n], out)
+    Ok(words(&bytes[..n], out))
 }
 
 pub fn size(x: u16) -> usize

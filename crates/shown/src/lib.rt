@@ -1,3 +1,5 @@
-// What the programs of the gate share: words read from a file, and lines printed.
+// What the programs share: bytes and words read, and lines printed.
+#![tactic(auto)]
+
 pub mod file;
 pub mod print;

@@ -1,63 +1,67 @@
 // Numbers, words and answers on standard output.
 use crate::file::size;
-use libc::STDOUT_FILENO;
 use pattern::limits::{UNBOUND, VARIABLES};
+use std::io;
 
-pub fn text(s: &[u8]) {
-    io::write_all(STDOUT_FILENO, s);
+pub fn text(rt: &impl Print, s: &[u8]) -> io::Result<()> {
+    rt.write_all(s)
 }
 
-pub fn end() {
-    text(b"\n");
+pub fn end(rt: &impl Print) -> io::Result<()> {
+    text(rt, b"\n")
 }
 
-pub fn number(n: usize) {
-    io::print_decimal(STDOUT_FILENO, n as u64);
+pub fn number(rt: &impl Print, n: usize) -> io::Result<()> {
+    rt.print(n)
 }
 
-pub fn spaced(n: usize) {
-    text(b" ");
-    number(n);
+pub fn spaced(rt: &impl Print, n: usize) -> io::Result<()> {
+    text(rt, b" ")?;
+    number(rt, n)
 }
 
-pub fn words(w: &[u16]) {
-    let mut i = 0;
-    while i < w.len() {
-        spaced(size(w[i]));
-        i += 1;
+pub fn words(rt: &impl Print, w: &[u16]) -> io::Result<()> {
+    for x in w {
+        spaced(rt, size(*x))?;
     }
+    Ok(())
 }
 
-fn pair(i: usize, w: u16, none: u16) {
+fn pair(rt: &impl Print, i: usize, w: u16, none: u16) -> io::Result<()> {
     if w == none {
-        return;
+        return Ok(());
     }
-    spaced(i);
-    text(b":");
-    number(w as usize);
+    spaced(rt, i)?;
+    text(rt, b":")?;
+    number(rt, w as usize)
 }
 
 // Each word that is not none, behind its index.
-pub fn pairs(words: &[u16], none: u16) {
-    let mut i = 0;
-    while i < words.len() {
-        pair(i, words[i], none);
-        i += 1;
+pub fn pairs(rt: &impl Print, words: &[u16], none: u16) -> io::Result<()> {
+    for (i, w) in words.iter().enumerate() {
+        pair(rt, i, *w, none)?;
     }
+    Ok(())
 }
 
 // The variables that are bound, each with its place.
-pub fn bindings(places: &[u16; VARIABLES]) {
-    pairs(places, UNBOUND);
+pub fn bindings(rt: &impl Print, places: &[u16; VARIABLES]) -> io::Result<()> {
+    pairs(rt, places, UNBOUND)
 }
 
 // What a run or a decision gave, as a line.
-pub fn answer(refusal: u16, rule: u16, plan: u16, places: &[u16; VARIABLES]) {
-    number(refusal as usize);
-    spaced(rule as usize);
-    spaced(plan as usize);
+pub fn answer(
+    rt: &impl Print,
+    refusal: u16,
+    rule: u16,
+    plan: u16,
+    places: &[u16; VARIABLES],
+) -> io::Result<()> {
+    number(rt, refusal as usize)?;
+    spaced(rt, rule as usize)?;
+    spaced(rt, plan as usize)?;
     if refusal == 0 {
-        bindings(places);
+        bindings(rt, places)?;
     }
-    end();
+    end(rt)
 }

@@ -92,8 +92,8 @@ numbered_has (d ∷ ds) n zero k c e q =
 numbered_has (d ∷ ds) n (suc i) k c e q = go (eqb d.kind k) refl (rw (suc-add n i) at (numbered_has ds (suc n) i k c e q))
   where
     go : (b : Bool) → eqb d.kind k ≡ b → memb (suc (n + i)) (numbers_from (suc n) ds k) ≡ true → memb (n + suc i) (numbers_from n (d ∷ ds) k) ≡ true
-    go true p h = rw (p, add-suc n i, h) (or_true (eqb (suc (n + i)) n))
-    go false p h = rw (p, add-suc n i) h
+    go true p h = subst (λ z. memb z (numbers_from n (d ∷ ds) k) ≡ true) (sym (add-suc n i)) (rw (p, h) (or_true (eqb (suc (n + i)) n)))
+    go false p h = subst (λ z. memb z (numbers_from n (d ∷ ds) k) ≡ true) (sym (add-suc n i)) (rw p h)
 
 pub has_number : (sig : Signature) (i k : ℕ) (c : Constructor) → get_elem? sig i ≡ some c → eqb c.kind k ≡ true → memb i (numbers sig k) ≡ true
 has_number sig i k c e q = rw (zero-add i) at (numbered_has sig 0 i k c e q)

@@ -207,6 +207,7 @@ pub no_in : {A B : Type 0} {x : A} → In x [] → B
 no_in i = elim i [ ]
 
 pub all_in : {A : Type 0} {P : A → Type 0} {x : A} {xs : List A} → All P xs → In x xs → P x
+all_in {A = A} {P = P} none_left x4 = elim x4 [ ]
 all_in (also y p ps) in_here = p
 all_in (also y p ps) (in_there i) = all_in ps i
 
@@ -261,6 +262,7 @@ any_in {A} f (r ∷ rs) e = go (f r) refl (any_in f rs)
     go false q k = let (s, i, z) = k (rw q at e) in (s, in_there i, z)
 
 pub in_any : {A : Type 0} (f : A → Bool) (rs : List A) (r : A) → In r rs → f r ≡ true → any f rs ≡ true
+in_any {A = A} f [] r x'' e = elim x'' [ ]
 in_any f (s ∷ rs) r in_here e = rw e
 in_any f (s ∷ rs) r (in_there i) e = rw (in_any f rs r i e) (go (f s))
   where

@@ -20,8 +20,8 @@ use Rattle.stepping.proofs.Front.{number_kept}
 
 module _ (ss st : List ℕ) (w : ℕ) where
   -- nothing moves
-  pub stays : step_in ss st w ≡ none → (st ≡ moved st (step_in ss st w)) × (false ≡ is_some (step_in ss st w))
-  stays e = (ap (moved st) (sym e), ap is_some (sym e))
+  pub stays : step_in ss st w ≡ none → record { moved : st ≡ moved st (step_in ss st w); told : false ≡ is_some (step_in ss st w) }
+  stays e = record { moved = ap (moved st) (sym e); told = ap is_some (sym e) }
 
   pub long_signature : signature_limit < length ss → step_in ss st w ≡ none
   long_signature h = rw (leb_no (length ss) signature_limit h)
@@ -50,11 +50,11 @@ module _ (ss st : List ℕ) (w : ℕ) where
 
   -- the words are written
   pub moves : (os us : List ℕ) (to : ℕ) → length st ≡ state_words → step_in ss st w ≡ some os → us ≡ laid st os → to + length os ≡ length st
-      → (set (set us read_at (read_in st + 1)) open_at (state_words - to) ≡ moved st (step_in ss st w)) × (true ≡ is_some (step_in ss st w))
+      → record { moved : set (set us read_at (read_in st + 1)) open_at (state_words - to) ≡ moved st (step_in ss st w); told : true ≡ is_some (step_in ss st w) }
   moves os us to l e f g =
       let a : state_words - to ≡ length os = omega arith in
       let b : read_in st + 1 ≡ suc (read_in st) = omega arith in
-      (rw (e, f, a, b), ap is_some (sym e))
+      record { moved = rw (e, f, a, b); told = ap is_some (sym e) }
 
   -- a state that has gone wrong
   pub stuck : (number_in st ≡ 0 → ⊥) → (r : ℕ) → r ≡ refusal_of (number_in st) → (st ≡ step_state ss st w) × (r ≡ refusal_in (step_state ss st w))

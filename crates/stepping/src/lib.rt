@@ -1,4 +1,6 @@
 // 02, job 2: the booking check, which a host steps word by word.
+#![tactic(auto)]
+
 pub mod begin;
 pub mod end;
 pub mod promises;

@@ -16,14 +16,14 @@ use signature::refusals::BOOKING_UNLAWFUL;
 const SIGNATURE_LIMIT: usize = 1 + CONSTRUCTOR_LIMIT * STRIDE;
 
 // Where the kinds of a head's arguments begin in the signature's words, and how many they are.
-#[derive(Drop)]
+#[derive(Clone, Copy)]
 enum Row {
     At(u16, u16),
     Nothing,
 }
 
 // The same of a head that may stand where a value is due, and how deep its arguments may be nested.
-#[derive(Drop)]
+#[derive(Clone, Copy)]
 enum Head {
     Found(u16, u16, u16),
     Missing,

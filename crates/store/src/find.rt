@@ -8,7 +8,7 @@ ghost use Rattle.store.specs.Place.{FoundAt};
 use crate::layout::{LENGTH, RULE_HEAD, RULES_AT};
 
 // The index of a rule, or the index at which it would go in.
-#[derive(Drop)]
+#[derive(Clone, Copy)]
 pub enum Found {
     Held(usize),
     Free(usize),

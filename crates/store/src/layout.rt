@@ -28,7 +28,7 @@ pub const EMPTIED_DEFAULT: u16 = 1;
 pub const TABLE: usize = RULES_AT + RULES as usize * (RULE_HEAD + PATTERN_WORDS);
 
 // A rule's number, and the index behind it.
-#[derive(Drop)]
+#[derive(Clone, Copy)]
 enum Head {
     At(u16, usize),
     Broken,

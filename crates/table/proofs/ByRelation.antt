@@ -16,13 +16,14 @@ use Rattle.tree.specs.Answer.{Answer}
 use Rattle.table.specs.Decide.{Answered, by_default, by_rule, OneRule}
 use Rattle.table.specs.Demand2.{ByRelation}
 use Rattle.table.specs.Limits.{limits}
-use Rattle.table.specs.Rule.{Rule, Rises, rises_cons}
+use Rattle.table.specs.Rule.{Rule, Rises, rises_nil, rises_cons}
 use Rattle.table.specs.Sound.{SoundTable}
 use Rattle.table.proofs.Demand2Facts.{one_rule}
 use Rattle.table.proofs.Reckoning.{in_above}
 
 -- rising rules have each number once
 same_number : {m : ℕ} {rs : List Rule} (r s : Rule) → Rises m rs → In r rs → In s rs → r.number ≡ s.number → r ≡ s
+same_number r s (rises_nil {m = m}) x10 _ e = elim x10 [ ]
 same_number r s (rises_cons a b h) in_here in_here e = refl
 same_number r s (rises_cons a b h) in_here (in_there j) e = absurd (omega (arith, e, in_above s h j))
 same_number r s (rises_cons a b h) (in_there i) in_here e = absurd (omega (arith, e, in_above r h i))

@@ -49,6 +49,7 @@ module _ (dft : ℕ) (sig : Signature) where
       go (fail τ) q (says_fails g) = record { either = inr (τ, (h.pat, v, h.read, b, g)); not_both = both; taken = λ σ x. absurd (both σ τ x (h.pat, v, h.read, b, g)); places = λ σ x. places_of σ (once_fits h.pat h.linear (takes_fits sig r.pattern bs h v b x)); one_list = λ σ ρ x y. one_list_of sig r.pattern bs h v b (takes_fits sig r.pattern bs h v b x) (takes_fits sig r.pattern bs h v b y); not_taken = λ σ y. rw (h.read, q) }
 
 pub apart_in : (f : Rule → Bool) (rs : List Rule) (s : Rule) → all f rs ≡ true → In s rs → f s ≡ true
+apart_in f [] s h x'' = elim x'' [ ]
 apart_in f (t ∷ rs) s h in_here = and_left (f t) (all f rs) h
 apart_in f (t ∷ rs) s h (in_there i) = apart_in f rs s (and_right (f t) (all f rs) h) i
 
@@ -56,6 +57,7 @@ module _ (sig : Signature) where
   -- rules of which no two share a booking: one at most takes it
   module _ (signed : Signed sig) where
     pub one_taker : (rs : List Rule) (bs : List ℕ) (r s : Rule) {σ τ : Binds} → no_shared sig rs ≡ true → In r rs → In s rs → Takes sig r.pattern bs σ → Takes sig s.pattern bs τ → s ≡ r
+    one_taker [] bs r s {σ = σ} {τ = τ} n x6 _ x y = elim x6 [ ]
     one_taker (t ∷ rs) bs r s n in_here in_here x y = refl
     one_taker (t ∷ rs) bs r s n in_here (in_there j) x y = clash sig signed t.pattern s.pattern bs (apart_in (λ u. not (shares sig t.pattern u.pattern)) rs s (and_left (all (λ u. not (shares sig t.pattern u.pattern)) rs) (no_shared sig rs) n) j) x y
     one_taker (t ∷ rs) bs r s n (in_there i) in_here x y = clash sig signed t.pattern r.pattern bs (apart_in (λ u. not (shares sig t.pattern u.pattern)) rs r (and_left (all (λ u. not (shares sig t.pattern u.pattern)) rs) (no_shared sig rs) n) i) y x

@@ -37,6 +37,7 @@ all_memb f (x ∷ xs) c a m = go (eqb c x) refl (all_memb f xs c (and_right (f x
     go false q k = k (rw q at m)
 
 all_in : {A : Type 0} (f : A → Bool) (xs : List A) (x : A) → all f xs ≡ true → In x xs → f x ≡ true
+all_in {A = A} f [] x a x4 = elim x4 [ ]
 all_in f (y ∷ xs) x a in_here = and_left (f y) (all f xs) a
 all_in f (y ∷ xs) x a (in_there i) = all_in f xs x (and_right (f y) (all f xs) a) i
 

@@ -109,6 +109,7 @@ emptied_is lent emptied h = go (long_table limits lent) refl
 
 -- rising rules with the same members are the same list
 pub in_above : {m : ℕ} {rs : List Rule} (r : Rule) → Rises m rs → In r rs → m < r.number
+in_above r (rises_nil {m = m}) x4 = elim x4 [ ]
 in_above r (rises_cons a b h) in_here = a
 in_above {m} r (rises_cons {r = s} a b h) (in_there i) = omega (arith, in_above r h i)
 

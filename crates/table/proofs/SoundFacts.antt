@@ -55,6 +55,7 @@ rules_were (suc n) m (a ∷ (b ∷ (l ∷ ws))) rs e =
     subst (Were (suc n) m (a ∷ (b ∷ (l ∷ ws)))) (some_inj (r ∷ qs) rs f₃) (rises_cons {r = r} (le_of (suc m) a (and_left (ltb m a) (leb a last_number) ok)) (le_of a last_number (and_right (ltb m a) (leb a last_number) ok)) h, ap suc k, (z, ap₂ (λ x xs. a ∷ (b ∷ (x ∷ xs))) (sym p) words))
 
 test_in : (f : Rule → Bool) (rs : List Rule) → all f rs ≡ true → (r : Rule) → In r rs → f r ≡ true
+test_in f [] e r x'' = elim x'' [ ]
 test_in f (s ∷ rs) e r in_here = and_left (f s) (all f rs) e
 test_in f (s ∷ rs) e r (in_there i) = test_in f rs (and_right (f s) (all f rs) e) r i
 

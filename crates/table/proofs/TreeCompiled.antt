@@ -81,6 +81,7 @@ module _ (sig : Signature) where
         true≢false (sym n ∙ ap not z)
 
     one_fitter : (rs : List Rule) (r s : Rule) (h : Passed sig r.pattern) (g : Passed sig s.pattern) (v : Value) {σ τ : Binds} → no_shared sig rs ≡ true → In r rs → In s rs → OfKind sig 0 v → Fits h.pat v 0 σ → Fits g.pat v 0 τ → s ≡ r
+    one_fitter [] r s h g v {σ = σ} {τ = τ} n x7 _ k x y = elim x7 [ ]
     one_fitter (t ∷ rs) r s h g v n in_here in_here k x y = refl
     one_fitter (t ∷ rs) r s h g v n in_here (in_there j) k x y = clash t s h g v (apart_in (λ u. not (shares sig t.pattern u.pattern)) rs s (and_left (all (λ u. not (shares sig t.pattern u.pattern)) rs) (no_shared sig rs) n) j) k x y
     one_fitter (t ∷ rs) r s h g v n (in_there i) in_here k x y = clash t r g h v (apart_in (λ u. not (shares sig t.pattern u.pattern)) rs r (and_left (all (λ u. not (shares sig t.pattern u.pattern)) rs) (no_shared sig rs) n) i) k y x

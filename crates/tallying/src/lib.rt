@@ -1,4 +1,6 @@
 // 02, job 5: the day's tally as one function from bytes to bytes.
+#![tactic(auto)]
+
 ghost use Rattle.std.specs.Prelude.{◌≤◌, length};
 ghost use Rattle.printing.specs.Printed.{Printed};
 ghost use Rattle.day_log.specs.Limits.{report_limit};

@@ -146,7 +146,7 @@ module _ (dft : ℕ) (sig : Signature) where
         one q f c (js, e) =
             let less : refs_lines sig (js ++ ks) (somes (map (after t (taken sig js c)) (m ∷ ls))) + tick (any (λ a. refined sig k a.cells) (m ∷ ls)) ≤ refs_lines sig (k ∷ ks) (m ∷ ls) = lines_taken sig t t k c e (inv_shaped (k ∷ ks) (m ∷ ls) t h) in
             let less' : refs_lines sig (js ++ ks) (somes (map (after t (taken sig js c)) (m ∷ ls))) + 1 ≤ refs_lines sig (k ∷ ks) (m ∷ ls) = rw q at less in
-            rw (args_same sig k c js e) (f (js ++ ks) (somes (map (after t (taken sig js c)) (m ∷ ls))) (suc t) (inv_test k c js ks (m ∷ ls) t e h) (omega (arith, few k c js e, length-append js ks)))
+            subst (λ z. Compiled dft sig (z ++ ks) (somes (map (after t (taken sig z c)) (m ∷ ls))) (suc t) (compile dft n sig (z ++ ks) (somes (map (after t (taken sig z c)) (m ∷ ls))) (suc t))) (sym (args_same sig k c js e)) (f (js ++ ks) (somes (map (after t (taken sig js c)) (m ∷ ls))) (suc t) (inv_test k c js ks (m ∷ ls) t e h) (omega (arith, few k c js e, length-append js ks)))
 
         go : (b : Bool) → any (λ a. refined sig k a.cells) (m ∷ ls) ≡ b → Ends n → Compiled dft sig (k ∷ ks) (m ∷ ls) t (compile dft (suc n) sig (k ∷ ks) (m ∷ ls) t)
         go true q f = rw q (tested refl q (children_of ks (m ∷ ls) t (λ c. compile dft n sig (arguments sig c ++ ks) (somes (map (after t (taken sig (arguments sig c) c)) (m ∷ ls))) (suc t)) (all_of (branches sig k (m ∷ ls)) (λ c e. one q f c (kind_of_head sig k c (branch_head sig k (m ∷ ls) c e))))))

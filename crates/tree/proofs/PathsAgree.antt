@@ -88,6 +88,7 @@ visited_one visits j u w h a b e = go (dec_le (suc u) w) (dec_le (suc w) u)
 
 -- bindings by visit that give the same places are the same
 rising_in : {m t : ℕ} {bs : Binds} (b : ℕ × ℕ) → Rising m t bs → In b bs → (m ≤ b.0) × (b.1 < t)
+rising_in b (rising_nil {m = m} {t = t}) x5 = elim x5 [ ]
 rising_in b (rising_cons a c d h) in_here = (a, d)
 rising_in b (rising_cons a c d h) (in_there i) = let (x, y) = rising_in b h i in (omega arith, y)
 
@@ -103,7 +104,7 @@ placed_in visits (b ∷ bs) x p e = go (eqb x b.0) (eqb p (get_or visits b.1 0))
     go true false q r f = later (f (rw (q, r) at e))
     go false d q r f = later (f (rw q at e))
 
-in_placed : (visits : List ℕ) {bs : Binds} (x u : ℕ) → In (x, u) bs → binds x (get_or visits u 0) (placed visits bs) ≡ true
+in_placed : (visits : List ℕ) (x u : ℕ) {bs : Binds} → In (x, u) bs → binds x (get_or visits u 0) (placed visits bs) ≡ true
 in_placed visits x u in_here = rw (eqb_self x, eqb_self (get_or visits u 0))
 in_placed visits x u (in_there {y = b} i) = rw (in_placed visits x u i) (or_true (eqb x b.0 && eqb (get_or visits u 0) (get_or visits b.1 0)))
   where
@@ -200,6 +201,7 @@ module _ (sig : Signature) where
             before n s = ap (λ z. outcome? (p.visits ++ (p.place ∷ [])) (vjoin us rest) (suc p.place) (after z (taken sig js c) n)) (sym p.made) ∙ taken_outcome sig p.visits p.place n.binds (subst (λ z. All (λ b. b.1 < z) n.binds) (sym p.made) s.made) n.rule n.plan k c rest s.cells e hu
 
 all_false : (f : Line → Bool) (ls : List Line) (l : Line) → any f ls ≡ false → In l ls → f l ≡ false
+all_false f [] l e x = elim x [ ]
 all_false f (m ∷ ls) l e in_here = or_first (f m) (any f ls) e
   where
     or_first : (a b : Bool) → (a || b) ≡ false → a ≡ false

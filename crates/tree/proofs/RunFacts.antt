@@ -57,9 +57,14 @@ some_word (test c ts) = omega arith
 some_word (skip t) = omega arith
 some_word (split es ts) = omega arith
 
+bound_pairs_of : {m n : ℕ} {bs : List (ℕ × ℕ)} (visits tail places : List ℕ) → Rising m n bs → n ≡ length visits → bound (length bs) m (pairs bs ++ tail) visits places ≡ some (bind_all (placed visits bs) places)
+bound_pairs_of visits tail places rising_nil e = refl
+bound_pairs_of visits tail places (rising_cons {m = m} {x = x} {u = u} a b c h) e =
+    let c' : u < length visits = omega arith in
+    rw (leb_yes m x a, leb_yes x last_variable b, at_getD visits u c') (bound_pairs_of visits tail (set places x (get_or visits u 0)) h e)
+
 bound_pairs : {m : ℕ} {bs : List (ℕ × ℕ)} (visits tail places : List ℕ) → Rising m (length visits) bs → bound (length bs) m (pairs bs ++ tail) visits places ≡ some (bind_all (placed visits bs) places)
-bound_pairs visits tail places rising_nil = refl
-bound_pairs visits tail places (rising_cons {m = m} {x = x} {u = u} a b c h) = rw (leb_yes m x a, leb_yes x last_variable b, at_getD visits u c) (bound_pairs visits tail (set places x (get_or visits u 0)) h)
+bound_pairs visits tail places h = bound_pairs_of visits tail places h refl
 
 module _ (dft : ℕ) (sig : Signature) where
   treeds_count : {ks : List ℕ} {t : ℕ} {cs : List ℕ} {ts : Trees} → Treeds dft sig ks t cs ts → count ts ≡ length cs

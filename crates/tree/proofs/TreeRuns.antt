@@ -121,7 +121,7 @@ module _ (dft : ℕ) (sig : Signature) (facts : SigFacts sig) where
   compile_treed (suc n) (k ∷ ks) (m ∷ ls) t h = go (any (λ a. refined sig k a.cells) (m ∷ ls)) refl (λ ks' ls' t' h'. compile_treed n ks' ls' t' h')
     where
       one : Leaves n → (c : ℕ) → (js : List ℕ) × (arguments_at sig k c ≡ some js) → Treed dft sig (arguments sig c ++ ks) (suc t) (compile dft n sig (arguments sig c ++ ks) (somes (map (after t (taken sig (arguments sig c) c)) (m ∷ ls))) (suc t))
-      one f c (js, e) = rw (args_same sig k c js e) (f (js ++ ks) (somes (map (after t (taken sig js c)) (m ∷ ls))) (suc t) (all_somes (all_map (after t (taken sig js c)) (λ a q. after_neat sig t (taken sig js c) a q (kept_both (taken_rowed sig k c e q.cells) (taken_drops sig js c a.cells))) h)))
+      one f c (js, e) = subst (λ z. Treed dft sig (z ++ ks) (suc t) (compile dft n sig (z ++ ks) (somes (map (after t (taken sig z c)) (m ∷ ls))) (suc t))) (sym (args_same sig k c js e)) (f (js ++ ks) (somes (map (after t (taken sig js c)) (m ∷ ls))) (suc t) (all_somes (all_map (after t (taken sig js c)) (λ a q. after_neat sig t (taken sig js c) a q (kept_both (taken_rowed sig k c e q.cells) (taken_drops sig js c a.cells))) h)))
 
       next : ℕ → Tree
       next c = compile dft n sig (arguments sig c ++ ks) (somes (map (after t (taken sig (arguments sig c) c)) (m ∷ ls))) (suc t)

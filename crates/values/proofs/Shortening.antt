@@ -32,7 +32,7 @@ use Rattle.cell.specs.RowList.{from, WrittenFirst}
 use Rattle.cell.proofs.Columns.{three_at}
 use Rattle.cell.proofs.Walk.{back, back_length, part_back, code_long}
 use Rattle.sets.specs.Heads.{number_of}
-use Rattle.sets.specs.Set.{set_of}
+use Rattle.sets.specs.Set.{set_of, Within}
 use Rattle.rowlist.proofs.Kinded.{known_head, within_kind}
 use Rattle.overlap.specs.Least.{GivenPlace}
 use Rattle.witness.proofs.Behind.{◌behind◌, count, count_behind, goods_behind, count_goods, words_behind}
@@ -91,8 +91,8 @@ module _ {t : List ℕ} (g : Known t) (k d : ℕ) (cs : List ℕ) (h : All (λ c
     cs = d ∷ cs;
     set_is = rw e f;
     some_head = refl;
-    within = rw e (within_all (first (heads g.sig k)) (heads g.sig k) (within_kind g k (kind_here g k d cs h)) h);
-    of_kind_k = λ c m. rw e (all_memb (λ x. memb x (heads g.sig k)) c (d ∷ cs) (all_self (d ∷ cs) (heads g.sig k) h) m);
+    within = subst (λ (z : ℕ). Within (first (heads g.sig z)) (d ∷ cs)) (sym e) (within_all (first (heads g.sig k)) (heads g.sig k) (within_kind g k (kind_here g k d cs h)) h);
+    of_kind_k = λ c m. subst (λ (z : ℕ). memb c (heads g.sig z) ≡ true) (sym e) (all_memb (λ x. memb x (heads g.sig k)) c (d ∷ cs) (all_self (d ∷ cs) (heads g.sig k) h) m);
     room = room;
   }
 

@@ -8,7 +8,7 @@ use sets::heads::{Heads, has, is_empty, lowest, without};
 use signature::decoded::{first_of, least_head_of};
 
 // A head, and the fewest words of a value under it.
-#[derive(Drop)]
+#[derive(Clone, Copy)]
 pub struct Choice {
     pub head: u16,
     pub size: usize,

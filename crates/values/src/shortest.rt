@@ -18,7 +18,7 @@ const PLACE: usize = 25;
 pub const VALUE_ROOM: usize = BOOKING_LIMIT + PLACE;
 
 // The words of the shortest value stand first, so many; or it is longer than a booking.
-#[derive(Drop)]
+#[derive(Clone, Copy)]
 pub enum Outcome {
     Found(usize),
     TooLong,

@@ -46,6 +46,8 @@ module _ (sig : Signature) (kept : ℕ → Bool) (left : ℕ) where
   all_bare i (rcons r rs) (goods_cons g gs) (vcons v vs) (of_kinds_cons p q) n l =
       let s = some_place r in
       rw (bare i r v (n i (omega arith) (omega arith)) (misses left i 1 (inl l) i (omega arith) (omega arith)), all_bare (i + place_count r) rs gs vs q (λ j a b. n j (omega arith) (omega arith)) (omega arith))
+  all_bare i rnil goods_nil (vcons v vs) x17 n l = elim x17 [ ]
+  all_bare i (rcons r rs) (goods_cons {k = k} {ks = ks} g gs) vnil x12 n l = elim x12 [ ]
 
   named_cover : (k i c d : ℕ) (xs : List ℕ) (rs : Rows) (vs : Values) (b : Bool) → kept i ≡ b → OfKind sig k (con d vs) → agrees kept i (named xs c rs) (con d vs) ≡ true
       → (OfKinds sig (arguments sig c) vs → all_agree kept (suc i) rs vs ≡ true → (rows_fit (views sig kept left (arguments sig c) (suc i) rs) vs ≡ true) ⊎ (all_agree (with_cell kept left) (suc i) rs vs ≡ true))
@@ -92,6 +94,8 @@ module _ (sig : Signature) (kept : ℕ → Bool) (left : ℕ) where
         cons_cover left (i + place_count r) (row_fits (view sig kept left k i r) v) (rows_fit (views sig kept left ks (i + place_count r) rs) vs) (agrees (with_cell kept left) i r v) (all_agree (with_cell kept left) (i + place_count r) rs vs)
         (λ l. (cover i r v g C.0 p x, all_missed sig kept left (i + place_count r) rs vs (misses left (i + place_count r) (places_count rs) (inl l)) q y))
         (λ l. (missed sig kept left k i r v (misses left i (place_count r) (inr l)) p x, all_cover (i + place_count r) rs gs vs q C.1 y))
+    all_cover i rnil goods_nil (vcons v vs) x21 C a = elim x21 [ ]
+    all_cover i (rcons r rs) (goods_cons {k = k} {ks = ks} g gs) vnil x16 C a = elim x16 [ ]
 
   -- what leaves a row at a cell to which only kept cells lead
   named_apart : (k i c d : ℕ) (xs : List ℕ) (rs : Rows) (vs : Values) (b : Bool) → kept i ≡ b → edge kept left i (named xs c rs) ≡ true → row_fits (view sig kept left k i (named xs c rs)) (con d vs) ≡ true

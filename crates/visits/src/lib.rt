@@ -1,4 +1,6 @@
 // The cursors of the rows on a path: which rows have a cell in a column, and what raises and lowers them. Only the rows of a set are visited, since deep in a tree few are left.
+#![tactic(auto)]
+
 ghost use Rattle.std.specs.Prelude.{◌≡◌, true, ℕ, ◌+◌, ◌*◌, ◌≤◌, ◌<◌, max, length, get_or};
 ghost use Rattle.pattern.specs.Limits.{pattern_limit};
 ghost use Rattle.rowset.specs.Limits.{row_limit};

@@ -1,2 +1,4 @@
 // The weight of patterns.
+#![tactic(auto)]
+
 pub mod weight;

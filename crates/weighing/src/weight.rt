@@ -12,21 +12,21 @@ use pattern::token::{Word, classify, own_words, parts};
 // What stands for every weight over 64, so that no product wraps.
 pub const OVER_WEIGHT: u16 = 65;
 
-#[derive(Drop)]
+#[derive(Clone, Copy)]
 pub enum Weighed {
     Light(u16),
     Heavy,
 }
 
 // A part's weight, and how many words it takes.
-#[derive(Drop)]
+#[derive(Clone, Copy)]
 pub enum Part {
     Is(u16, usize),
     TooHeavy,
 }
 
 // What to start with, and whether the weights of the parts behind a word are multiplied.
-#[derive(Drop)]
+#[derive(Clone, Copy)]
 pub enum Head {
     Parts(u16, bool),
     Swap,

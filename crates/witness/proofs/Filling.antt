@@ -1,6 +1,6 @@
 -- A row's cells are taken one after the other, and what each stands for is written.
 use borrow.Author.Tests.{lt-ltb, le-ltb}
-use mathlib.Core.Path.{◌≡◌, refl, ap, sym, ◌∙◌}
+use mathlib.Core.Path.{◌≡◌, refl, ap, sym, subst, ◌∙◌}
 use mathlib.Core.List.{List, [], ◌∷◌, ◌++◌, append_assoc, append-nil}
 use mathlib.Core.Bool.{true}
 use mathlib.Core.Option.{some}
@@ -64,8 +64,8 @@ module _ {t : List ℕ} (g : Known t) (k d : ℕ) (cs : List ℕ) (h : All (λ c
     cs = d ∷ cs;
     set_is = rw e f;
     some_head = refl;
-    within = rw e (within_all (first (heads g.sig k)) (heads g.sig k) (within_kind g k kind_here) h);
-    of_kind_k = λ c m. rw e (all_memb (λ x. memb x (heads g.sig k)) c (d ∷ cs) (all_self (d ∷ cs) (heads g.sig k) h) m);
+    within = subst (λ (z : ℕ). Within (first (heads g.sig z)) (d ∷ cs)) (sym e) (within_all (first (heads g.sig k)) (heads g.sig k) (within_kind g k kind_here) h);
+    of_kind_k = λ c m. subst (λ (z : ℕ). memb c (heads g.sig z) ≡ true) (sym e) (all_memb (λ x. memb x (heads g.sig k)) c (d ∷ cs) (all_self (d ∷ cs) (heads g.sig k) h) m);
     room = room;
   }
 

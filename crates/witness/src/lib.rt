@@ -1,4 +1,6 @@
 // A booking that two patterns share, as words.
+#![tactic(auto)]
+
 mod fill;
 pub mod lists;
 mod pair;

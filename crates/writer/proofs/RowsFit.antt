@@ -117,6 +117,7 @@ module _ (sig : Signature) where
 
     args_minus_kinded : {ks : List ℕ} (ps : Patterns) → AllWellFormed sig ks ps → All (λ rs. Kindeds rs ks) (args_minus sig ks ps)
     args_minus_kinded pnil well_nil = none_left
+    args_minus_kinded {ks = []} (pcons p ps) x = elim x [ ]
     args_minus_kinded {ks = k ∷ ks} (pcons p ps) (well_cons v w) = all_append (all_map (λ r. rcons r (open_rows sig ks)) (λ r g. (g, opens ks)) (minus_kinded p v)) (all_map (rcons (open_row sig k)) (λ rs h. ((among_self (heads sig k), none_left), h)) (args_minus_kinded ps w))
 
 -- variables that occur at most once

@@ -11,7 +11,7 @@ use rowset::set::{first_rows, lesser};
 use signature::decoded::DECODED;
 use tree::words::TREE_LIMIT;
 
-#[derive(Drop)]
+#[derive(Clone, Copy)]
 pub enum Written {
     Done(usize),
     TooLarge,

@@ -5,7 +5,8 @@ use std::collections::BTreeMap;
 
 const HEADER: &str = include_str!("../../include/bellgantlet.h");
 const RAW: &str = include_str!("../src/raw.rs");
-const EXPORTED: &str = include_str!("../../../crates/bellgantlet/src/lib.rt");
+const EXPORTED: &str = include_str!("../../../crates/bellgantlet_c/src/lib.rt");
+const STRUCTS: &str = include_str!("../../../crates/bellgantlet/src/lib.rt");
 const README: &str = include_str!("../../../README.md");
 
 /// A field or a parameter: its name and its type, as Rust writes it.
@@ -148,7 +149,7 @@ fn the_same_calls() {
     assert_eq!(header.len(), 14);
     let (link, _) = between(RAW, "extern \"C\" {", "\n    }");
     assert_eq!(functions(link, "pub fn ", ";", &structs(RAW)), header);
-    assert_eq!(functions(EXPORTED, "pub extern \"C\" fn ", "\n", &structs(EXPORTED)), header);
+    assert_eq!(functions(EXPORTED, "pub extern \"C\" fn ", "\n", &structs(STRUCTS)), header);
 }
 
 #[test]

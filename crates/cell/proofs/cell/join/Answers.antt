@@ -1,0 +1,10 @@
+use native.Mathlib.Omega.{arith}
+use Rattle.sets.proofs.ListSets.{union_is, intersection_is}
+use Rattle.cell.proofs.CursorFacts.{joined_is}
+use Rattle.cell.proofs.cell.join.Goals as goal
+
+pub returns-then-a-b : goal.returns-then-a-b
+returns-then-a-b c = let g = c.args in joined_is g.a g.b _ _ _ (omega arith) (union_is _ _ _ c.join-vars.ensures) (omega arith) (intersection_is _ _ _ c.meet-allowed.ensures)
+
+pub returns : goal.returns
+returns c = let g = c.args in joined_is g.a g.b _ _ _ (omega arith) (union_is _ _ _ c.join-vars.ensures) (omega arith) (intersection_is _ _ _ c.meet-allowed.ensures)

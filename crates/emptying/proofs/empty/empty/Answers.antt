@@ -1,0 +1,9 @@
+use native.Mathlib.Omega.{arith}
+use Rattle.emptying.proofs.Empties.{not_emptied, emptied}
+use Rattle.emptying.proofs.empty.empty.Goals as goal
+
+pub returns-then-table-lt-TABLE : goal.returns-then-table-lt-TABLE
+returns-then-table-lt-TABLE c = not_emptied c.args.table.now (omega (arith, c.if-table-lt-TABLE.true))
+
+pub returns : goal.returns
+returns c = emptied c.args.table.now (omega (arith, c.if-table-lt-TABLE.false)) c.clear.new.table c.clear.ensures

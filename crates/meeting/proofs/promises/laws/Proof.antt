@@ -1,7 +1,0 @@
--- `meeting::promises::laws` meets its contract. Assumes nothing.
-use Rattle.meeting.proofs.Laws.{laws}
-use Rattle.meeting.proofs.promises.laws.Statement.{statement}
-use Rattle.meeting.proofs.promises.laws.Tie as tie
-
-pub laws_spec : {M : Type 1} → statement M
-laws_spec = tie.close (tie.spec (λ c. laws))

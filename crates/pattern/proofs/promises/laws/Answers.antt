@@ -1,0 +1,5 @@
+use Rattle.pattern.proofs.Laws.{laws}
+use Rattle.pattern.proofs.promises.laws.Goals as goal
+
+pub returns : goal.returns
+returns c = laws

@@ -1,6 +1,0 @@
-use Rattle.row.proofs.Laws.{laws}
-use Rattle.row.proofs.promises.laws.Statement.{statement}
-use Rattle.row.proofs.promises.laws.Tie as tie
-
-pub laws_spec : {M : Type 1} → statement M
-laws_spec = tie.close (tie.spec (λ c. laws))

@@ -1,6 +1,0 @@
-use Rattle.stepping.proofs.Cases.{cases}
-use Rattle.stepping.proofs.promises.cases.Statement.{statement}
-use Rattle.stepping.proofs.promises.cases.Tie as tie
-
-pub cases_spec : {M : Type 1} → statement M
-cases_spec = tie.close (tie.spec (λ c. cases))

@@ -1,7 +1,0 @@
--- `values::promises::laws` meets its contract. Assumes nothing.
-use Rattle.values.proofs.Laws.{laws}
-use Rattle.values.proofs.promises.laws.Statement.{statement}
-use Rattle.values.proofs.promises.laws.Tie as tie
-
-pub laws_spec : {M : Type 1} → statement M
-laws_spec = tie.close (tie.spec (λ c. laws))

@@ -1,0 +1,12 @@
+use mathlib.Core.Path.{◌≡◌}
+use Prim.Native.Nat.{◌-◌}
+use lib.ListN.{length}
+use Rattle.witness.specs.Fill.{GivenRow}
+use Rattle.witness.proofs.Filling.{Mid, Now}
+use Rattle.witness.proofs.fill.fill.Given as goal
+
+abbrev pub invariant-loop-left : goal.invariant-loop-left
+invariant-loop-left l = (length l.out ≡ length l.initial.out) × ((g : GivenRow l.t l.row l.initial.out) → Now (Mid g l.i l.n l.left l.out))
+
+abbrev pub decreases-loop-left : goal.decreases-loop-left
+decreases-loop-left l = length l.row - l.i

@@ -1,7 +1,0 @@
--- `witness::promises::laws` meets its contract. Assumes nothing.
-use Rattle.witness.proofs.Laws.{laws}
-use Rattle.witness.proofs.promises.laws.Statement.{statement}
-use Rattle.witness.proofs.promises.laws.Tie as tie
-
-pub laws_spec : {M : Type 1} → statement M
-laws_spec = tie.close (tie.spec (λ c. laws))
