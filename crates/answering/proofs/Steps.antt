@@ -1,5 +1,6 @@
 -- One step of the text program after the other.
 use mathlib.Core.Path.{◌≡◌, refl, ap, ap₂, ◌∙◌, sym, subst}
+use mathlib.Core.Logic.{◌⊎◌, ⊎_elim}
 use mathlib.Core.List.{List, []}
 use mathlib.Core.Option.{some}
 use mathlib.Core.Bool.{true, false}
@@ -7,6 +8,7 @@ use Prim.Native.Nat.{ℕ, ◌+◌, ◌-◌, ◌≤◌}
 use native.Mathlib.Omega.{arith}
 use lib.ListN.{length, take, drop, length-drop}
 use lib.Seq.{drop-drop}
+use denote.Enum.Declared.{tag_of}
 use Rattle.signature.specs.Lists.{is_some}
 use Rattle.signature.specs.Read.{read_signature}
 use Rattle.booking.proofs.PartLaws.{missing, there as found}
@@ -18,6 +20,7 @@ use Rattle.table.specs.Rule.{Rule, add_rule}
 use Rattle.entry.specs.Entry.{entry_answer, Numbered}
 use Rattle.entry.specs.declared.sound.Entry.{Entry}
 use Rattle.entry.specs.declared.sound.Entry.TheVariants as entry
+use Rattle.entry.specs.contracts.sound.Entry.{the_type}
 use Rattle.text.specs.Format.{Text, read_text, after_key, key_sig, key_rule, key_book}
 use Rattle.text.specs.Limits.{list_limit}
 use Rattle.text.specs.Print.{printed, print_refused, print_answer}
@@ -48,6 +51,10 @@ not_0 : (y : Entry) → Numbered y → (y ≡ entry.Entered → ⊥) → (entry_
 not_0 entry.Entered h f z = f refl
 not_0 (entry.Refused n) h f z = omega (arith, h, z)
 not_0 (entry.Shares rule words) h f z = omega (arith, z)
+
+-- the enum taken apart: another variant than the first
+pub not_entered : (y : Entry) → (tag_of the_type y ≡ 1) ⊎ (tag_of the_type y ≡ 2) → y ≡ entry.Entered → ⊥
+not_entered y w e = ⊎_elim (λ z. let x : ◌≡◌ {A = ℕ} 0 1 = sym (ap (tag_of the_type) e) ∙ z in omega (arith, x)) (λ z. let x : ◌≡◌ {A = ℕ} 0 2 = sym (ap (tag_of the_type) e) ∙ z in omega (arith, x)) w
 
 -- the lines from an index on, as a part of the text
 module _ {text : List ℕ} {at : ℕ} {ss table : List ℕ} (r : Ready text at ss table) where
