@@ -19,6 +19,7 @@ use Rattle.pattern.specs.Linearity.{side_of, behind}
 use Rattle.pattern.specs.Pattern.{Pattern, Patterns, pnil, pcons, head, and, or, wild, absurd_pat, neg, var, range}
 use Rattle.pattern.specs.Ranged.{ranged, all_ranged}
 use Rattle.pattern.specs.Read.{Form, is_head, is_var, is_and, is_or, is_wild, is_absurd, is_not, is_range, is_other}
+use Rattle.pattern.specs.Word.{kind_behind}
 use Rattle.pattern.specs.Side.{Side, plus, minus}
 use Rattle.pattern.specs.Weight.{weight_plus, weight_minus, product_plus, sum_minus, light_plus, light_minus, light_all_plus, light_all_minus}
 use Rattle.pattern.specs.WellFormed.{WellFormed, AllWellFormed, well_head, well_and, well_or, well_not, well_nil, well_cons}
@@ -27,7 +28,7 @@ use Rattle.row.specs.Overlap.{any_plus, any_minus}
 use Rattle.builder.specs.Arguments.{lights_of}
 use Rattle.builder.specs.Build.{light_of}
 use Rattle.rowlist.proofs.Typing.{args_there}
-use Rattle.ambiguity.specs.Ambiguity.{ambiguous_of, has_vars, taken_twice, kind_behind, own_variable}
+use Rattle.ambiguity.specs.Ambiguity.{ambiguous_of, has_vars, taken_twice, own_variable}
 
 -- the side of the parts behind a word
 abbrev pub side_at : Bool → Form → Bool
@@ -135,7 +136,7 @@ module _ {t : List ℕ} (g : Known t) where
     pub there : All (λ j. j < g.decoded.n) ks
     pub light : lights_of (side_at b (shape p)) (inner p) ≡ true
     pub ranges : all_ranged (inner p) ≡ true
-    pub kinds : (i : ℕ) → i < length ks → kind_behind t k (shape p) i ≡ get_or ks i 0
+    pub kinds : (i : ℕ) → i < length ks → kind_behind t (shape p) k i ≡ get_or ks i 0
     pub ambiguous : ambiguous_of b g.sig k p ≡ ((has_vars b p && taken_twice b g.sig k p) || any_of (side_at b (shape p)) g.sig ks (inner p))
     pub vars : has_vars b p ≡ (own_variable b (shape p) || some_vars (side_at b (shape p)) (inner p))
 

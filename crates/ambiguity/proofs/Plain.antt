@@ -2,15 +2,12 @@
 use mathlib.Core.Path.{◌≡◌, refl, sym, ap, ◌∙◌}
 use mathlib.Core.List.{List, [], ◌∷◌, ◌++◌}
 use mathlib.Core.Bool.{Bool, true, false, not, ◌||◌}
-use Prim.Native.Nat.{ℕ, ◌+◌, ◌≤◌, ◌<◌}
-use native.Mathlib.Numerals.{add-one}
-use lib.ListN.{length, get_or, drop, drop_of_length-le}
-use lib.Seq.{drop-cons}
+use Prim.Native.Nat.{ℕ}
 use Rattle.signature.specs.Signature.{Signature, arguments}
 use Rattle.signature.proofs.Booleans.{and_false, not_true, or_left, or_right}
 use Rattle.signature.proofs.Tests.{true≢false}
 use Rattle.pattern.specs.Pattern.{Pattern, head, and, or, wild, absurd_pat, neg, var, range, Patterns, pnil, pcons, pattern_code, patterns_code}
-use Rattle.pattern.specs.Read.{Form, form}
+use Rattle.pattern.specs.Read.{form}
 use Rattle.row.specs.Overlap.{ambiguous_plus, ambiguous_minus, any_plus, any_minus}
 use Rattle.builder.specs.Build.{GivenWhole}
 use Rattle.ambiguity.specs.Ambiguity.{doubles, negates, may_double_at, may_double}
@@ -75,29 +72,3 @@ module _ (sig : Signature) where
 
 pub is_plain : {t ws : List ℕ} {n m : ℕ} (g : GivenWhole t ws n m) (r : Bool) → r ≡ may_double false ws → not r ≡ true → false ≡ ambiguous_plus g.known.sig 0 g.p
 is_plain g r d e = sym (plus g.known.sig 0 g.p (ap (may_double false) g.words.is_code ∙ sym d ∙ not_true r e))
-
--- one word
-module _ (f : Form) (b : Bool) where
-  pub doubled : doubles true f ≡ true → true ≡ may_double_at b f
-  doubled e = rw e
-
-  pub not_behind : doubles true f ≡ false → b ≡ false → false ≡ may_double_at b f
-  not_behind d e = rw (d, e)
-
-  pub behind_not : doubles true f ≡ false → b ≡ true → doubles false f ≡ may_double_at b f
-  behind_not d e = rw (d, e)
-
--- the loop over the words
-module _ (p : List ℕ) (b : Bool) (i : ℕ) (rest : may_double false p ≡ may_double b (drop i p)) where
-  pub none_left : length p ≤ i → false ≡ may_double false p
-  none_left h = rw (rest, drop_of_length-le p h)
-
-  module _ (h : i < length p) (f : Form) (f_is : f ≡ form (get_or p i 0)) (r : Bool) (r_is : r ≡ may_double_at b f) where
-    opened : may_double false p ≡ (r || may_double (b || negates f) (drop (i + 1) p))
-    opened = rw (rest, add-one, drop-cons p i 0 h, r_is, f_is)
-
-    pub found : r ≡ true → true ≡ may_double false p
-    found e = rw (opened, e)
-
-    pub other : r ≡ false → (n b' : Bool) → n ≡ negates f → b' ≡ (b || n) → may_double false p ≡ may_double b' (drop (i + 1) p)
-    other e n b' n_is b_is = rw (opened, e, b_is, n_is)

@@ -1,4 +1,5 @@
 -- The parts behind a word, one after the other.
+use Rattle.std.specs.Prelude.{Option, None, Some}
 use mathlib.Core.Path.{◌≡◌, refl, sym, ap, ap₂, subst, ◌∙◌}
 use mathlib.Core.List.{List, [], ◌∷◌, ◌++◌, append_assoc}
 use mathlib.Core.Bool.{Bool, true, false, ◌&&◌, ◌||◌}
@@ -17,15 +18,13 @@ use Rattle.pattern.specs.Pattern.{Pattern, head, and, or, wild, absurd_pat, neg,
 use Rattle.pattern.specs.Read.{Form, form}
 use Rattle.pattern.specs.WellFormed.{WellFormed, well_head, AllWellFormed, well_nil, well_cons}
 use Rattle.pattern.specs.Ranged.{all_ranged}
-use Rattle.pattern.specs.Word.{part_count, own_words}
+use Rattle.pattern.specs.Word.{part_count, own_words, kind_behind}
 use Rattle.pattern.proofs.Opened.{shape, inner, inner_length, kind_count, inner_count, shape_is, code_word, code_split, own_rest, behind_own}
 use Rattle.pattern.proofs.ReadSteps.{part, to_end}
 use Rattle.builder.specs.Arguments.{lights_of}
 use Rattle.builder.specs.Build.{GivenPart}
 use Rattle.builder.proofs.ArgSteps.{NextArg, next_arg}
-use Rattle.ambiguity.specs.Ambiguity.{ambiguous_of, has_vars, taken_twice, kind_behind, own_variable, Judged}
-use Rattle.ambiguity.specs.declared.ambiguous.Part.{Part}
-use Rattle.ambiguity.specs.declared.ambiguous.Part.TheVariants.{Clear, Ambiguous}
+use Rattle.ambiguity.specs.Ambiguity.{ambiguous_of, has_vars, taken_twice, own_variable, Judged}
 use Rattle.ambiguity.proofs.Behind.{side_at, side_is, any_of, any_cons, any_none, some_vars, parts_behind}
 
 abbrev pub as_opens : {t : List ℕ} {k : ℕ} {w : List ℕ} {b : Bool} {n m : ℕ} (g : GivenPart t k w b n m) → Opens t w
@@ -40,7 +39,7 @@ module _ {t : List ℕ} {k : ℕ} {w : List ℕ} {b : Bool} {n m : ℕ} (g : Giv
     pub there : All (λ i. i < g.known.decoded.n) ks
     pub light : lights_of s ps ≡ true
     pub ranges : all_ranged ps ≡ true
-    pub kinds : (i : ℕ) → i < length ks → kind_behind t k f (j + i) ≡ get_or ks i 0
+    pub kinds : (i : ℕ) → i < length ks → kind_behind t f k (j + i) ≡ get_or ks i 0
     pub many : length ks ≡ left
     pub words : drop at w ≡ patterns_code ps ++ g.rest
     pub ends : at + length (patterns_code ps) ≡ length (pattern_code g.pattern)
@@ -60,7 +59,7 @@ module _ {t : List ℕ} {k : ℕ} {w : List ℕ} {b : Bool} {n m : ℕ} (g : Giv
         there = q.there;
         light = subst (λ x. lights_of x (inner g.pattern) ≡ true) (sym i) q.light;
         ranges = q.ranges;
-        kinds = λ j l. ap₂ (λ x y. kind_behind t k x y) z (omega arith) ∙ q.kinds j l;
+        kinds = λ j l. ap₂ (λ x y. kind_behind t x k y) z (omega arith) ∙ q.kinds j l;
         many = sym (kind_count g.known.sig q.well) ∙ inner_count g.known g.well ∙ ap (part_count t) (sym z) ∙ omega (arith, m);
         words = ap (λ x. drop (own_words x) w) z ∙ ap (drop (own_words (shape g.pattern))) (g.words ∙ ap (λ x. x ++ g.rest) (code_split g.pattern) ∙ ap (λ x. code_word g.pattern ∷ x) (append_assoc (own_rest g.pattern) (patterns_code (inner g.pattern)) g.rest)) ∙ behind_own g.pattern (code_word g.pattern) (patterns_code (inner g.pattern) ++ g.rest);
         ends = ap (λ x. own_words x + length (patterns_code (inner g.pattern))) z ∙ inner_length g.pattern;
@@ -93,9 +92,9 @@ module _ {t : List ℕ} {k : ℕ} {w : List ℕ} {b : Bool} {n m : ℕ} (g : Giv
   words_are : drop at w ≡ pattern_code view.p ++ (patterns_code view.qs ++ g.rest)
   words_are = l.words ∙ ap (λ z. patterns_code z ++ g.rest) view.parts_are ∙ append_assoc (pattern_code view.p) (patterns_code view.qs) g.rest
 
-  module _ (kind : ℕ) (e : kind ≡ kind_behind t k f j) where
+  module _ (kind : ℕ) (e : kind ≡ kind_behind t f k j) where
     kind_is : kind ≡ first_kind
-    kind_is = e ∙ ap (kind_behind t k f) (omega arith) ∙ l.kinds 0 some
+    kind_is = e ∙ ap (kind_behind t f k) (omega arith) ∙ l.kinds 0 some
 
     abbrev given : (n' m' : ℕ) → n' ≡ n → m' ≡ m → GivenPart t first_kind (part w at) s n' m'
     given n' m' i i' = record {
@@ -115,21 +114,21 @@ module _ {t : List ℕ} {k : ℕ} {w : List ℕ} {b : Bool} {n m : ℕ} (g : Giv
     pub part_given : (n' m' : ℕ) → n' ≡ n → m' ≡ m → GivenPart t kind (part w at) s n' m'
     part_given n' m' i i' = subst (λ z. GivenPart t z (part w at) s n' m') (sym kind_is) (given n' m' i i')
 
-    module _ (n' m' : ℕ) (i : n' ≡ n) (i' : m' ≡ m) (r : Part) (gave : (o : GivenPart t kind (part w at) s n' m') → Judged s o.known.sig kind o.pattern r) where
-      said : Judged s g.known.sig first_kind view.p r
-      said = subst (λ z. (o : GivenPart t z (part w at) s n' m') → Judged s o.known.sig z o.pattern r) kind_is gave (given n' m' i i')
+    module _ (n' m' : ℕ) (i : n' ≡ n) (i' : m' ≡ m) where
+      said : (r : Option (Bool × ℕ)) → ((o : GivenPart t kind (part w at) s n' m') → Judged s o.known.sig kind o.pattern r) → Judged s g.known.sig first_kind view.p r
+      said r gave = subst (λ z. (o : GivenPart t z (part w at) s n' m') → Judged s o.known.sig z o.pattern r) kind_is gave (given n' m' i i')
 
       any_first : any_of s g.known.sig l.ks l.ps ≡ (ambiguous_of s g.known.sig first_kind view.p || any_of s g.known.sig (drop 1 l.ks) view.qs)
       any_first = ap₂ (λ x y. any_of s g.known.sig x y) view.kinds_are view.parts_are ∙ any_cons s g.known.sig first_kind (drop 1 l.ks) view.p view.qs
 
-      pub turn_ambiguous : r ≡ Ambiguous → Judged b g.known.sig k g.pattern Ambiguous
-      turn_ambiguous z =
-          let h : ambiguous_of s g.known.sig first_kind view.p ≡ true = subst (Judged s g.known.sig first_kind view.p) z said in
+      pub turn_ambiguous : ((o : GivenPart t kind (part w at) s n' m') → Judged s o.known.sig kind o.pattern None) → Judged b g.known.sig k g.pattern None
+      turn_ambiguous gave =
+          let h : ambiguous_of s g.known.sig first_kind view.p ≡ true = said None gave in
           l.ambiguous ∙ ap (λ x. (has_vars b g.pattern && taken_twice b g.known.sig k g.pattern) || x) (any_first ∙ ap (λ x. x || any_of s g.known.sig (drop 1 l.ks) view.qs) h) ∙ or_true (has_vars b g.pattern && taken_twice b g.known.sig k g.pattern)
 
-      module _ (v : Bool) (used : ℕ) (z : r ≡ Clear v used) where
-        so : Judged s g.known.sig first_kind view.p (Clear v used)
-        so = subst (Judged s g.known.sig first_kind view.p) z said
+      module _ (v : Bool) (used : ℕ) (gave : (o : GivenPart t kind (part w at) s n' m') → Judged s o.known.sig kind o.pattern (Some (v, used))) where
+        so : Judged s g.known.sig first_kind view.p (Some (v, used))
+        so = said (Some (v, used)) gave
 
         pub part_le : at + used ≤ length w
         part_le = omega (arith, so.2, size, l.ends, simp length-append at (ap length g.words))
@@ -142,7 +141,7 @@ module _ {t : List ℕ} {k : ℕ} {w : List ℕ} {b : Bool} {n m : ℕ} (g : Giv
           there = view.theres;
           light = view.lights;
           ranges = view.ranges.1;
-          kinds = λ x y. ap (kind_behind t k f) (omega arith) ∙ l.kinds (suc x) (omega (arith, y, length-drop 1 l.ks)) ∙ next_kind l.ks x;
+          kinds = λ x y. ap (kind_behind t f k) (omega arith) ∙ l.kinds (suc x) (omega (arith, y, length-drop 1 l.ks)) ∙ next_kind l.ks x;
           many = length-drop 1 l.ks ∙ omega (arith, l.many);
           words = sym (drop-drop used at w) ∙ ap (drop used) words_are ∙ drop_at (pattern_code view.p) (patterns_code view.qs ++ g.rest) used (sym so.2);
           ends = omega (arith, l.ends, size, so.2);
@@ -178,10 +177,10 @@ module _ {t : List ℕ} {k : ℕ} {w : List ℕ} {b : Bool} {n m : ℕ} (g : Giv
     is_q : ambiguous_of b g.known.sig k g.pattern ≡ q
     is_q = itself ∙ ap (λ x. x && taken_twice b g.known.sig k g.pattern) (sym vars_so) ∙ sym h
 
-    pub ends_ambiguous : q ≡ true → Judged b g.known.sig k g.pattern Ambiguous
+    pub ends_ambiguous : q ≡ true → Judged b g.known.sig k g.pattern None
     ends_ambiguous e = is_q ∙ e
 
-    pub ends_clear : q ≡ false → Judged b g.known.sig k g.pattern (Clear vars at)
+    pub ends_clear : q ≡ false → Judged b g.known.sig k g.pattern (Some (vars, at))
     ends_clear e = (is_q ∙ e, vars_so, ends_at)
 
 module _ {t : List ℕ} {k : ℕ} {w : List ℕ} {b : Bool} {n m : ℕ} (g : GivenPart t k w b n m) where

@@ -65,36 +65,14 @@ module _ (sig : Signature) (k : ℕ) where
   two_of b (var x) w l y e = true≢false (sym e)
   two_of b (range low high) w l y e = true≢false (sym e)
 
-  single : (b : Bool) (p : Pattern) → doubles b (shape p) ≡ false → taken_twice b sig k p ≡ false
-  single b (head c ps) e = refl
-  single true (and p q) e = refl
-  single false (and p q) e = true≢false e
-  single true (or p q) e = true≢false e
-  single false (or p q) e = refl
-  single b wild e = refl
-  single b absurd_pat e = refl
-  single b (neg p) e = refl
-  single b (var x) e = refl
-  single b (range low high) e = refl
-
 module _ {t : List ℕ} {k : ℕ} {w : List ℕ} {b : Bool} {n m : ℕ} (g : GivenPart t k w b n m) where
   pub some_word : 1 ≤ length w
   some_word = word_there (as_opens g)
 
   module _ (vars : Bool) where
-    pub no_variable : vars ≡ false → false ≡ (vars && taken_twice b g.known.sig k g.pattern)
-    no_variable h = sym (ap (λ x. x && taken_twice b g.known.sig k g.pattern) h)
-
     module _ (f : Form) (f_is : f ≡ form (get_or w 0 0)) (q : Bool) (q_is : q ≡ doubles b f) where
       by_shape : q ≡ doubles b (shape g.pattern)
       by_shape = q_is ∙ ap (doubles b) (shape_is (as_opens g) f f_is)
-
-      pub not_double : q ≡ false → false ≡ (vars && taken_twice b g.known.sig k g.pattern)
-      not_double e = sym (ap (λ x. vars && x) (single g.known.sig k b g.pattern (sym by_shape ∙ e)) ∙ nothing vars)
-        where
-          nothing : (a : Bool) → (a && false) ≡ false
-          nothing true = refl
-          nothing false = refl
 
       module _ (e : q ≡ true) where
         abbrev two : TwoOf g.known.sig k b g.pattern

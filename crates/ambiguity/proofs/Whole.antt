@@ -1,23 +1,19 @@
 -- The whole pattern.
-use mathlib.Core.Path.{◌≡◌, sym, subst}
+use Rattle.std.specs.Prelude.{Option, None, Some, is_some}
+use mathlib.Core.Path.{◌≡◌, sym}
 use mathlib.Core.List.{List}
-use mathlib.Core.Bool.{Bool, true, false}
+use mathlib.Core.Bool.{Bool, true, false, not}
 use Prim.Native.Nat.{ℕ}
+use Rattle.signature.proofs.Tests.{true≢false}
 use Rattle.row.specs.Overlap.{ambiguous_plus}
 use Rattle.builder.proofs.Whole.{whole_given}
 use Rattle.builder.specs.Build.{GivenWhole, GivenPart}
 use Rattle.ambiguity.specs.Ambiguity.{Judged}
-use Rattle.ambiguity.specs.declared.ambiguous.Part.{Part}
-use Rattle.ambiguity.specs.declared.ambiguous.Part.TheVariants.{Clear, Ambiguous}
 
 module _ {t ws : List ℕ} {n m : ℕ} (g : GivenWhole t ws n m) where
-  module _ (r : Part) (gave : (o : GivenPart t 0 ws true n m) → Judged true o.known.sig 0 o.pattern r) where
-    said : Judged true g.known.sig 0 g.p r
-    unfolding whole_given
-    said = gave (whole_given g)
-
-    pub is_clear : (vars : Bool) (used : ℕ) → r ≡ Clear vars used → false ≡ ambiguous_plus g.known.sig 0 g.p
-    is_clear vars used e = sym (subst (Judged true g.known.sig 0 g.p) e said).0
-
-    pub is_ambiguous : r ≡ Ambiguous → true ≡ ambiguous_plus g.known.sig 0 g.p
-    is_ambiguous e = sym (subst (Judged true g.known.sig 0 g.p) e said)
+  pub whole_told : (r : Option (Bool × ℕ)) → ((o : GivenPart t 0 ws true n m) → Judged true o.known.sig 0 o.pattern r) → (b : Bool) → is_some r ≡ not b → b ≡ ambiguous_plus g.known.sig 0 g.p
+  unfolding whole_given
+  whole_told (Some r) gave false e = sym (gave (whole_given g)).0
+  whole_told (Some r) gave true e = true≢false e
+  whole_told None gave true e = sym (gave (whole_given g))
+  whole_told None gave false e = true≢false (sym e)

@@ -1,6 +1,5 @@
 -- Ambiguity (10) in the code's terms: of a part at a side.
-use Rattle.std.specs.Prelude.{◌≡◌, List, [], ◌∷◌, Bool, true, false, not, ◌&&◌, ◌||◌, ℕ, length}
-use Rattle.signature.specs.Decoded.{argument_of}
+use Rattle.std.specs.Prelude.{◌≡◌, List, [], ◌∷◌, Bool, true, false, not, ◌&&◌, ◌||◌, ℕ, length, Option, None, Some}
 use Rattle.signature.specs.Lists.{is_empty}
 use Rattle.signature.specs.Signature.{Signature}
 use Rattle.pattern.specs.Linearity.{side_of, vars_at}
@@ -8,8 +7,6 @@ use Rattle.pattern.specs.Pattern.{Pattern, head, and, or, wild, absurd_pat, neg,
 use Rattle.pattern.specs.Read.{Form, form, is_head, is_var, is_and, is_or, is_wild, is_absurd, is_not, is_range, is_other}
 use Rattle.row.specs.Overlap.{ambiguous_plus, ambiguous_minus}
 use Rattle.ambiguity.specs.Parts.{meets}
-use Rattle.ambiguity.specs.declared.ambiguous.Part.{Part}
-use Rattle.ambiguity.specs.declared.ambiguous.Part.TheVariants.{Clear, Ambiguous}
 
 abbrev pub ambiguous_of : Bool → Signature → ℕ → Pattern → Bool
 ambiguous_of true sig k p = ambiguous_plus sig k p
@@ -62,18 +59,6 @@ abbrev pub may_double : Bool → List ℕ → Bool
 may_double b [] = false
 may_double b (w ∷ ws) = may_double_at b (form w) || may_double (b || negates (form w)) ws
 
--- t is the table of a signature: the kind of the j-th part behind a word at a place of kind k
-abbrev pub kind_behind : List ℕ → ℕ → Form → ℕ → ℕ
-kind_behind t k (is_head c) j = argument_of t c j
-kind_behind t k (is_var x) j = k
-kind_behind t k is_and j = k
-kind_behind t k is_or j = k
-kind_behind t k is_wild j = k
-kind_behind t k is_absurd j = k
-kind_behind t k is_not j = k
-kind_behind t k is_range j = k
-kind_behind t k is_other j = k
-
 -- a word's own variable: at the plus side only
 abbrev pub own_variable : Bool → Form → Bool
 own_variable b (is_head c) = false
@@ -86,7 +71,7 @@ own_variable b is_not = false
 own_variable b is_range = false
 own_variable b is_other = false
 
--- what is answered of a part
-abbrev pub Judged : Bool → Signature → ℕ → Pattern → Part → Type 0
-Judged b sig k p (Clear vars used) = (ambiguous_of b sig k p ≡ false) × (vars ≡ has_vars b p) × (used ≡ length (pattern_code p))
-Judged b sig k p Ambiguous = ambiguous_of b sig k p ≡ true
+-- what is answered of a part: whether it has variables, and how many words it takes
+abbrev pub Judged : Bool → Signature → ℕ → Pattern → Option (Bool × ℕ) → Type 0
+Judged b sig k p (Some r) = (ambiguous_of b sig k p ≡ false) × (r.0 ≡ has_vars b p) × (r.1 ≡ length (pattern_code p))
+Judged b sig k p None = ambiguous_of b sig k p ≡ true

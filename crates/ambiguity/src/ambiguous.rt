@@ -1,45 +1,20 @@
 // Whether some part of a pattern, at the side on which it stands, is ambiguous (refusal 10).
-ghost use Rattle.std.specs.Prelude.{◌≡◌, false, ◌&&◌, ◌||◌, length, ◌<◌};
-ghost use Rattle.signature.specs.Decoded.{decoded_length};
-ghost use Rattle.signature.specs.Limits.{argument_limit};
-ghost use Rattle.pattern.specs.Word.{form_of, head_small};
+ghost use Rattle.std.specs.Prelude.{◌≡◌, false, ◌&&◌, length};
+ghost use Rattle.pattern.specs.Word.{form_of};
 ghost use Rattle.row.specs.Overlap.{ambiguous_plus};
-ghost use Rattle.ambiguity.specs.Ambiguity.{may_double, may_double_at, negates, doubles, taken_twice, kind_behind, own_variable, Judged};
+ghost use Rattle.ambiguity.specs.Ambiguity.{may_double, may_double_at, negates, doubles, taken_twice, own_variable, Judged};
 ghost use Rattle.builder.specs.Build.{GivenPart, GivenWhole};
 
 use crate::both::both;
-use pattern::token::{Word, classify, own_words, parts, side_behind};
-use signature::decoded::argument_of;
-
-// Whether a part has variables at its side, and how many words it takes; or that it, or a part of it, is ambiguous.
-#[derive(Clone, Copy)]
-pub enum Part {
-    Clear(bool, usize),
-    Ambiguous,
-}
-
-fn either(a: bool, b: bool) -> bool
-    ensures { result ≡ (a || b) }
-{
-    if a {
-        return true;
-    }
-    b
-}
+use pattern::token::{Word, classify, own_words, part_kind, parts, side_behind};
+use signature::decoded::wide;
 
 fn is_variable(w: Word, plus: bool) -> bool
     ensures { result ≡ own_variable plus (form_of w) }
 {
     match w {
-        Word::Head(_c) => false,
-        Word::And => false,
-        Word::Or => false,
-        Word::Wild => false,
-        Word::Absurd => false,
-        Word::Not => false,
         Word::Var(_x) => plus,
-        Word::Range => false,
-        Word::Other => false,
+        _ => false,
     }
 }
 
@@ -48,15 +23,9 @@ fn is_double(w: Word, plus: bool) -> bool
     ensures { result ≡ doubles plus (form_of w) }
 {
     match w {
-        Word::Head(_c) => false,
         Word::And => !plus,
         Word::Or => plus,
-        Word::Wild => false,
-        Word::Absurd => false,
-        Word::Not => false,
-        Word::Var(_x) => false,
-        Word::Range => false,
-        Word::Other => false,
+        _ => false,
     }
 }
 
@@ -64,30 +33,14 @@ fn is_double(w: Word, plus: bool) -> bool
 fn is_not(w: Word) -> bool
     ensures { result ≡ negates (form_of w) }
 {
-    match w {
-        Word::Head(_c) => false,
-        Word::And => false,
-        Word::Or => false,
-        Word::Wild => false,
-        Word::Absurd => false,
-        Word::Not => true,
-        Word::Var(_x) => false,
-        Word::Range => false,
-        Word::Other => false,
-    }
+    matches!(w, Word::Not)
 }
 
 // Whether a value may be taken twice behind a word, on the plus side, or below a "not" on either.
 fn may_double_at(w: Word, below: bool) -> bool
     ensures { result ≡ may_double_at below (form_of w) }
 {
-    if is_double(w, true) {
-        return true;
-    }
-    if below {
-        return is_double(w, false);
-    }
-    false
+    is_double(w, true) || (below && is_double(w, false))
 }
 
 // Whether some word is one of these; a pattern without them is not ambiguous.
@@ -95,34 +48,14 @@ fn may_double(p: &[u16]) -> bool
     ensures { result ≡ may_double false p.now }
 {
     let mut below = false;
-    let mut i = 0;
-    while i < p.len() {
-        let w = classify(p[i]);
+    for word in p {
+        let w = classify(*word);
         if may_double_at(w, below) {
             return true;
         }
-        below = either(below, is_not(w));
-        i += 1;
+        below |= is_not(w);
     }
     false
-}
-
-// The kind of the j-th part behind a word at a place of kind k.
-fn part_kind(t: &[u16], w: Word, k: usize, j: usize) -> usize
-    requires { (length t.now ≡ decoded_length) × head_small (form_of w) × (j < argument_limit) }
-    ensures { result ≡ kind_behind t.now k (form_of w) j }
-{
-    match w {
-        Word::Head(c) => argument_of(t, c as usize, j) as usize,
-        Word::And => k,
-        Word::Or => k,
-        Word::Wild => k,
-        Word::Absurd => k,
-        Word::Not => k,
-        Word::Var(_x) => k,
-        Word::Range => k,
-        Word::Other => k,
-    }
 }
 
 // Whether the pattern in front of p is ambiguous by itself: it has variables, and a value is taken twice.
@@ -149,7 +82,7 @@ fn twice(
     both(t, k, &p[own..], plus, out, work)
 }
 
-// The pattern in front of p, of kind k, at a side.
+// Whether the pattern in front of p, of kind k, has variables at a side, and how many words it takes; none if it, or a part of it, is ambiguous.
 fn ambiguous_at(
     t: &[u16],
     k: usize,
@@ -157,7 +90,7 @@ fn ambiguous_at(
     plus: bool,
     out: &mut [u64],
     work: &mut [u64],
-) -> Part
+) -> Option<(bool, usize)>
     requires { GivenPart t.now k p.now plus (length out.old) (length work.old) }
     ensures { (g : GivenPart t.now k p.now plus (length out.old) (length work.old)) → Judged plus g.known.sig k g.pattern result }
 {
@@ -166,20 +99,16 @@ fn ambiguous_at(
     let side = side_behind(w, plus);
     let mut vars = is_variable(w, plus);
     let mut at = own_words(w);
-    let mut i = 0;
-    while i < count {
-        let kind = part_kind(t, w, k, i);
-        let Part::Clear(more, used) = ambiguous_at(t, kind, &p[at..], side, out, work) else {
-            return Part::Ambiguous;
-        };
-        vars = either(vars, more);
+    for i in 0..count {
+        let kind = wide(part_kind(t, w, k as u16, i));
+        let (more, used) = ambiguous_at(t, kind, &p[at..], side, out, work)?;
+        vars |= more;
         at += used;
-        i += 1;
     }
     if twice(t, k, p, plus, vars, out, work) {
-        return Part::Ambiguous;
+        return None;
     }
-    Part::Clear(vars, at)
+    Some((vars, at))
 }
 
 // Whether a pattern past 7, 18, 8 and 9 is ambiguous.
@@ -190,9 +119,5 @@ pub fn ambiguous(t: &[u16], p: &[u16], out: &mut [u64], work: &mut [u64]) -> boo
     if !may_double(p) {
         return false;
     }
-    let r = ambiguous_at(t, 0, p, true, out, work);
-    match r {
-        Part::Clear(_vars, _used) => false,
-        Part::Ambiguous => true,
-    }
+    ambiguous_at(t, 0, p, true, out, work).is_none()
 }

@@ -11,11 +11,11 @@ use decoding::decode::decode;
 use emptying::empty::empty;
 use entering::enter::WITNESS;
 use format::whole::keeps_format;
-use lines::line::{CountLine, LIST_LIMIT, list_line};
+use lines::line::{LIST_LIMIT, list_line};
 use printing::print;
 use printing::print::PRINT_LIMIT;
 use signature::decoded::DECODED;
-use signature::refusals::{FORMAT_BROKEN, SIGNATURE_UNLAWFUL};
+use signature::refusals::Refusal;
 use store::layout::TABLE;
 
 // The program over lent workspaces.
@@ -32,17 +32,17 @@ fn answer_in(
     ensures { Printed (printed text.now) result out.old out.new }
 {
     if !keeps_format(text) {
-        return print::refused(FORMAT_BROKEN, out);
+        return print::refused(Refusal::FormatBroken as u16, out);
     }
-    let CountLine::Is { count: n, used: at } = list_line(text, b"sig=", words) else {
-        return print::refused(FORMAT_BROKEN, out);
+    let Some(sig) = list_line(text, b"sig=", words) else {
+        return print::refused(Refusal::FormatBroken as u16, out);
     };
-    let ss = &words[..n];
+    let ss = &words[..sig.count];
     if !decode(ss, decoded) {
-        return print::refused(SIGNATURE_UNLAWFUL, out);
+        return print::refused(Refusal::SignatureUnlawful as u16, out);
     }
-    empty(table);
-    enter_rules(text, at, ss, table, space, witness, out)
+    let _ = empty(table); // long enough, so never refused
+    enter_rules(text, sig.used, ss, table, space, witness, out)
 }
 
 // What is printed stands first in out, the rest is untouched; how many bytes.

@@ -13,18 +13,17 @@ use deciding::decide::decide;
 use entering::enter::enter;
 use entry::sound::Entry;
 use lines::line;
-use lines::line::{CountLine, RuleLines};
 use numbers::bytes;
 use printing::print;
-use signature::refusals::{FORMAT_BROKEN, SHARED};
+use signature::refusals::Refusal;
 
 fn entry_number(e: Entry) -> u16
     ensures { result ≡ (entry_answer e).number }
 {
     match e {
         Entry::Entered => 0,
-        Entry::Refused(n) => n,
-        Entry::Shares(_rule, _length) => SHARED,
+        Entry::Refused(r) => u16::from(r),
+        Entry::Shares(_rule, _length) => Refusal::Shared as u16,
     }
 }
 
@@ -40,15 +39,13 @@ fn decide_booking(
     requires { Ready text.now at ss.now table.now × (false ≡ is_some (after_key key_rule (drop at text.now))) × (list_limit ≤ length space.old) × (print_limit ≤ length out.old) }
     ensures { Printed (printed text.now) result out.old out.new }
 {
-    let CountLine::Is { count: n, used: _ } = line::list_line(&text[at..], b"book=", space) else {
-        return print::refused(FORMAT_BROKEN, out);
+    let Some(book) = line::list_line(&text[at..], b"book=", space) else {
+        return print::refused(Refusal::FormatBroken as u16, out);
     };
-    let a = decide(ss, table, &space[..n]);
-    if a.number > 0 {
-        return print::refused(a.number, out);
+    match decide(ss, table, &space[..book.count]) {
+        Err(r) => print::refused(u16::from(r), out),
+        Ok(a) => print::answer(a.rule, a.plan, &a.places, out),
     }
-    let places = a.places;
-    print::answer(a.rule, a.plan, &places, out)
 }
 
 // Rules from an index on, in order; the first refusal is all that is printed. Then the booking.
@@ -66,20 +63,15 @@ pub fn enter_rules(
 {
     let mut at = from;
     while bytes::starts(&text[at..], b"rule=") {
-        let RuleLines::Is {
-            number: n,
-            plan: p,
-            count: m,
-            used: u,
-        } = line::rule_lines(&text[at..], space)
-        else {
-            return print::refused(FORMAT_BROKEN, out);
+        let Some(rule) = line::rule_lines(&text[at..], space) else {
+            return print::refused(Refusal::FormatBroken as u16, out);
         };
-        let e = enter(ss, n, p, &space[..m], table, witness);
+        let pattern = &space[..rule.count];
+        let e = enter(ss, rule.number, rule.plan, pattern, table, witness);
         let Entry::Entered = e else {
             return print::refused(entry_number(e), out);
         };
-        at += u;
+        at += rule.used;
     }
     decide_booking(text, at, ss, table, space, out)
 }

@@ -16,14 +16,29 @@ use Rattle.signature.proofs.PartFacts.{part_given, part_refused_16}
 use Rattle.signature.proofs.Tests.{eqb_no}
 use Rattle.signature.proofs.Values.{length_code, some_size}
 use Rattle.table.specs.Limits.{limits}
-use Rattle.table.specs.Calls.{Enter}
+use Rattle.table.specs.Calls.{Enter, DecideCall}
 use Rattle.entry.specs.Entry.{entry_answer}
 use Rattle.entry.specs.declared.sound.Entry.{Entry}
-use Rattle.bellgantlet.specs.Answers.{PartCall}
+use Rattle.std.specs.Prelude.{Result}
+use Rattle.signature.specs.Refusal.{number_in}
+use Rattle.signature.specs.declared.refusals.Refusal.{Refusal}
+use Rattle.tree.specs.RunCall.{RunCall}
+use Rattle.run.specs.Outcome.{ran_answer}
+use Rattle.run.specs.declared.Answer.{Answer as Given}
+use Rattle.bellgantlet.specs.Answers.{PartCall, host_answer}
+use Rattle.bellgantlet.specs.declared.Answer.{Answer as HostAnswer}
 
 -- an entry's answer, by its case
 pub by_case : (ss : List ℕ) (n plan : ℕ) (ws before witness : List ℕ) (e e' : Entry) (after witness' : List ℕ) → e ≡ e' → Enter limits ss n plan ws before witness (entry_answer e) after witness' → Enter limits ss n plan ws before witness (entry_answer e') after witness'
 by_case ss n plan ws before witness e e' after witness' p h = subst (λ z. Enter limits ss n plan ws before witness (entry_answer z) after witness') p h
+
+-- an answer of a decision or a run, by its struct
+module _ (r : Result Given Refusal) (a : HostAnswer) (s : (a.number ≡ number_in r) × (host_answer a ≡ ran_answer r)) where
+  pub as_decided : (ss table bs : List ℕ) → DecideCall limits ss table bs (number_in r) (ran_answer r) → DecideCall limits ss table bs a.number (host_answer a)
+  as_decided ss table bs h = subst (λ n. DecideCall limits ss table bs n (host_answer a)) (sym s.0) (subst (λ x. DecideCall limits ss table bs (number_in r) x) (sym s.1) h)
+
+  pub as_run : (ss tree bs : List ℕ) → RunCall ss tree bs (number_in r) (ran_answer r) → RunCall ss tree bs a.number (host_answer a)
+  as_run ss tree bs h = subst (λ n. RunCall ss tree bs n (host_answer a)) (sym s.0) (subst (λ x. RunCall ss tree bs (number_in r) x) (sym s.1) h)
 
 -- on a refusal the part is empty
 none_16 : (b : Bool) (ws : List ℕ) → ((cond {A = ℕ × List ℕ} b (0, ws) (16, [])).0 ≡ 0 → ⊥) → (cond {A = ℕ × List ℕ} b (0, ws) (16, [])).1 ≡ []

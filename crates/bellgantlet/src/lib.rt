@@ -4,6 +4,8 @@
 pub mod promises;
 
 ghost use Rattle.std.specs.Prelude.{◌≡◌};
+ghost use Rattle.signature.specs.Refusal.{number_in};
+ghost use Rattle.run.specs.Outcome.{ran_answer};
 ghost use Rattle.stepping.specs.State.{begin_state, step_state, refusal_in, end_number};
 ghost use Rattle.tree.specs.RunCall.{RunCall};
 ghost use Rattle.table.specs.Limits.{limits};
@@ -24,11 +26,13 @@ use gap::gap;
 use pattern::limits::VARIABLES;
 use replanning::replan;
 use run::run;
-use signature::refusals::SHARED;
+use signature::refusals;
+use signature::refusals::Refusal;
 use stepping::begin::begin;
 use stepping::end::end;
 use stepping::state::STATE;
 use stepping::step::step;
+use withdrawing::withdraw;
 
 // On 12 the rule that shares a booking and the length of the booking.
 #[repr(C)]
@@ -63,6 +67,30 @@ pub struct Answer {
     pub places: [u16; VARIABLES],
 }
 
+impl From<Result<run::Answer, Refusal>> for Answer {
+    ghost from_gives = { λ r a. (a.number ≡ number_in r) × (host_answer a ≡ ran_answer r) };
+
+    fn from(r: Result<run::Answer, Refusal>) -> Answer {
+        match r {
+            Ok(a) => {
+                let places = a.places;
+                Answer {
+                    number: 0,
+                    rule: a.rule,
+                    plan: a.plan,
+                    places,
+                }
+            }
+            Err(q) => Answer {
+                number: u16::from(q),
+                rule: 0,
+                plan: 0,
+                places: [0; VARIABLES],
+            },
+        }
+    }
+}
+
 // The part of a booking: where it begins, and its length.
 #[repr(C)]
 #[derive(Clone, Copy)]
@@ -92,7 +120,7 @@ pub struct Replanned {
 pub fn bellgantlet_empty(table: &mut [u16]) -> u16
     ensures { Empty limits table.old result table.new }
 {
-    empty(table)
+    refusals::number(&empty(table))
 }
 
 pub fn bellgantlet_enter(
@@ -112,14 +140,14 @@ pub fn bellgantlet_enter(
             rule: 0,
             length: 0,
         },
-        Entry::Refused(n) => Entered {
-            number: n,
+        Entry::Refused(r) => Entered {
+            number: u16::from(r),
             rule: 0,
             length: 0,
         },
         Entry::Shares(rule, words) => Entered {
-            number: SHARED,
-            rule: rule,
+            number: Refusal::Shared as u16,
+            rule,
             length: words,
         },
     }
@@ -128,59 +156,53 @@ pub fn bellgantlet_enter(
 pub fn bellgantlet_withdraw(signature: &[u16], number: u16, table: &mut [u16]) -> u16
     ensures { Withdraw limits signature.now number table.old result table.new }
 {
-    withdrawing::withdraw(signature, number, table)
+    refusals::number(&withdraw(signature, number, table))
 }
 
 pub fn bellgantlet_set_default(signature: &[u16], plan: u16, table: &mut [u16]) -> u16
     ensures { SetDefault limits signature.now plan table.old result table.new }
 {
-    set_default(signature, plan, table)
+    refusals::number(&set_default(signature, plan, table))
 }
 
 pub fn bellgantlet_compile(signature: &[u16], table: &[u16], space: &mut [u16]) -> Tree
     ensures { Compile limits signature.now table.now space.old result.number result.length space.new }
 {
-    let c = compile(signature, table, space);
-    Tree {
-        number: c.number,
-        length: c.len,
+    match compile(signature, table, space) {
+        Ok(length) => Tree { number: 0, length },
+        Err(r) => Tree {
+            number: u16::from(r),
+            length: 0,
+        },
     }
 }
 
 pub fn bellgantlet_decide(signature: &[u16], table: &[u16], booking: &[u16]) -> Answer
     ensures { DecideCall limits signature.now table.now booking.now result.number (host_answer result) }
 {
-    let a = decide(signature, table, booking);
-    let places = a.places;
-    Answer {
-        number: a.number,
-        rule: a.rule,
-        plan: a.plan,
-        places: places,
-    }
+    Answer::from(decide(signature, table, booking))
 }
 
 pub fn bellgantlet_gap(signature: &[u16], table: &[u16], witness: &mut [u16]) -> Shown
     ensures { GapCall limits signature.now table.now witness.old result.number result.length witness.new }
 {
-    let g = gap(signature, table, witness);
-    Shown {
-        number: g.number,
-        length: g.len,
+    match gap(signature, table, witness) {
+        Ok(Some(length)) => Shown { number: 0, length },
+        Ok(None) => Shown {
+            number: 0,
+            length: 0,
+        },
+        Err(r) => Shown {
+            number: u16::from(r),
+            length: 0,
+        },
     }
 }
 
 pub fn bellgantlet_run(signature: &[u16], tree: &[u16], booking: &[u16]) -> Answer
     ensures { RunCall signature.now tree.now booking.now result.number (host_answer result) }
 {
-    let r = run(signature, tree, booking);
-    let places = r.places;
-    Answer {
-        number: r.number,
-        rule: r.rule,
-        plan: r.plan,
-        places: places,
-    }
+    Answer::from(run(signature, tree, booking))
 }
 
 pub fn bellgantlet_part(signature: &[u16], booking: &[u16], place: usize) -> Part
@@ -205,39 +227,49 @@ pub fn bellgantlet_part(signature: &[u16], booking: &[u16], place: usize) -> Par
 pub fn bellgantlet_check_begin(signature: &[u16], check: &mut [u16; STATE]) -> u16
     ensures { (check.new ≡ begin_state signature.now) × (result ≡ refusal_in (begin_state signature.now)) }
 {
-    begin(signature, check)
+    refusals::number(&begin(signature, check))
 }
 
 pub fn bellgantlet_check_step(signature: &[u16], check: &mut [u16; STATE], word: u16) -> u16
     ensures { (check.new ≡ step_state signature.now check.old word) × (result ≡ refusal_in (step_state signature.now check.old word)) }
 {
-    step(signature, check, word)
+    refusals::number(&step(signature, check, word))
 }
 
 pub fn bellgantlet_check_end(check: &[u16; STATE]) -> u16
     ensures { result ≡ end_number check.now }
 {
-    end(check)
+    refusals::number(&end(check))
 }
 
 pub fn bellgantlet_tally(log: &[u16]) -> Tallied
     ensures { TallyCall log.now result.number result.total result.counts }
 {
-    let t = tally(log);
-    let counts = t.counts;
-    Tallied {
-        number: t.number,
-        total: t.total,
-        counts: counts,
+    match tally(log) {
+        Ok(t) => {
+            let counts = t.counts;
+            Tallied {
+                number: 0,
+                total: t.total,
+                counts,
+            }
+        }
+        Err(r) => Tallied {
+            number: u16::from(r),
+            total: 0,
+            counts: [0; RULE_NUMBERS],
+        },
     }
 }
 
 pub fn bellgantlet_replan(signature: &[u16], tree: &[u16], charges: &mut [u16]) -> Replanned
     ensures { ReplanCall signature.now tree.now charges.old result.number result.changed charges.new }
 {
-    let r = replan(signature, tree, charges);
-    Replanned {
-        number: r.number,
-        changed: r.changed,
+    match replan(signature, tree, charges) {
+        Ok(changed) => Replanned { number: 0, changed },
+        Err(r) => Replanned {
+            number: u16::from(r),
+            changed: 0,
+        },
     }
 }

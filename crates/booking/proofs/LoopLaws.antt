@@ -1,4 +1,6 @@
 -- The loop over a booking's words: the walk from here on.
+use Rattle.std.specs.Prelude.{None, Some}
+use Rattle.std.specs.Prelude as prelude
 use mathlib.Core.Path.{◌≡◌, refl, sym, ap, ◌∙◌}
 use mathlib.Core.List.{List, [], ◌∷◌}
 use mathlib.Core.Option.{some, none}
@@ -9,38 +11,31 @@ use native.Mathlib.Omega.{arith}
 use lib.Dec.{eqb}
 use lib.ListN.{length, drop, get_or, drop_of_length-le, length-drop}
 use lib.Seq.{drop-cons}
-use Rattle.signature.specs.Lists.{◌>>=◌, is_some, is_empty}
-use Rattle.signature.specs.Read.{read_booking}
+use Rattle.signature.specs.Lists.{◌>>=◌, is_empty}
 use Rattle.signature.specs.Signature.{Signature}
 use Rattle.booking.specs.Walk.{Due, View, open_limit, walk_word, walk, first_due, ended, due_in, due_after, step_by, Nested, still_open, Inside}
-use Rattle.booking.specs.declared.walk.Walked.{Walked}
-use Rattle.booking.specs.declared.walk.Walked.TheVariants.{At, Refused}
 use Rattle.signature.proofs.Tests.{eqb_no}
 use Rattle.booking.proofs.Steps.{Sees, step_walks, step_kept, ended_open}
 
-pub no_words : (sig : Signature) (b : List ℕ) → length b ≡ 0 → false ≡ is_some (read_booking sig b)
-no_words sig [] e = refl
-no_words sig (w ∷ ws) e = absurd (omega arith)
-
-pub next_place : (r : Walked) (m : ℕ) → r ≡ At m → Inside r → m ≤ open_limit
+pub next_place : (r : prelude.Option ℕ) (m : ℕ) → r ≡ Some m → Inside r → m ≤ open_limit
 next_place r m e h = rw e at h
 
 module _ (sig : Signature) (n : ℕ) (v : View) (s : Sees sig n v) (b : List ℕ) (i : ℕ) where
   walk_rest : (xs : List Due) → i < length b → walk sig xs (drop i b) ≡ (walk_word sig xs (get_or b i 0) >>= λ ys. walk sig ys (drop (i + 1) b))
   walk_rest xs h = let e : drop i b ≡ get_or b i 0 ∷ drop (i + 1) b = rw add-one (drop-cons b i 0 h) in rw e
 
-  module _ (os ws : List ℕ) (r : Walked) (l : i < length b) (a : Nested v.rows n os) (e : still_open r ws ≡ step_by v i os (get_or b i 0)) (f : walk sig first_due b ≡ walk sig (due_after v.rows i os) (drop i b)) where
-    pub kept : (m : ℕ) → r ≡ At m → Nested v.rows n (drop m ws)
+  module _ (os ws : List ℕ) (r : prelude.Option ℕ) (l : i < length b) (a : Nested v.rows n os) (e : still_open r ws ≡ step_by v i os (get_or b i 0)) (f : walk sig first_due b ≡ walk sig (due_after v.rows i os) (drop i b)) where
+    pub kept : (m : ℕ) → r ≡ Some m → Nested v.rows n (drop m ws)
     kept m q = step_kept sig n v s i (get_or b i 0) os (drop m ws) a (sym (rw q at e))
 
-    pub on : (m : ℕ) → r ≡ At m → walk sig first_due b ≡ walk sig (due_after v.rows (i + 1) (drop m ws)) (drop (i + 1) b)
+    pub on : (m : ℕ) → r ≡ Some m → walk sig first_due b ≡ walk sig (due_after v.rows (i + 1) (drop m ws)) (drop (i + 1) b)
     on m q =
         let g : some (drop m ws) ≡ step_by v i os (get_or b i 0) = rw q at e in
         let h : walk_word sig (due_after v.rows i os) (get_or b i 0) ≡ some (due_in v.rows (drop m ws)) = step_walks sig n v s i (get_or b i 0) os a ∙ (rw (← g)) in
         let k : due_after v.rows (i + 1) (drop m ws) ≡ due_in v.rows (drop m ws) = rw add-one in
         f ∙ walk_rest (due_after v.rows i os) l ∙ (rw (h, k))
 
-    pub stop : r ≡ Refused → false ≡ ended (walk sig first_due b)
+    pub stop : r ≡ None → false ≡ ended (walk sig first_due b)
     stop q =
         let g : none ≡ step_by v i os (get_or b i 0) = rw q at e in
         let h : walk_word sig (due_after v.rows i os) (get_or b i 0) ≡ none = step_walks sig n v s i (get_or b i 0) os a ∙ (rw (← g)) in

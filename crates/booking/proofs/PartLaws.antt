@@ -11,8 +11,9 @@ use Rattle.signature.specs.Decoded.{Decoded, Known, Starts}
 use Rattle.signature.specs.Lawful.{OfKind, of_kind, OfKinds, of_kinds_cons}
 use Rattle.signature.specs.Lists.{is_some}
 use Rattle.booking.specs.Found.{FoundAs}
-use Rattle.booking.specs.declared.part.Found.{Found}
-use Rattle.booking.specs.declared.part.Found.TheVariants.{Part, Refused}
+use Rattle.std.specs.Prelude.{Result, Ok, Err}
+use Rattle.signature.specs.Refusal.{number_of, number_in}
+use Rattle.signature.specs.declared.refusals.Refusal.{Refusal}
 use Rattle.signature.specs.Part.{part_call, Begins, begins_here, begins_in, BeginsIn, in_first, in_later}
 use Rattle.signature.specs.Read.{read_signature, read_booking}
 use Rattle.signature.specs.Signature.{Signature}
@@ -82,20 +83,24 @@ module _ {ss t : List ℕ} (o : Of ss t) (bs : List ℕ) (place : ℕ) where
       }
 
 -- what is found, by its words
-pub found_here : {ss t : List ℕ} {o : Of ss t} {bs : List ℕ} {place : ℕ} (h : Here o bs place) (n : ℕ) → n ≡ size h.starts.value → FoundAs ss bs place (Part n)
+pub found_here : {ss t : List ℕ} {o : Of ss t} {bs : List ℕ} {place : ℕ} (h : Here o bs place) (n : ℕ) → n ≡ size h.starts.value → FoundAs ss bs place (Ok n)
 found_here {bs = bs} {place = place} h n e = (omega (arith, h.fits, e), h.number, h.words ∙ ap (λ k. take k (drop place bs)) (sym e))
 
-module _ (ss bs : List ℕ) (place : ℕ) (r : Found) (f : FoundAs ss bs place r) where
-  pub found_part : (n : ℕ) → r ≡ Part n → FoundAs ss bs place (Part n)
+module _ (ss bs : List ℕ) (place : ℕ) (r : Result ℕ Refusal) (f : FoundAs ss bs place r) where
+  pub found_part : (n : ℕ) → r ≡ Ok n → FoundAs ss bs place (Ok n)
   found_part n e = subst (FoundAs ss bs place) e f
 
-  pub found_refused : (q : ℕ) → r ≡ Refused q → FoundAs ss bs place (Refused q)
-  found_refused q e = subst (FoundAs ss bs place) e f
+  pub found_number : number_in r ≡ (part_call ss bs place).0
+  found_number = go r f
+    where
+      go : (x : Result ℕ Refusal) → FoundAs ss bs place x → number_in x ≡ (part_call ss bs place).0
+      go (Ok n) h = sym h.1
+      go (Err q) h = sym h.0
 
   -- where it is no part, it is empty
-  pub found_none : ((n : ℕ) → r ≡ Part n → ⊥) → (part_call ss bs place).1 ≡ []
+  pub found_none : ((n : ℕ) → r ≡ Ok n → ⊥) → (part_call ss bs place).1 ≡ []
   found_none g = go r refl f
     where
-      go : (x : Found) → r ≡ x → FoundAs ss bs place x → (part_call ss bs place).1 ≡ []
-      go (Part n) e h = absurd (g n e)
-      go (Refused q) e h = h.1
+      go : (x : Result ℕ Refusal) → r ≡ x → FoundAs ss bs place x → (part_call ss bs place).1 ≡ []
+      go (Ok n) e h = absurd (g n e)
+      go (Err q) e h = h.1

@@ -1,4 +1,6 @@
 -- One step by its cases: what is due, whether the word may stand there, what is open then.
+use Rattle.std.specs.Prelude.{None, Some}
+use Rattle.std.specs.Prelude as prelude
 use mathlib.Core.Path.{◌≡◌, refl, sym, ap, ◌∙◌}
 use mathlib.Core.List.{List, [], ◌∷◌}
 use mathlib.Core.Option.{Option, some, none}
@@ -11,27 +13,25 @@ use lib.ListN.{length, drop, get_or, length-drop}
 use Rattle.signature.specs.Limits.{depth_limit, word_limit}
 use Rattle.signature.specs.Lists.{require}
 use Rattle.booking.specs.Walk.{Due, View, open_limit, next, rest, opened, step_by, Nested, Waiting, next_as}
-use Rattle.booking.specs.declared.walk.Expected.{Expected}
-use Rattle.booking.specs.declared.walk.Expected.TheVariants.{Value, Nothing}
 use Rattle.signature.proofs.Booleans.{and_left, and_right}
 use Rattle.signature.proofs.Tests.{bind_some, require_some, none≢some, some_inj, le_of, leb_yes, pair_first, pair_second}
 use Rattle.booking.proofs.NextLaws.{later, few, open_is}
 use Rattle.booking.proofs.Steps.{first_kind, room}
 
 -- the code's answer read back
-abbrev value_of : Expected → Option Due
-value_of Nothing = none
-value_of (Value k d) = some (k, d)
+abbrev value_of : prelude.Option Due → Option Due
+value_of None = none
+value_of (Some x) = some x
 
 read_back : (o : Option Due) → value_of (next_as o) ≡ o
 read_back none = refl
 read_back (some x) = refl
 
-pub told_nothing : (e : Expected) (o : Option Due) → e ≡ next_as o → e ≡ Nothing → o ≡ none
-told_nothing e o p q = sym (read_back o) ∙ ap value_of (sym p ∙ q)
+pub told_nothing : (o : Option Due) → None ≡ next_as o → o ≡ none
+told_nothing o e = sym (read_back o) ∙ ap value_of (sym e)
 
-pub told_value : (e : Expected) (o : Option Due) (k d : ℕ) → e ≡ next_as o → e ≡ Value k d → o ≡ some (k, d)
-told_value e o k d p q = sym (read_back o) ∙ ap value_of (sym p ∙ q)
+pub told_value : (o : Option Due) (x : Due) → Some x ≡ next_as o → o ≡ some x
+told_value o x e = sym (read_back o) ∙ ap value_of (sym e)
 
 module _ (v : View) (i : ℕ) (os : List ℕ) (w : ℕ) where
   pub no_due : next v.rows i os ≡ none → none ≡ step_by v i os w

@@ -1,14 +1,11 @@
 -- The booking check as one walk over the words: what is still due, and what one word makes of it. The check inside the calls and the steps that a host takes share it.
-use Rattle.std.specs.Prelude.{List, [], ◌∷◌, ◌++◌, map, Bool, true, false, cond, ◌&&◌, ℕ, zero, suc, ◌+◌, ◌-◌, ◌*◌, ◌/◌, ◌%◌, ◌≤◌, ◌<◌, leb, ltb, eqb, length, take, drop, get_or}
+use Rattle.std.specs.Prelude.{List, [], ◌∷◌, ◌++◌, map, Bool, true, false, cond, ◌&&◌, ℕ, zero, suc, ◌+◌, ◌-◌, ◌*◌, ◌/◌, ◌%◌, ◌≤◌, ◌<◌, leb, ltb, eqb, length, take, drop, get_or, None, Some}
+use Rattle.std.specs.Prelude as prelude
 use Rattle.std.proofs.Math.Option.{Option, some, none}
 use Rattle.signature.specs.Limits.{depth_limit, word_limit}
 use Rattle.signature.specs.Lists.{◌>>=◌, require, is_some, All}
 use Rattle.signature.specs.Signature.{Signature, arguments_at}
 use Rattle.signature.specs.Decoded.{stride, head_arity}
-use Rattle.booking.specs.declared.walk.Expected.{Expected}
-use Rattle.booking.specs.declared.walk.Expected.TheVariants.{Value, Nothing}
-use Rattle.booking.specs.declared.walk.Walked.{Walked}
-use Rattle.booking.specs.declared.walk.Walked.TheVariants.{At, Refused}
 
 -- a value due: its kind, and how deep it may be nested
 abbrev pub Due : Type 0
@@ -125,14 +122,14 @@ abbrev pub Waiting : ℕ → ℕ → List ℕ → Type 0
 Waiting i at ws = 0 < i → (at + 2 ≤ length ws) × (suc (get_or ws at 0) < word_limit) × (depth_limit ≤ get_or ws (at + 1) 0)
 
 -- the answers of the code
-abbrev pub next_as : Option Due → Expected
-next_as none = Nothing
-next_as (some x) = Value x.0 x.1
+abbrev pub next_as : Option Due → prelude.Option Due
+next_as none = None
+next_as (some x) = Some x
 
-abbrev pub still_open : Walked → List ℕ → Option (List ℕ)
-still_open (At n) ws = some (drop n ws)
-still_open Refused ws = none
+abbrev pub still_open : prelude.Option ℕ → List ℕ → Option (List ℕ)
+still_open (Some n) ws = some (drop n ws)
+still_open None ws = none
 
-abbrev pub Inside : Walked → Type 0
-Inside (At n) = n ≤ open_limit
-Inside Refused = Unit {0}
+abbrev pub Inside : prelude.Option ℕ → Type 0
+Inside (Some n) = n ≤ open_limit
+Inside None = Unit {0}

@@ -5,36 +5,30 @@ ghost use Rattle.booking.specs.Found.{FoundAs};
 
 use crate::walk;
 use decoding::decode;
-use signature::decoded;
-use signature::refusals::{BOOKING_UNLAWFUL, PLACE_OUTSIDE, SIGNATURE_UNLAWFUL};
+use signature::refusals::Refusal;
+use signature::{decoded, refusals};
 
-// The length of the part that begins at a place, or the refusal.
-#[derive(Clone, Copy)]
-enum Found {
-    Part(usize),
-    Refused(u16),
-}
-
-fn find(ss: &[u16], b: &[u16], place: usize) -> Found
+// The length of the part that begins at a place.
+fn find(ss: &[u16], b: &[u16], place: usize) -> Result<usize, Refusal>
     ensures { FoundAs ss.now b.now place result }
 {
     let mut t = [0u16; decoded::DECODED];
     if !decode::decode(ss, &mut t) {
-        return Found::Refused(SIGNATURE_UNLAWFUL);
+        return Err(Refusal::SignatureUnlawful);
     }
     if !walk::lawful(&t, b) {
-        return Found::Refused(BOOKING_UNLAWFUL);
+        return Err(Refusal::BookingUnlawful);
     }
     if b.len() <= place {
-        return Found::Refused(PLACE_OUTSIDE);
+        return Err(Refusal::PlaceOutside);
     }
-    Found::Part(walk::span(&t, &b[place..]))
+    Ok(walk::span(&t, &b[place..]))
 }
 
 pub fn part<'a>(ss: &[u16], b: &'a [u16], place: usize) -> &'a [u16]
     ensures { result.now ≡ (part_call ss.now b.now place).1 }
 {
-    let Found::Part(n) = find(ss, b, place) else {
+    let Ok(n) = find(ss, b, place) else {
         return &b[0..0];
     };
     let e = place + n;
@@ -44,8 +38,5 @@ pub fn part<'a>(ss: &[u16], b: &'a [u16], place: usize) -> &'a [u16]
 pub fn part_number(ss: &[u16], b: &[u16], place: usize) -> u16
     ensures { result ≡ (part_call ss.now b.now place).0 }
 {
-    match find(ss, b, place) {
-        Found::Part(_n) => 0,
-        Found::Refused(q) => q,
-    }
+    refusals::number(&find(ss, b, place))
 }

@@ -23,42 +23,28 @@ const ROW: u16 = decoded::STRIDE as u16;
 // Two words at each depth.
 pub const OPEN: usize = 2 * DEPTH_LIMIT as usize;
 
-// The value due next: its kind, and how deep it may be nested.
-#[derive(Clone, Copy)]
-pub enum Expected {
-    Value(u16, u16),
-    Nothing,
-}
-
-// From where on the values stand that are open after a word, if the word may stand there.
-#[derive(Clone, Copy)]
-enum Walked {
-    At(usize),
-    Refused,
-}
-
-// What is due after count words.
-pub fn next(rows: &[u16], words: &[u16], at: usize, count: usize) -> Expected
+// The value due after count words, if one is: its kind, and how deep it may be nested.
+pub fn next(rows: &[u16], words: &[u16], at: usize, count: usize) -> Option<(u16, u16)>
     ensures { result ≡ next_as (next rows.now count (drop at words.now)) }
 {
     if count == 0 {
-        return Expected::Value(0, DEPTH_LIMIT);
+        return Some((0, DEPTH_LIMIT));
     }
     if words.len() <= at {
-        return Expected::Nothing;
+        return None;
     }
     if words.len() - at < 2 {
-        return Expected::Nothing;
+        return None;
     }
     let p = decoded::wide(words[at]);
     let x = words[at + 1];
     if x < DEPTH_LIMIT {
-        return Expected::Nothing;
+        return None;
     }
     if rows.len() <= p {
-        return Expected::Nothing;
+        return None;
     }
-    Expected::Value(rows[p], x % DEPTH_LIMIT)
+    Some((rows[p], x % DEPTH_LIMIT))
 }
 
 // Whether w is one of so many heads from the first on.
@@ -127,23 +113,21 @@ fn may_stand(t: &[u16], k: u16, w: u16) -> bool
     )
 }
 
-// One word of a booking.
-fn step(t: &[u16], words: &mut [u16], at: usize, read: usize, w: u16) -> Walked
+// One word of a booking. From where on the values stand that are open after it, if it may stand there.
+fn step(t: &[u16], words: &mut [u16], at: usize, read: usize, w: u16) -> Option<usize>
     requires known { Known t.now }
     requires words_len { (length words.old ≡ open_limit) × (at ≤ open_limit) × Nested t.now (kinds_of t.now) (drop at words.old) }
     ensures within { Inside result }
     ensures walked { (g : Known t.now) → still_open result words.new ≡ step_by (decoded_view g.sig t.now) read (drop at words.old) w }
 {
-    let Expected::Value(k, deep) = next(t, words, at, read) else {
-        return Walked::Refused;
-    };
+    let (k, deep) = next(t, words, at, read)?;
     if deep == 0 {
-        return Walked::Refused;
+        return None;
     }
     if !may_stand(t, k, w) {
-        return Walked::Refused;
+        return None;
     }
-    Walked::At(advance(
+    Some(advance(
         words,
         at,
         read,
@@ -166,13 +150,11 @@ pub fn lawful(t: &[u16], b: &[u16]) -> bool
     }
     let mut words = [0u16; OPEN];
     let mut at = OPEN;
-    let mut i = 0;
-    while i < b.len() {
-        let Walked::At(n) = step(t, &mut words, at, i, b[i]) else {
+    for (i, w) in b.iter().enumerate() {
+        let Some(n) = step(t, &mut words, at, i, *w) else {
             return false;
         };
         at = n;
-        i += 1;
     }
     at == OPEN
 }

@@ -7,7 +7,7 @@ use native.Mathlib.Numerals.{add-one}
 use native.Mathlib.Omega.{arith}
 use lib.ListN.{drop, length, length-append, length-take, take-append-drop, get_or, length-drop, take}
 use lib.Seq.{drop_at, length-take-le, take-take, take_at}
-use Rattle.pattern.specs.Pattern.{Pattern, pattern_code, and, range}
+use Rattle.pattern.specs.Pattern.{Pattern, pattern_code, range}
 use Rattle.pattern.specs.Read.{Form, form}
 use Rattle.pattern.proofs.Opened.{shape, code_split, word_form}
 use Rattle.pattern.proofs.PatternBack.{some_pattern_word}

@@ -153,10 +153,7 @@ pub const ROW_ROOM: usize = ROOM_UNIT * PATTERN_WORDS + 1;
 pub fn words_room(n: usize) -> usize
     ensures { result ≡ words_room n }
 {
-    if PATTERN_WORDS < n {
-        return ROW_ROOM;
-    }
-    ROOM_UNIT * n + 1
+    ROOM_UNIT * n.min(PATTERN_WORDS) + 1
 }
 
 #[derive(Clone, Copy)]
@@ -197,7 +194,7 @@ pub fn rows(
         Making::Swap => {
             let a = rows(t, tag, full, &p[own..], !plus, out, work);
             let read = a.read + own;
-            Built { used: a.used, read }
+            Built { read, ..a }
         }
         Making::Range => {
             let used = range_rows(tag, full, p, plus, out);
@@ -276,7 +273,7 @@ fn head_rows(
     let a = args(t, c, 0, &p[own..], plus, begun, out, work);
     let read = a.read + own;
     if plus {
-        return Built { used: a.used, read };
+        return Built { read, ..a };
     }
     let used = others(tag, without(full, i), a.used, out, work);
     Built { used, read }
@@ -311,7 +308,7 @@ fn args(
     let from = a.read;
     let b = args(t, c, j + 1, &p[from..], plus, n, out, work);
     let read = from + b.read;
-    Built { used: b.used, read }
+    Built { read, ..b }
 }
 
 // The rows of the part in front of p, of kind k, on one side.
@@ -329,6 +326,5 @@ pub fn build(t: &[u16], p: &[u16], out: &mut [u64], work: &mut [u64]) -> usize
     requires { GivenWhole t.now p.now (length out.old) (length work.old) }
     ensures { (g : GivenWhole t.now p.now (length out.old) (length work.old)) → RowsFirst g.known.sig g.p result out.new }
 {
-    let a = part_rows(t, 0, p, true, out, work);
-    a.used
+    part_rows(t, 0, p, true, out, work).used
 }

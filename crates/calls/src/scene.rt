@@ -65,7 +65,7 @@ fn begin(rt: &impl Print, w: &[u16], signature: &mut [u16], table: &mut [u16]) -
             table: 0,
         });
     }
-    shift::copy(&mut signature[..s], &w[3..e]);
+    signature[..s].copy_from_slice(&w[3..e]);
     show::line(rt, empty(&mut table[..k]))?;
     Ok(Now {
         used: e,
@@ -137,7 +137,7 @@ fn compilation(
         return Ok(0);
     }
     let c = compile(ss, table, &mut space[..k]);
-    show::tree(rt, c.number, c.len, space)?;
+    show::tree(rt, c, space)?;
     Ok(2)
 }
 
@@ -187,10 +187,10 @@ fn a_gap(
     if witness.len() < k {
         return Ok(0);
     }
-    shift::zero(witness);
+    witness.fill(0);
     let g = gap::gap(ss, table, &mut witness[0..k]);
-    show::gap(rt, g.number, g.len, witness)?;
-    decided(rt, ss, table, witness, g.len)?;
+    show::gap(rt, g, witness)?;
+    decided(rt, ss, table, witness, show::shown(g))?;
     Ok(2)
 }
 

@@ -2,13 +2,16 @@
 ghost use Rattle.std.specs.Prelude.{◌≤◌, length};
 
 use entry::sound::Entry;
-use run::Ran;
+use pattern::limits::VARIABLES;
+use run::Answer;
 use shown::print;
+use signature::refusals;
+use signature::refusals::Refusal;
 use std::io;
 
 // A number by itself.
-pub fn line(rt: &impl Print, n: u16) -> io::Result<()> {
-    print::number(rt, n as usize)?;
+pub fn line(rt: &impl Print, r: Result<(), Refusal>) -> io::Result<()> {
+    print::number(rt, refusals::number(&r) as usize)?;
     print::end(rt)
 }
 
@@ -16,19 +19,19 @@ pub fn line(rt: &impl Print, n: u16) -> io::Result<()> {
 pub fn used(w: &[u16]) -> usize
     ensures { result ≤ length w.now }
 {
-    let mut n = w.len();
-    while n > 0 {
-        if w[n - 1] > 0 {
-            return n;
+    for n in (0..w.len()).rev() {
+        if w[n] > 0 {
+            return n + 1;
         }
-        n -= 1;
     }
-    n
+    0
 }
 
-pub fn answer(rt: &impl Print, r: Ran) -> io::Result<()> {
-    let places = r.places;
-    print::answer(rt, r.number, r.rule, r.plan, &places)
+pub fn answer(rt: &impl Print, r: Result<Answer, Refusal>) -> io::Result<()> {
+    match r {
+        Ok(a) => print::answer(rt, 0, a.rule, a.plan, &a.places),
+        Err(q) => print::answer(rt, u16::from(q), 0, 0, &[0; VARIABLES]),
+    }
 }
 
 // The first n words, where there are as many.
@@ -40,8 +43,9 @@ fn front(rt: &impl Print, w: &[u16], n: usize) -> io::Result<()> {
 }
 
 // The number, the tree's length and its words.
-pub fn tree(rt: &impl Print, number: u16, len: usize, space: &[u16]) -> io::Result<()> {
-    print::number(rt, number as usize)?;
+pub fn tree(rt: &impl Print, r: Result<usize, Refusal>, space: &[u16]) -> io::Result<()> {
+    print::number(rt, refusals::number(&r) as usize)?;
+    let len = r.unwrap_or(0);
     print::spaced(rt, len)?;
     front(rt, space, len)?;
     print::end(rt)
@@ -51,7 +55,7 @@ pub fn tree(rt: &impl Print, number: u16, len: usize, space: &[u16]) -> io::Resu
 pub fn entry(rt: &impl Print, e: Entry, in_full: bool, witness: &[u16]) -> io::Result<()> {
     match e {
         Entry::Entered => print::number(rt, 0)?,
-        Entry::Refused(n) => print::number(rt, n as usize)?,
+        Entry::Refused(r) => print::number(rt, u16::from(r) as usize)?,
         Entry::Shares(rule, length) => {
             print::number(rt, 12)?;
             if in_full {
@@ -65,8 +69,9 @@ pub fn entry(rt: &impl Print, e: Entry, in_full: bool, witness: &[u16]) -> io::R
 }
 
 // The number, whether a booking is shown, and whether a word behind it is no longer 0.
-pub fn gap(rt: &impl Print, number: u16, len: usize, witness: &[u16]) -> io::Result<()> {
-    print::number(rt, number as usize)?;
+pub fn gap(rt: &impl Print, r: Result<Option<usize>, Refusal>, witness: &[u16]) -> io::Result<()> {
+    print::number(rt, refusals::number(&r) as usize)?;
+    let len = shown(r);
     if len > 0 {
         print::text(rt, b" shown")?;
     }
@@ -74,4 +79,12 @@ pub fn gap(rt: &impl Print, number: u16, len: usize, witness: &[u16]) -> io::Res
         print::text(rt, b" written behind")?;
     }
     print::end(rt)
+}
+
+// The length of the booking that is shown, 0 for none.
+pub fn shown(r: Result<Option<usize>, Refusal>) -> usize {
+    match r {
+        Ok(Some(len)) => len,
+        _ => 0,
+    }
 }

@@ -4,7 +4,7 @@ use mathlib.Core.List.{List, ◌++◌}
 use mathlib.Core.Option.{Option}
 use Prim.Native.Nat.{ℕ, ◌+◌, ◌≤◌}
 use lib.ListN.{length}
-use Rattle.cell.specs.declared.cell.Out.{Out}
+use Rattle.std.specs.Prelude.{Option as CodeOption}
 use Rattle.cell.specs.Cell.{Kinds, RowCells, words}
 use Rattle.cell.specs.Coded.{cells, row_code_of}
 use Rattle.cell.specs.Lockstep.{GivenRows, Result}
@@ -42,7 +42,7 @@ as_cells {ar} g = record {
 }
 
 -- a result for the cells is one for the rows
-pub of_rows : {ar a b o : List ℕ} (g : GivenRows ar a b o) (res : Out) (e o' : List ℕ)
+pub of_rows : {ar a b o : List ℕ} (g : GivenRows ar a b o) (res : CodeOption ℕ) (e o' : List ℕ)
     → Result (both (as_cells g).r (as_cells g).s) res e o' → Result (row_code_of g.K g.kind (combine g.r g.s)) res e o'
 unfolding as_cells
 of_rows {ar} g res e o' h = subst (λ (t : Option (List ℕ)). Result t res e o') (same g.K ar g.r g.s g.kind g.typed_r g.typed_s) h

@@ -7,8 +7,7 @@ use native.Mathlib.Numerals.{one-add}
 use native.Mathlib.Omega.{arith}
 use lib.ListN.{take, length, drop, length-take, length-drop, length-append, set}
 use lib.Seq.{take_at}
-use Rattle.cell.specs.declared.cell.Out.{Out}
-use Rattle.cell.specs.declared.cell.Out.TheVariants.{Dropped, Kept}
+use Rattle.std.specs.Prelude.{Option as CodeOption, None, Some}
 use Rattle.signature.specs.Lists.{somes}
 use Rattle.signature.proofs.Tests.{some_inj}
 use Rattle.cell.specs.Cell.{Kinds}
@@ -32,23 +31,24 @@ given_tail {o = o} g = record {
   room = simp (length-take, length-drop) (omega (arith, g.room));
 }
 
+-- an answer is not both
+pub not_both : {res : CodeOption ℕ} {n : ℕ} → res ≡ Some n → res ≡ None → ⊥
+not_both {res} {n} p q = let z : ◌≡◌ {A = ℕ} 0 1 = cc in omega (arith, z)
+
 -- dropped
-pub entry_none : (K : Kinds) (k : ℕ) (m : Option Row) (res : Out) (e ys o : List ℕ) → Result (row_code_of K k m) res e ys → res ≡ Dropped → WrittenFirst (entries K k (somes (m ∷ []))) 0 o
+pub entry_none : (K : Kinds) (k : ℕ) (m : Option Row) (res : CodeOption ℕ) (e ys o : List ℕ) → Result (row_code_of K k m) res e ys → res ≡ None → WrittenFirst (entries K k (somes (m ∷ []))) 0 o
 entry_none K k none res e ys o h q = (refl, refl)
-entry_none K k (some t) res e ys o h q = absurd (let z : ◌≡◌ {A = ℕ} 0 1 = kept_not_dropped res (length (row_code K t k)) h.0 q in omega (arith, z))
-  where
-    kept_not_dropped : (res : Out) (n : ℕ) → res ≡ Kept n → res ≡ Dropped → ◌≡◌ {A = ℕ} 0 1
-    kept_not_dropped res n p q = cc
+entry_none K k (some t) res e ys o h q = absurd (not_both h.0 q)
 
 -- kept: how many words, and which
-pub kept_is : (t : Option (List ℕ)) (res : Out) (n : ℕ) (e ys : List ℕ) → Result t res e ys → res ≡ Kept n → (w : List ℕ) × (t ≡ some w) × (n ≡ length w) × (ys ≡ w ++ drop n e)
-kept_is none res n e ys h q = absurd (let z : ◌≡◌ {A = ℕ} 0 1 = cc in omega (arith, z))
+pub kept_is : (t : Option (List ℕ)) (res : CodeOption ℕ) (n : ℕ) (e ys : List ℕ) → Result t res e ys → res ≡ Some n → (w : List ℕ) × (t ≡ some w) × (n ≡ length w) × (ys ≡ w ++ drop n e)
+kept_is none res n e ys h q = absurd (not_both q h)
 kept_is (some w) res n e ys h q = let l : n ≡ length w = kept_same res n (length w) q h.0 in (w, refl, l, rw l h.1)
   where
-    kept_same : (res : Out) (n m : ℕ) → res ≡ Kept n → res ≡ Kept m → n ≡ m
+    kept_same : (res : CodeOption ℕ) (n m : ℕ) → res ≡ Some n → res ≡ Some m → n ≡ m
     kept_same res n m p q = cc
 
-pub kept_le : (t : Option (List ℕ)) (res : Out) (n : ℕ) (e ys : List ℕ) → Result t res e ys → res ≡ Kept n → n ≤ length ys
+pub kept_le : (t : Option (List ℕ)) (res : CodeOption ℕ) (n : ℕ) (e ys : List ℕ) → Result t res e ys → res ≡ Some n → n ≤ length ys
 kept_le t res n e ys h q =
     let k = kept_is t res n e ys h q in
     omega (arith, k.2, simp length-append at (ap length k.3))
@@ -56,10 +56,10 @@ kept_le t res n e ys h q =
 take_front : (n : ℕ) (w D rest : List ℕ) → n ≡ length w → take n ((w ++ D) ++ rest) ≡ w
 take_front n w D rest l = rw append_assoc (take_at w (D ++ rest) n (sym l))
 
-pub entry_some : (K : Kinds) (k : ℕ) (m : Option Row) (res : Out) (n : ℕ) (e ys rest o : List ℕ) → Result (row_code_of K k m) res e ys → res ≡ Kept n → 0 < length o
+pub entry_some : (K : Kinds) (k : ℕ) (m : Option Row) (res : CodeOption ℕ) (n : ℕ) (e ys rest o : List ℕ) → Result (row_code_of K k m) res e ys → res ≡ Some n → 0 < length o
     → WrittenFirst (entries K k (somes (m ∷ []))) (1 + n) (set (take 1 o ++ (ys ++ rest)) 0 n)
 entry_some K k m res n e ys rest [] h q l = absurd (omega arith)
-entry_some K k none res n e ys rest (z ∷ o) h q l = absurd (let z : ◌≡◌ {A = ℕ} 0 1 = cc in omega (arith, z))
+entry_some K k none res n e ys rest (z ∷ o) h q l = absurd (not_both q h)
 entry_some K k (some t) res n e ys rest (z ∷ o) h q l =
     let f = kept_is (some (row_code K t k)) res n e ys h q in
     let w : row_code K t k ≡ f.0 = some_inj (row_code K t k) f.0 f.1 in

@@ -8,7 +8,7 @@ use lib.ListN.{length, drop, set, length-append, length-drop}
 use lib.Seq.{set_at, drop-drop}
 use Rattle.cell.specs.declared.cell.Cell.{Cell}
 use Rattle.cell.specs.declared.cell.Cursor.{Cursor}
-use Rattle.cell.specs.declared.cell.Out.TheVariants.{Kept, Dropped}
+use Rattle.std.specs.Prelude.{None, Some}
 use Rattle.signature.specs.Decoded.{decoded_length}
 use Rattle.cell.specs.Cell.{kind_tag, words, named_cells, free_cell, first_word}
 use Rattle.sets.specs.Heads.{number_of, low_word, high_word}
@@ -62,15 +62,15 @@ start g = (
 )
 
 -- at the end
-result_of : (t : Option (List ℕ)) (done o₀ o : List ℕ) (n : ℕ) → t ≡ some (done ++ []) → length done ≡ n → o ≡ done ++ drop n o₀ → Result t (Kept n) o₀ o
+result_of : (t : Option (List ℕ)) (done o₀ o : List ℕ) (n : ℕ) → t ≡ some (done ++ []) → length done ≡ n → o ≡ done ++ drop n o₀ → Result t (Some n) o₀ o
 result_of t done o₀ o n e l f = rw (e, append-nil done, l) (refl, f)
 
-finish_at : {ar a b o₀ : List ℕ} (g : Given ar a b o₀) (x y : Cursor) (n left : ℕ) (o : List ℕ) (xs ys : List Col) → left ≡ 0 → Mid g x y n left o xs ys → Result (both g.r g.s) (Kept n) o₀ o
+finish_at : {ar a b o₀ : List ℕ} (g : Given ar a b o₀) (x y : Cursor) (n left : ℕ) (o : List ℕ) (xs ys : List Col) → left ≡ 0 → Mid g x y n left o xs ys → Result (both g.r g.s) (Some n) o₀ o
 finish_at {o₀ = o₀} g x y n left o [] [] e m = result_of (both g.r g.s) m.done o₀ o n m.target m.size m.list
 finish_at g x y n left o [] (h ∷ ys) e m = absurd m.pair
 finish_at g x y n left o (h ∷ xs) ys e m = absurd (omega (arith, m.left_is))
 
-pub finish : {ar a b o₀ : List ℕ} (g : Given ar a b o₀) (x y : Cursor) (n left : ℕ) (o : List ℕ) → left ≡ 0 → Now g x y n left o → Result (both g.r g.s) (Kept n) o₀ o
+pub finish : {ar a b o₀ : List ℕ} (g : Given ar a b o₀) (x y : Cursor) (n left : ℕ) (o : List ℕ) → left ≡ 0 → Now g x y n left o → Result (both g.r g.s) (Some n) o₀ o
 finish g x y n left o e m = finish_at g x y n left o m.0 m.1 e m.2
 
 -- a turn
@@ -158,7 +158,7 @@ module _ {ar a b o₀ : List ℕ} (g : Given ar a b o₀) (x y : Cursor) (n left
   drop_at_turn (u ∷ xs) (v ∷ ys) h m e =
       m.target ∙ ap (then (some m.done)) (dropped g.K ar u v xs ys m.pair (rw (look_col a x u xs m.sa (tagged_left g.K ar u v xs ys m.pair), look_col b y v ys m.sb (tagged_right g.K ar u v xs ys m.pair)) at e))
 
-  pub drop_out : 0 < left → Now g x y n left o → number_of (join_of (look_at a x) (look_at b y)).allowed ≡ 0 → Result (both g.r g.s) Dropped o₀ o
+  pub drop_out : 0 < left → Now g x y n left o → number_of (join_of (look_at a x) (look_at b y)).allowed ≡ 0 → Result (both g.r g.s) None o₀ o
   drop_out h m e = rw (drop_at_turn m.0 m.1 h m.2 e)
 
   turn_here : (u v : Col) (xs ys : List Col) (w : ℕ) → 0 < left → Mid g x y n left o (u ∷ xs) (v ∷ ys) → ¬ (number_of (join_of (column_cell u) (column_cell v)).allowed ≡ 0) → w ≡ opens_of ar (join_of (column_cell u) (column_cell v)).tag
@@ -211,7 +211,7 @@ module _ {ar a b o₀ : List ℕ} (g : Given ar a b o₀) (x y : Cursor) (n left
     pub known_of : Front g x y n left → c.tag < kind_tag → length ar ≡ decoded_length
     known_of f = rw joined f.known
 
-    pub out_of : Now g x y n left o → number_of c.allowed ≡ 0 → Result (both g.r g.s) Dropped o₀ o
+    pub out_of : Now g x y n left o → number_of c.allowed ≡ 0 → Result (both g.r g.s) None o₀ o
     out_of m e = drop_out g x y n left o h m (ap (λ (z : Cell). number_of z.allowed) (sym joined) ∙ e)
 
     pub turned : (w : ℕ) → Now g x y n left o → ¬ (number_of c.allowed ≡ 0) → w ≡ opens_of ar c.tag → Turned g x y n left o p q c w

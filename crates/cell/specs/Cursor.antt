@@ -5,7 +5,7 @@ use Rattle.cell.specs.declared.cell.Cell.{Cell}
 use Rattle.cell.specs.declared.cell.Cursor.{Cursor}
 use Rattle.sets.specs.Heads.{number_of, two_words, low_word, high_word}
 use Rattle.sets.specs.Set.{all_set, union, intersection}
-use Rattle.signature.specs.Decoded.{arity_of}
+use Rattle.signature.specs.Decoded.{arity_of, kind_of}
 
 -- tag, variables and the number of a set of heads
 abbrev pub cell_of : ℕ → ℕ → ℕ → Cell
@@ -40,6 +40,10 @@ join_of a b = cell_of (min a.tag b.tag) (union a.vars b.vars) (intersection (num
 -- how many columns a cell opens, by the table of a signature
 abbrev pub opens_of : List ℕ → ℕ → ℕ
 opens_of t tag = cond (ltb tag kind_tag) (arity_of t tag) 0
+
+-- the kind of the place of a cell, by its tag and the table of a signature
+abbrev pub cell_kind : List ℕ → ℕ → ℕ
+cell_kind t tag = cond (ltb tag kind_tag) (kind_of t tag) (tag - kind_tag)
 
 abbrev pub put_cell : List ℕ → ℕ → Cell → List ℕ
 put_cell o at c = set (set (set o at (first_word c.tag c.vars)) (at + 1) (low_word (number_of c.allowed))) (at + 2) (high_word (number_of c.allowed))

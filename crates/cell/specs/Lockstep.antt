@@ -1,8 +1,7 @@
 -- Two rows of one kind as one: what is given, answered and left.
 use Rattle.std.specs.Prelude.{◌≡◌, List, ◌++◌, ℕ, ◌+◌, ◌≤◌, length, drop}
 use Rattle.std.proofs.Math.Option.{Option, none, some}
-use Rattle.cell.specs.declared.cell.Out.{Out}
-use Rattle.cell.specs.declared.cell.Out.TheVariants.{Dropped, Kept}
+use Rattle.std.specs.Prelude.{Option as CodeOption, None, Some}
 use Rattle.cell.specs.Cell.{Kinds}
 use Rattle.cell.specs.Coded.{row_code, Typed}
 use Rattle.row.specs.Row.{Row}
@@ -22,6 +21,6 @@ pub record GivenRows (ar a b o : List ℕ) : Type 0 where
   pub room : length (row_code K r kind) + length (row_code K s kind) ≤ length o
 
 -- what the call answers and leaves, of the words of the two rows as one
-abbrev pub Result : Option (List ℕ) → Out → List ℕ → List ℕ → Type 0
-Result none res o o' = res ≡ Dropped
-Result (some w) res o o' = (res ≡ Kept (length w)) × (o' ≡ w ++ drop (length w) o)
+abbrev pub Result : Option (List ℕ) → CodeOption ℕ → List ℕ → List ℕ → Type 0
+Result none res o o' = res ≡ None
+Result (some w) res o o' = (res ≡ Some (length w)) × (o' ≡ w ++ drop (length w) o)

@@ -1,7 +1,7 @@
 // Rows as preorder cells of three words, a cursor over them, and two rows as one.
 ghost use Rattle.std.specs.Prelude.{◌≡◌, ◌+◌, ◌≤◌, ◌<◌, ◌^◌, length, set};
 ghost use Rattle.cell.specs.Cell.{cell_width, kind_tag, first_word};
-ghost use Rattle.cell.specs.Cursor.{Room, cell_at, look_at, past_column, next_of, join_of, opens_of, put_cell};
+ghost use Rattle.cell.specs.Cursor.{Room, cell_at, look_at, past_column, next_of, join_of, opens_of, cell_kind, put_cell};
 ghost use Rattle.row.specs.Row.{combine as combined};
 ghost use Rattle.cell.specs.Coded.{row_code_of};
 ghost use Rattle.cell.specs.Lockstep.{GivenRows, Result};
@@ -9,13 +9,13 @@ ghost use Rattle.cell.specs.RowList.{from};
 ghost use Rattle.signature.specs.Decoded.{decoded_length};
 
 use sets::heads::{Heads, all, is_empty, meet};
-use signature::decoded::arity_of;
+use signature::decoded::{arity_of, kind_of};
 
 // A tag below it names a constructor, any other is this and a kind.
 pub const KIND_TAG: u64 = 256;
 
 // The tag of a column that no cell stands for: above each other, so that the other is kept.
-const FREE_TAG: u64 = 512;
+pub const FREE_TAG: u64 = 512;
 
 // Every tag is below it: a cell's first word has its tag, and its variables from here on.
 const TAG_LIMIT: u64 = 65536;
@@ -38,11 +38,11 @@ pub struct Cursor {
     pub wildcards: usize,
 }
 
-#[derive(Clone, Copy)]
-pub enum Out {
-    Kept(usize),
-    Dropped,
-}
+// All columns of the row in front.
+pub const START: Cursor = Cursor {
+    at: 0,
+    wildcards: 0,
+};
 
 // The cell whose words begin at a word.
 pub fn cell_at(row: &[u64], at: usize) -> Cell
@@ -65,13 +65,11 @@ pub fn look(row: &[u64], c: Cursor) -> Cell
     requires { Room row.now c }
     ensures { result ≡ look_at row.now c }
 {
-    let wildcards = c.wildcards;
-    if wildcards > 0 {
-        let allowed = all();
+    if c.wildcards > 0 {
         return Cell {
             tag: FREE_TAG,
             vars: 0,
-            allowed,
+            allowed: all(),
         };
     }
     cell_at(row, c.at)
@@ -82,11 +80,10 @@ fn step(c: Cursor, more: usize) -> Cursor
     requires { (c.wildcards + more < 2 ^ 64) × (c.at + cell_width < 2 ^ 64) }
     ensures { result ≡ past_column c more }
 {
-    let wildcards = c.wildcards;
-    if wildcards > 0 {
+    if c.wildcards > 0 {
         return Cursor {
-            at: c.at,
-            wildcards: wildcards - 1 + more,
+            wildcards: c.wildcards - 1 + more,
+            ..c
         };
     }
     Cursor {
@@ -110,19 +107,10 @@ pub fn next(c: Cursor, tag: u64, n: usize) -> Cursor
 pub fn join(a: Cell, b: Cell) -> Cell
     ensures { result ≡ join_of a b }
 {
-    let vars = sets::set::join(a.vars, b.vars);
-    let allowed = meet(a.allowed, b.allowed);
-    if a.tag <= b.tag {
-        return Cell {
-            tag: a.tag,
-            vars,
-            allowed,
-        };
-    }
     Cell {
-        tag: b.tag,
-        vars,
-        allowed,
+        tag: a.tag.min(b.tag),
+        vars: sets::set::join(a.vars, b.vars),
+        allowed: meet(a.allowed, b.allowed),
     }
 }
 
@@ -137,30 +125,34 @@ pub fn opens(t: &[u16], tag: u64) -> usize
     0
 }
 
+// The kind of the place of a cell, by the table of a signature.
+pub fn kind_at(t: &[u16], tag: u64) -> usize
+    requires { tag < kind_tag → length t.now ≡ decoded_length }
+    ensures { result ≡ cell_kind t.now tag }
+{
+    if tag < KIND_TAG {
+        return kind_of(t, tag as usize) as usize;
+    }
+    (tag - KIND_TAG) as usize
+}
+
 // The words of a cell, written from a word on.
 pub fn put(out: &mut [u64], at: usize, c: Cell)
     requires { (at + cell_width ≤ length out.old) × (first_word c.tag c.vars < 2 ^ 64) }
     ensures { out.new ≡ put_cell out.old at c }
 {
-    let allowed = c.allowed;
     out[at] = c.tag + TAG_LIMIT * c.vars;
-    out[at + 1] = allowed.low;
-    out[at + 2] = allowed.high;
+    out[at + 1] = c.allowed.low;
+    out[at + 2] = c.allowed.high;
 }
 
-// The two rows at the front of a and b as one, first in out, and how many words it has.
-pub fn combine(t: &[u16], a: &[u64], b: &[u64], out: &mut [u64]) -> Out
+// The two rows at the front of a and b as one, first in out: how many words it has, or None where some column allows no head.
+pub fn combine(t: &[u16], a: &[u64], b: &[u64], out: &mut [u64]) -> Option<usize>
     requires { GivenRows t.now a.now b.now out.old }
     ensures { (g : GivenRows t.now a.now b.now out.old) → Result (row_code_of g.K g.kind (combined g.r g.s)) result out.old out.new }
 {
-    let mut x = Cursor {
-        at: 0,
-        wildcards: 0,
-    };
-    let mut y = Cursor {
-        at: 0,
-        wildcards: 0,
-    };
+    let mut x = START;
+    let mut y = START;
     let mut n = 0;
     let mut left = 1;
     while left > 0 {
@@ -168,7 +160,7 @@ pub fn combine(t: &[u16], a: &[u64], b: &[u64], out: &mut [u64]) -> Out
         let q = look(b, y);
         let c = join(p, q);
         if is_empty(c.allowed) {
-            return Out::Dropped;
+            return None;
         }
         put(out, n, c);
         n += CELL;
@@ -177,5 +169,5 @@ pub fn combine(t: &[u16], a: &[u64], b: &[u64], out: &mut [u64]) -> Out
         x = next(x, p.tag, w);
         y = next(y, q.tag, w);
     }
-    Out::Kept(n)
+    Some(n)
 }

@@ -8,6 +8,7 @@ use native.Mathlib.Omega.{arith}
 use borrow.Author.Tests.{ltb-true, ltb-false, lt-ltb, le-ltb}
 use lib.Dec.{eqb, ltb}
 use lib.ListN.{length, get_or}
+use Rattle.std.specs.Prelude.{Option, Some, None, is_some}
 use Rattle.cell.specs.Cell.{kind_tag}
 use Rattle.signature.specs.Decoded.{count_of, first_of, kind_of}
 use Rattle.signature.specs.Limits.{kind_limit, level_base, level_count, last_level}
@@ -61,18 +62,18 @@ module _ {t : List ℕ} {tag : ℕ} (g : Seen t tag) where
       let q : tag - kind_tag ≡ g.k = omega (arith, seen_free l) in
       rw (le-ltb tag kind_tag l, h, e ∙ ap (count_of t) q ∙ g.known.decoded.head_count g.k g.there)
 
-  pub kind_saw : (allowed x : ℕ) (b : Bool) → b ≡ true → b ≡ refined_cell g.known.sig g.k tag allowed → x ≡ g.k → RowKind g.known.sig g.k tag allowed x
-  kind_saw allowed x b e h i = record { plain = λ l. absurd (omega (arith, kind_small)); refines = λ l. (i, sym h ∙ e) }
+  pub kind_saw : (allowed x : ℕ) (b : Bool) → b ≡ true → b ≡ refined_cell g.known.sig g.k tag allowed → x ≡ g.k → RowKind g.known.sig g.k tag allowed (Some x)
+  kind_saw allowed x b e h i = record { plain = λ l. absurd cc; refines = λ y l. (let z : x ≡ y = cc in sym z ∙ i, sym h ∙ e) }
 
-  pub plain_saw : (allowed : ℕ) (b : Bool) → b ≡ false → b ≡ refined_cell g.known.sig g.k tag allowed → RowKind g.known.sig g.k tag allowed kind_limit
-  plain_saw allowed b e h = record { plain = λ l. sym h ∙ e; refines = λ l. absurd (omega arith) }
+  pub plain_saw : (allowed : ℕ) (b : Bool) → b ≡ false → b ≡ refined_cell g.known.sig g.k tag allowed → RowKind g.known.sig g.k tag allowed None
+  plain_saw allowed b e h = record { plain = λ l. sym h ∙ e; refines = λ y l. absurd cc }
 
 -- the cell of a row of the set
 abbrev pub seen_at : {t a rows : List ℕ} {n : ℕ} {re cur : List ℕ} (g : Looking t a rows n re cur) (r : ℕ) → r < n → member re r ≡ true → Seen t (tag_at a rows cur r)
 seen_at g r l e = record { known = g.known; k = g.k; there = g.there; is = g.tags r l e }
 
 -- what the cell that the code reads says
-pub kind_from : (t a rows cur : List ℕ) (r x : ℕ) (c : Cell) → c ≡ cell_at a (cell_of rows r (get_or cur r 0)) → ((s : Seen t c.tag) → RowKind s.known.sig s.k c.tag (number_of c.allowed) x)
+pub kind_from : (t a rows cur : List ℕ) (r : ℕ) (x : Option ℕ) (c : Cell) → c ≡ cell_at a (cell_of rows r (get_or cur r 0)) → ((s : Seen t c.tag) → RowKind s.known.sig s.k c.tag (number_of c.allowed) x)
     → (g : Seen t (tag_at a rows cur r)) → RowKind g.known.sig g.k (tag_at a rows cur r) (allowed_at a rows cur r) x
 kind_from t a rows cur r x c h f = subst (λ (y : Cell). ((s : Seen t y.tag) → RowKind s.known.sig s.k y.tag (number_of y.allowed) x)) h f
 
@@ -80,7 +81,7 @@ kind_from t a rows cur r x c h f = subst (λ (y : Cell). ((s : Seen t y.tag) →
 abbrev pub NoneRefines : Signature → List ℕ → List ℕ → List ℕ → List ℕ → ℕ → ℕ → Type 0
 NoneRefines sig a rows re cur k r = (q : ℕ) → q < r → member re q ≡ true → refined_cell sig k (tag_at a rows cur q) (allowed_at a rows cur q) ≡ false
 
-pub none_next : (sig : Signature) (a rows re cur : List ℕ) (k n r x r' : ℕ) → NoneRefines sig a rows re cur k r → RowKind sig k (tag_at a rows cur r) (allowed_at a rows cur r) x → kind_limit ≤ x → NextIn re (r + 1) n r' → NoneRefines sig a rows re cur k r'
+pub none_next : (sig : Signature) (a rows re cur : List ℕ) (k n r : ℕ) (x : Option ℕ) (r' : ℕ) → NoneRefines sig a rows re cur k r → RowKind sig k (tag_at a rows cur r) (allowed_at a rows cur r) x → x ≡ None → NextIn re (r + 1) n r' → NoneRefines sig a rows re cur k r'
 none_next sig a rows re cur k n r x r' h w l f q m e = go (ltb q r) refl
   where
     here : (b : Bool) → eqb q r ≡ b → r ≤ q → refined_cell sig k (tag_at a rows cur q) (allowed_at a rows cur q) ≡ false
@@ -91,11 +92,19 @@ none_next sig a rows re cur k n r x r' h w l f q m e = go (ltb q r) refl
     go true i = h q (ltb-true q r i) e
     go false i = here (eqb q r) refl (ltb-false q r i)
 
-pub column_none : (sig : Signature) (a rows re cur : List ℕ) (n k r : ℕ) → n ≤ r → NoneRefines sig a rows re cur k r → Column sig a rows n re cur k kind_limit
-column_none sig a rows re cur n k r l h = record { plain = λ e q m i. h q (omega arith) i; kind = λ f. absurd (f refl); row = λ f. absurd (f refl) }
+-- where a kind was seen, and where none was
+none_there : {P : Type 0} (x : Option ℕ) → x ≡ None → is_some x ≡ true → P
+none_there x e m = true≢false (sym m ∙ ap is_some e)
 
-pub column_some : (sig : Signature) (a rows re cur : List ℕ) (n k r x : ℕ) → r < n → member re r ≡ true → RowKind sig k (tag_at a rows cur r) (allowed_at a rows cur r) x → x < kind_limit → Column sig a rows n re cur k x
-column_some sig a rows re cur n k r x l i v m = record { plain = λ e. absurd (omega arith); kind = λ f. (v.refines m).0; row = λ f. (r, l, i, (v.refines m).1) }
+pub none_seen : (x : Option ℕ) → is_some x ≡ false → x ≡ None
+none_seen None e = refl
+none_seen (Some y) e = true≢false e
+
+pub column_none : (sig : Signature) (a rows re cur : List ℕ) (n k r : ℕ) → n ≤ r → NoneRefines sig a rows re cur k r → Column sig a rows n re cur k None
+column_none sig a rows re cur n k r l h = record { plain = λ e q m i. h q (omega arith) i; kind = λ y f. absurd cc; row = λ y f. absurd cc }
+
+pub column_some : (sig : Signature) (a rows re cur : List ℕ) (n k r : ℕ) (x : Option ℕ) → r < n → member re r ≡ true → RowKind sig k (tag_at a rows cur r) (allowed_at a rows cur r) x → is_some x ≡ true → Column sig a rows n re cur k x
+column_some sig a rows re cur n k r x l i v m = record { plain = λ e. none_there x e m; kind = λ y f. (v.refines y f).0; row = λ y f. (r, l, i, (v.refines y f).1) }
 
 -- the rows that stay alive
 

@@ -1,7 +1,7 @@
 -- The first column: what the rows say of it, and what is asked where it is looked at.
-use Rattle.std.specs.Prelude.{◌≡◌, ◌⊎◌, List, Bool, true, false, ◌&&◌, ◌||◌, cond, ℕ, ◌+◌, ◌-◌, ◌*◌, ◌≤◌, ◌<◌, eqb, length, get_or}
+use Rattle.std.specs.Prelude.{◌≡◌, ◌⊎◌, List, Bool, true, false, ◌&&◌, ◌||◌, cond, ℕ, ◌+◌, ◌-◌, ◌*◌, ◌≤◌, ◌<◌, eqb, length, get_or, Option, Some, None}
 use Rattle.signature.specs.Decoded.{Known, first_of}
-use Rattle.signature.specs.Limits.{kind_limit, level_base, last_level}
+use Rattle.signature.specs.Limits.{level_base, last_level}
 use Rattle.signature.specs.Lists.{memb, any, count_up}
 use Rattle.sets.specs.Set.{bit, heads_width}
 use Rattle.signature.specs.Signature.{Signature, heads}
@@ -26,16 +26,16 @@ pub record Seen (t : List ℕ) (tag : ℕ) : Type 0 where
   pub there : k < known.decoded.n
   pub is : (tag ≡ kind_tag + k) ⊎ ((tag < kind_tag) × (memb tag (heads known.sig k) ≡ true))
 
--- what the look at a cell says: its kind k where it is refined, else kind-limit
-pub record RowKind (sig : Signature) (k tag allowed res : ℕ) : Type 0 where
-  pub plain : kind_limit ≤ res → refined_cell sig k tag allowed ≡ false
-  pub refines : res < kind_limit → (res ≡ k) × (refined_cell sig k tag allowed ≡ true)
+-- what the look at a cell says: its kind k where it is refined, else none
+pub record RowKind (sig : Signature) (k tag allowed : ℕ) (res : Option ℕ) : Type 0 where
+  pub plain : res ≡ None → refined_cell sig k tag allowed ≡ false
+  pub refines : (x : ℕ) → res ≡ Some x → (x ≡ k) × (refined_cell sig k tag allowed ≡ true)
 
--- what the look at the column says: its kind, or kind-limit where no real row refines it
-pub record Column (sig : Signature) (a rows : List ℕ) (n : ℕ) (re cur : List ℕ) (k res : ℕ) : Type 0 where
-  pub plain : res ≡ kind_limit → (r : ℕ) → r < n → member re r ≡ true → refined_cell sig k (tag_at a rows cur r) (allowed_at a rows cur r) ≡ false
-  pub kind : (res ≡ kind_limit → ⊥) → res ≡ k
-  pub row : (res ≡ kind_limit → ⊥) → (r : ℕ) × (r < n) × (member re r ≡ true) × (refined_cell sig k (tag_at a rows cur r) (allowed_at a rows cur r) ≡ true)
+-- what the look at the column says: its kind, or none where no real row refines it
+pub record Column (sig : Signature) (a rows : List ℕ) (n : ℕ) (re cur : List ℕ) (k : ℕ) (res : Option ℕ) : Type 0 where
+  pub plain : res ≡ None → (r : ℕ) → r < n → member re r ≡ true → refined_cell sig k (tag_at a rows cur r) (allowed_at a rows cur r) ≡ false
+  pub kind : (x : ℕ) → res ≡ Some x → x ≡ k
+  pub row : (x : ℕ) → res ≡ Some x → (r : ℕ) × (r < n) × (member re r ≡ true) × (refined_cell sig k (tag_at a rows cur r) (allowed_at a rows cur r) ≡ true)
 
 -- what it is given: each real row has a cell there, of the column's kind
 pub record Looking (t a rows : List ℕ) (n : ℕ) (re cur : List ℕ) : Type 0 where
@@ -53,7 +53,7 @@ abbrev pub CellThere : List ℕ → List ℕ → List ℕ → ℕ → Type 0
 CellThere a rows cur r = (r < length cur) × (row_stride * r + row_stride ≤ length rows) × (cell_of rows r (get_or cur r 0) + cell_width ≤ length a)
 
 -- whoever knows that learns what the column says
-abbrev pub KindOfColumn : List ℕ → List ℕ → List ℕ → ℕ → List ℕ → List ℕ → ℕ → Type 0
+abbrev pub KindOfColumn : List ℕ → List ℕ → List ℕ → ℕ → List ℕ → List ℕ → Option ℕ → Type 0
 KindOfColumn t a rows n re cur res = (g : Looking t a rows n re cur) → Column g.known.sig a rows n re cur g.k res
 
 -- what is given to find the rows that allow head number j: the cursors are raised

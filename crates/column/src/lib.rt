@@ -17,9 +17,6 @@ use rowset::set::{SET_WORDS, copy, first_in, has, next_in, put};
 use sets::heads::{Heads, edges, full, has as has_head, join, meet, only, size};
 use signature::decoded::{LAST_LEVEL, LEVEL_BASE, LEVELS, count_of, first_of, kind_of};
 
-// What stands for no kind.
-pub const NO_KIND: usize = 32;
-
 // Whether a cell names or excludes a constructor of its kind.
 fn refined(t: &[u16], tag: u64, allowed: Heads) -> bool
     requires { Seen t.now tag }
@@ -43,19 +40,19 @@ fn cell_kind(t: &[u16], tag: u64) -> usize
     (tag - KIND_TAG) as usize
 }
 
-// The kind of a cell that is refined, else NO_KIND.
-fn refined_kind(t: &[u16], tag: u64, allowed: Heads) -> usize
+// The kind of a cell that is refined.
+fn refined_kind(t: &[u16], tag: u64, allowed: Heads) -> Option<usize>
     requires { Seen t.now tag }
     ensures { (g : Seen t.now tag) → RowKind g.known.sig g.k tag (number_of allowed) result }
 {
     if refined(t, tag, allowed) {
-        return cell_kind(t, tag);
+        return Some(cell_kind(t, tag));
     }
-    NO_KIND
+    None
 }
 
 // The same of row r's cell.
-fn row_kind(t: &[u16], a: &[u64], rows: &[u16], cur: &[u8], r: usize) -> usize
+fn row_kind(t: &[u16], a: &[u64], rows: &[u16], cur: &[u8], r: usize) -> Option<usize>
     requires { CellThere a.now rows.now cur.now r × Seen t.now (tag_at a.now rows.now cur.now r) }
     ensures { (g : Seen t.now (tag_at a.now rows.now cur.now r)) → RowKind g.known.sig g.k (tag_at a.now rows.now cur.now r) (allowed_at a.now rows.now cur.now r) result }
 {
@@ -63,7 +60,7 @@ fn row_kind(t: &[u16], a: &[u64], rows: &[u16], cur: &[u8], r: usize) -> usize
     refined_kind(t, c.tag, c.allowed)
 }
 
-// The kind of the column that some row of the set refines, else NO_KIND.
+// The kind of the column, where some row of the set refines it.
 pub fn column(
     t: &[u16],
     a: &[u64],
@@ -71,19 +68,19 @@ pub fn column(
     n: usize,
     re: &[u64; SET_WORDS],
     cur: &[u8],
-) -> usize
+) -> Option<usize>
     requires { Looking t.now a.now rows.now n re.now cur.now }
     ensures { KindOfColumn t.now a.now rows.now n re.now cur.now result }
 {
     let mut r = first_in(re, n);
     while r < n {
         let x = row_kind(t, a, rows, cur, r);
-        if x < NO_KIND {
+        if x.is_some() {
             return x;
         }
         r = next_in(re, r + 1, n);
     }
-    NO_KIND
+    None
 }
 
 // Whether row r, which has a cell there, stays alive where head number j of the kind is taken; its cursor is past its cell.

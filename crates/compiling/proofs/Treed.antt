@@ -20,8 +20,7 @@ use Rattle.store.specs.Laid.{Holds}
 use Rattle.path.specs.State.{row_stride, default_in}
 use Rattle.writer.specs.Write.{GivenRows, TreeWritten, most_words, answer, space_after}
 use Rattle.path.specs.Rows.{line_of}
-use Rattle.writer.specs.declared.write.Written.{Written}
-use Rattle.writer.specs.declared.write.Written.TheVariants.{Done, TooLarge}
+use Rattle.std.specs.Prelude.{Option as CodeOption, None, Some}
 use Rattle.loading.proofs.Tested.{tests}
 use Rattle.loading.proofs.Loads.{sound_holds}
 use Rattle.loading.proofs.Tested.{tests_light}
@@ -31,15 +30,15 @@ use Rattle.compiling.proofs.RowsOf.{lines_are, few_rows, rows_are_fit}
 
 -- the answer of the writer as the call's
 
-abbrev pub number_by : Written → ℕ
-number_by (Done n) = 0
-number_by TooLarge = 14
+abbrev pub number_by : CodeOption ℕ → ℕ
+number_by (Some n) = 0
+number_by None = 14
 
-abbrev pub length_by : Written → ℕ
-length_by (Done n) = n
-length_by TooLarge = 0
+abbrev pub length_by : CodeOption ℕ → ℕ
+length_by (Some n) = n
+length_by None = 0
 
-no_done : {n : ℕ} → Done n ≡ TooLarge → ⊥
+no_done : {n : ℕ} → Some n ≡ None → ⊥
 no_done e = absurd (omega (arith, ap number_by e))
 
 -- 14: "The tree exceeds the lent slice or 32,768 words."
@@ -69,11 +68,11 @@ told T space m i = record {
   space_is = space_so (leb (words T) m) ∙ ap (λ (b : Bool). cond b space (layout T 0 ++ drop (length (layout T 0)) space)) (ap not i ∙ sym (fits_or T space));
 }
   where
-    number_so : (b : Bool) → number_by (cond b (Done (words T)) TooLarge) ≡ cond (not b) 14 0
+    number_so : (b : Bool) → number_by (cond b (Some (words T)) None) ≡ cond (not b) 14 0
     number_so true = refl
     number_so false = refl
 
-    length_so : (b : Bool) → length_by (cond b (Done (words T)) TooLarge) ≡ cond (not b) 0 (length (layout T 0))
+    length_so : (b : Bool) → length_by (cond b (Some (words T)) None) ≡ cond (not b) 0 (length (layout T 0))
     length_so true = sym (length_layout T 0)
     length_so false = refl
 
@@ -82,7 +81,7 @@ told T space m i = record {
     space_so false = refl
 
 -- by the words of the tree, whatever is known of the writer's answer
-treed : (T : Tree) (ts space : List ℕ) (m : ℕ) (w : Written) (space' : List ℕ) → leb (words T) m ≡ fits T space → layout T 0 ≡ ts → w ≡ answer T m → space' ≡ space_after T m space → TreeIn ts space (number_by w) (length_by w) space'
+treed : (T : Tree) (ts space : List ℕ) (m : ℕ) (w : CodeOption ℕ) (space' : List ℕ) → leb (words T) m ≡ fits T space → layout T 0 ≡ ts → w ≡ answer T m → space' ≡ space_after T m space → TreeIn ts space (number_by w) (length_by w) space'
 treed T ts space m w space' i e f h = rw (f, h, ← e) (told T space m i)
 
 -- a working space for every tree, or one in which the tree is written, says what 14 says
@@ -94,10 +93,10 @@ all_fit T space = go (leb (words T) (length space)) refl (leb (words T) tree_lim
     go true x false y = leb_no (words T) (most_words (length space) tree_limit) (omega (arith, lt_of_not (words T) tree_limit y))
     go false x b y = leb_no (words T) (most_words (length space) tree_limit) (omega (arith, lt_of_not (words T) (length space) x))
 
-done_words : (T : Tree) (m n : ℕ) → Done n ≡ answer T m → leb (words T) m ≡ true
+done_words : (T : Tree) (m n : ℕ) → Some n ≡ answer T m → leb (words T) m ≡ true
 done_words T m n e = go (leb (words T) m) e
   where
-    go : (b : Bool) → Done n ≡ cond b (Done (words T)) TooLarge → b ≡ true
+    go : (b : Bool) → Some n ≡ cond b (Some (words T)) None → b ≡ true
     go true x = refl
     go false x = absurd (no_done x)
 
@@ -106,10 +105,10 @@ some_fit T space room e =
     let l : words T ≤ most_words (length space) room = le_of (words T) (most_words (length space) room) e in
     e ∙ sym (rw (leb_yes (words T) (length space) (omega arith), leb_yes (words T) tree_limit (omega arith)))
 
-large_space : (T : Tree) (m : ℕ) (space : List ℕ) → TooLarge ≡ answer T m → space_after T m space ≡ space
+large_space : (T : Tree) (m : ℕ) (space : List ℕ) → None ≡ answer T m → space_after T m space ≡ space
 large_space T m space e = go (leb (words T) m) e
   where
-    go : (b : Bool) → TooLarge ≡ cond b (Done (words T)) TooLarge → cond b (layout T 0 ++ drop (words T) space) space ≡ space
+    go : (b : Bool) → None ≡ cond b (Some (words T)) None → cond b (layout T 0 ++ drop (words T) space) space ≡ space
     go true x = absurd (no_done (sym x))
     go false x = refl
 
@@ -165,21 +164,21 @@ module _ {t table lists : List ℕ} (g : InTable t table lists) where
     T = compile (default_in tab) visit_bound g.force.known.sig (0 ∷ []) (map line_of (rows_all g.force.known.sig g.force.rs)) 0
 
     -- with the smaller working space
-    module _ (w : Written) (space space' : List ℕ) (h : TreeWritten t lists tab n small_tree space w space') where
-      pub written_small : (len : ℕ) → w ≡ Done len → TreeIn (tree_words (default_of table) g.force.known.sig g.force.rs) space 0 len space'
+    module _ (w : CodeOption ℕ) (space space' : List ℕ) (h : TreeWritten t lists tab n small_tree space w space') where
+      pub written_small : (len : ℕ) → w ≡ Some len → TreeIn (tree_words (default_of table) g.force.known.sig g.force.rs) space 0 len space'
       unfolding given_rows
       written_small len e =
           let z = h given_rows visit_bound (omega arith) in
-          let f : Done len ≡ answer T (most_words (length space) small_tree) = sym e ∙ z.0 in
-          treed T (tree_words (default_of table) g.force.known.sig g.force.rs) space (most_words (length space) small_tree) (Done len) space' (some_fit T space small_tree (done_words T (most_words (length space) small_tree) len f)) tree_is f z.1
+          let f : Some len ≡ answer T (most_words (length space) small_tree) = sym e ∙ z.0 in
+          treed T (tree_words (default_of table) g.force.known.sig g.force.rs) space (most_words (length space) small_tree) (Some len) space' (some_fit T space small_tree (done_words T (most_words (length space) small_tree) len f)) tree_is f z.1
 
-      pub unwritten : w ≡ TooLarge → space' ≡ space
+      pub unwritten : w ≡ None → space' ≡ space
       unfolding given_rows
       unwritten e =
           let z = h given_rows visit_bound (omega arith) in
           z.1 ∙ large_space T (most_words (length space) small_tree) space (sym e ∙ z.0)
 
-    pub written_large : (w : Written) (space space₁ space' : List ℕ) → space₁ ≡ space → TreeWritten t lists tab n tree_limit space₁ w space' → (v : Written) → w ≡ v → TreeIn (tree_words (default_of table) g.force.known.sig g.force.rs) space (number_by v) (length_by v) space'
+    pub written_large : (w : CodeOption ℕ) (space space₁ space' : List ℕ) → space₁ ≡ space → TreeWritten t lists tab n tree_limit space₁ w space' → (v : CodeOption ℕ) → w ≡ v → TreeIn (tree_words (default_of table) g.force.known.sig g.force.rs) space (number_by v) (length_by v) space'
     unfolding given_rows
     written_large w space space₁ space' same h v e =
         let z = h given_rows visit_bound (omega arith) in

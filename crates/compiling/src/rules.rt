@@ -1,5 +1,6 @@
 // The tree of the rules of a sound table, whose rows are loaded.
 ghost use Rattle.std.specs.Prelude.{◌≡◌, ◌*◌, ◌≤◌, ◌<◌, length};
+ghost use Rattle.signature.specs.Refusal.{number_in};
 ghost use Rattle.pattern.specs.Limits.{pattern_limit};
 ghost use Rattle.tree.specs.Limits.{tree_limit};
 ghost use Rattle.rowset.specs.Limits.{row_limit};
@@ -8,21 +9,21 @@ ghost use Rattle.table.specs.Matrix.{tree_words};
 ghost use Rattle.table.specs.Rule.{default_of};
 ghost use Rattle.table.specs.Calls.{TreeIn};
 ghost use Rattle.writer.specs.Write.{GivenRows, TreeWritten};
-ghost use Rattle.compiling.specs.Compile.{InTable, small_tree};
+ghost use Rattle.compiling.specs.Compile.{InTable, length_in};
 
-use crate::compile::Compiled;
 use indexing::rules::index_rules;
 use path::rows::{CURSORS, INDEX_ROOM, VISITS};
 use signature::decoded::DECODED;
-use signature::refusals::TREE_TOO_LARGE;
+use signature::refusals::Refusal;
 use tree::words::TREE_LIMIT;
-use writer::write::{Written, write};
+use writer::write::write;
 
 // The smaller working space for a tree, which is tried first: enough for most.
 const SMALL_TREE: usize = 2048;
 
-// The tree of n rows, if it is not too large for the smaller space.
-fn write_small(
+// The tree of n rows, if it is not too large for a working space of so many words.
+#[inline(never)]
+fn write_in<const TREE: usize>(
     t: &[u16; DECODED],
     lists: &[u64],
     rows: &[u16; INDEX_ROOM],
@@ -30,29 +31,12 @@ fn write_small(
     cur: &mut [u8; CURSORS],
     vis: &mut [u16; VISITS],
     space: &mut [u16],
-) -> Written
-    requires { GivenRows t.now lists.now rows.now n × (row_stride * row_limit < length rows.now) × (n ≤ length cur.old) × (pattern_limit * n ≤ length vis.old) }
-    ensures tree_written { TreeWritten t.now lists.now rows.now n small_tree space.old result space.new }
+) -> Option<usize>
+    requires { GivenRows t.now lists.now rows.now n × (row_stride * row_limit < length rows.now) × (n ≤ length cur.old) × (pattern_limit * n ≤ length vis.old) × (TREE ≤ tree_limit) }
+    ensures tree_written { TreeWritten t.now lists.now rows.now n TREE space.old result space.new }
     ensures cur_len_unchanged { (length cur.new ≡ length cur.old) × (length vis.new ≡ length vis.old) }
 {
-    let mut tree = [0u16; SMALL_TREE];
-    write(t, lists, rows, n, cur, vis, &mut tree, space)
-}
-
-// The same with space for every tree.
-fn write_large(
-    t: &[u16; DECODED],
-    lists: &[u64],
-    rows: &[u16; INDEX_ROOM],
-    n: usize,
-    cur: &mut [u8; CURSORS],
-    vis: &mut [u16; VISITS],
-    space: &mut [u16],
-) -> Written
-    requires { GivenRows t.now lists.now rows.now n × (row_stride * row_limit < length rows.now) × (n ≤ length cur.old) × (pattern_limit * n ≤ length vis.old) }
-    ensures { TreeWritten t.now lists.now rows.now n tree_limit space.old result space.new }
-{
-    let mut tree = [0u16; TREE_LIMIT];
+    let mut tree = [0u16; TREE];
     write(t, lists, rows, n, cur, vis, &mut tree, space)
 }
 
@@ -65,21 +49,16 @@ pub fn write_rules(
     cur: &mut [u8; CURSORS],
     vis: &mut [u16; VISITS],
     space: &mut [u16],
-) -> Compiled
+) -> Result<usize, Refusal>
     requires { InTable t.now table.now lists.now × (row_stride * row_limit < length rows.old) × (row_limit ≤ length cur.old) × (pattern_limit * row_limit ≤ length vis.old) }
-    ensures { (g : InTable t.now table.now lists.now) → TreeIn (tree_words (default_of table.now) g.force.known.sig g.force.rs) space.old result.number result.len space.new }
+    ensures { (g : InTable t.now table.now lists.now) → TreeIn (tree_words (default_of table.now) g.force.known.sig g.force.rs) space.old (number_in result) (length_in result) space.new }
 {
     let n = index_rules(t, table, lists, rows);
-    let w = write_small(t, lists, rows, n, cur, vis, space);
-    if let Written::Done(len) = w {
-        return Compiled { number: 0, len };
+    if let Some(len) = write_in::<SMALL_TREE>(t, lists, rows, n, cur, vis, space) {
+        return Ok(len);
     }
-    let v = write_large(t, lists, rows, n, cur, vis, space);
-    match v {
-        Written::Done(len) => Compiled { number: 0, len },
-        Written::TooLarge => Compiled {
-            number: TREE_TOO_LARGE,
-            len: 0,
-        },
+    match write_in::<TREE_LIMIT>(t, lists, rows, n, cur, vis, space) {
+        Some(len) => Ok(len),
+        None => Err(Refusal::TreeTooLarge),
     }
 }

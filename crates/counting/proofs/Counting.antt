@@ -12,7 +12,6 @@ use Rattle.signature.proofs.Tests.{eqb_eq, eqb_ne, leb_yes, leb_no}
 use Rattle.tree.specs.Limits.{last_number}
 use Rattle.day_log.specs.Limits.{log_limit, rule_numbers}
 use Rattle.day_log.specs.Log.{often, counts, rules_only, log_refusal, TallyCall}
-use Rattle.counting.specs.Refused.{Refused}
 use Rattle.day_log.proofs.Often.{none_often, once_more, for_others, often_most, numbered, count}
 
 -- the entries before i are counted
@@ -73,26 +72,26 @@ module _ {log c : List ℕ} {i : ℕ} (g : Going log c i) where
       })
 
 -- the call: refused, or counted
-module _ (log : List ℕ) {number total : ℕ} {c : List ℕ} where
-  as_refused : log_refusal log ≡ 19 → Refused number total c → TallyCall log number total c
-  as_refused e h = record {
-    number_is = h.number_is ∙ sym e;
-    total_is = h.total_is ∙ sym (ap (λ n. cond (eqb n 0) (length log) 0) e);
-    counts_are = h.counts_are ∙ sym (ap (λ n. cond (eqb n 0) (counts log) (replicate rule_numbers 0)) e);
+module _ (log : List ℕ) where
+  as_refused : log_refusal log ≡ 19 → TallyCall log 19 0 (replicate rule_numbers 0)
+  as_refused e = record {
+    number_is = sym e;
+    total_is = sym (ap (λ n. cond (eqb n 0) (length log) 0) e);
+    counts_are = sym (ap (λ n. cond (eqb n 0) (counts log) (replicate rule_numbers 0)) e);
   }
 
-  pub too_long : log_limit < length log → Refused number total c → TallyCall log number total c
-  too_long l h = as_refused (rw (leb_no (length log) log_limit l)) h
+  pub too_long : log_limit < length log → TallyCall log 19 0 (replicate rule_numbers 0)
+  too_long l = as_refused (rw (leb_no (length log) log_limit l))
 
   module _ (few : length log ≤ log_limit) where
-    pub no_rules : rules_only log ≡ false → Refused number total c → TallyCall log number total c
-    no_rules r h = as_refused (rw (leb_yes (length log) log_limit few, r)) h
+    pub no_rules : rules_only log ≡ false → TallyCall log 19 0 (replicate rule_numbers 0)
+    no_rules r = as_refused (rw (leb_yes (length log) log_limit few, r))
 
-    pub tallied : rules_only log ≡ true → number ≡ 0 → total ≡ length log → c ≡ counts log → TallyCall log number total c
-    tallied r n t e =
+    pub tallied : {c : List ℕ} → rules_only log ≡ true → c ≡ counts log → TallyCall log 0 (length log) c
+    tallied r e =
         let z : log_refusal log ≡ 0 = rw (leb_yes (length log) log_limit few, r) in
         record {
-          number_is = n ∙ sym z;
-          total_is = t ∙ sym (ap (λ m. cond (eqb m 0) (length log) 0) z);
+          number_is = sym z;
+          total_is = sym (ap (λ m. cond (eqb m 0) (length log) 0) z);
           counts_are = e ∙ sym (ap (λ m. cond (eqb m 0) (counts log) (replicate rule_numbers 0)) z);
         }

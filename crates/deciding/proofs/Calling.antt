@@ -13,14 +13,17 @@ use Rattle.table.specs.Limits.{limits}
 use Rattle.table.specs.Calls.{DecideCall, start, long_table, decide_from, decide_booking}
 use Rattle.table.specs.Decide.{direct}
 use Rattle.table.specs.Rule.{default_of}
-use Rattle.run.specs.Outcome.{ran_answer, outcome}
-use Rattle.run.specs.declared.Ran.{Ran}
+use Rattle.run.specs.Outcome.{answer_of}
+use Rattle.std.specs.Prelude.{Result}
+use Rattle.signature.specs.Refusal.{number_in}
+use Rattle.signature.specs.declared.refusals.Refusal.{Refusal}
+use Rattle.run.specs.declared.Answer.{Answer}
 use Rattle.opening.specs.Open.{OpenedAs, Ruled}
 use Rattle.deciding.specs.Decide.{Judging}
 
 module _ (ss table bs t : List ℕ) (q : ℕ) (open_so : OpenedAs ss table q t) where
-  pub turned_down : (q ≡ 0 → ⊥) → (r : Ran) → outcome r ≡ refusal q → DecideCall limits ss table bs r.number (ran_answer r)
-  turned_down f r e = record { result_is = e ∙ sym (ap (λ x. decide_from (default_of table) x bs) (open_so.turned_down f)) }
+  pub turned_down : (q ≡ 0 → ⊥) → DecideCall limits ss table bs q (refusal q).1
+  turned_down f = record { result_is = sym (ap (λ x. decide_from (default_of table) x bs) (open_so.turned_down f)) }
 
   module _ (e : q ≡ 0) where
     abbrev pub force : Ruled t table
@@ -29,13 +32,13 @@ module _ (ss table bs t : List ℕ) (q : ℕ) (open_so : OpenedAs ss table q t) 
     from_start : (x : Option Value) → read_booking force.known.sig bs ≡ x → decide_from (default_of table) (start limits ss (long_table limits table) table) bs ≡ decide_booking (default_of table) force.known.sig force.rs x
     from_start x q = ap (λ z. decide_from (default_of table) z bs) (open_so.begun e).1 ∙ ap (decide_booking (default_of table) force.known.sig force.rs) q
 
-    pub refused_13 : (r : Ran) → false ≡ is_some (read_booking force.known.sig bs) → outcome r ≡ refusal 13 → DecideCall limits ss table bs r.number (ran_answer r)
-    refused_13 r l q = record { result_is = q ∙ sym (from_start none (missing (read_booking force.known.sig bs) l)) }
+    pub refused_13 : false ≡ is_some (read_booking force.known.sig bs) → DecideCall limits ss table bs 13 (refusal 13).1
+    refused_13 l = record { result_is = sym (from_start none (missing (read_booking force.known.sig bs) l)) }
 
     module _ (l : true ≡ is_some (read_booking force.known.sig bs)) where
       pub judging : Judging t table bs
       judging = let (v, q) = there (read_booking force.known.sig bs) l in record { force = force; value = v; booked = q }
 
-      pub answered : (r : Ran) → ((g : Judging t table bs) → outcome r ≡ (0, direct (default_of table) g.force.known.sig g.force.rs g.value)) → DecideCall limits ss table bs r.number (ran_answer r)
+      pub answered : (r : Answer) → ((g : Judging t table bs) → answer_of r ≡ direct (default_of table) g.force.known.sig g.force.rs g.value) → DecideCall limits ss table bs 0 (answer_of r)
       unfolding judging
-      answered r f = record { result_is = f judging ∙ sym (from_start (some judging.value) judging.booked) }
+      answered r f = record { result_is = ap (λ a. (0, a)) (f judging) ∙ sym (from_start (some judging.value) judging.booked) }

@@ -47,10 +47,10 @@ the_binds (fit σ) h = (σ, refl)
 the_binds (fail σ) h = true≢false (sym h)
 
 -- the answer by a rule, from the places
-pub by_fit : {t table : List ℕ} {at : ℕ} {ws bs : List ℕ} (g : ByRule t table at ws bs) (places : List ℕ) → ((q : Asked t ws bs) (σ : Binds) → decide q.pattern q.value 0 ≡ fit σ → places ≡ bind_all σ unbound) → (0, record { rule = get_or table at 0; plan = get_or table (at + 1) 0; places = places }) ≡ answered_by g
+pub by_fit : {t table : List ℕ} {at : ℕ} {ws bs : List ℕ} (g : ByRule t table at ws bs) (places : List ℕ) → ((q : Asked t ws bs) (σ : Binds) → decide q.pattern q.value 0 ≡ fit σ → places ≡ bind_all σ unbound) → ◌≡◌ {A = Answer} (record { rule = get_or table at 0; plan = get_or table (at + 1) 0; places = places }) (answered_by g)
 by_fit {table = table} {at = at} g places f =
     let q = the_binds (decide g.asked.pattern g.asked.value 0) (g.fits g.asked) in
-    ap (λ z. (0, record { rule = get_or table at 0; plan = get_or table (at + 1) 0; places = z })) (f g.asked q.0 q.1 ∙ sym (ap places_by q.1))
+    ap {A = List ℕ} {B = Answer} (λ z. record { rule = get_or table at 0; plan = get_or table (at + 1) 0; places = z }) (f g.asked q.0 q.1 ∙ sym (ap places_by q.1))
 
 module _ {t table bs : List ℕ} (g : Judging t table bs) where
   holds : Holds limits table g.force.rs
@@ -86,9 +86,6 @@ module _ {t table bs : List ℕ} (g : Judging t table bs) where
       pub end_le : at + 3 + get_or table (at + 2) 0 ≤ (table_length limits)
       end_le = omega (arith, step.reads.length_is, step.reads.within)
 
-      pub few : i < limits.rules
-      few = omega (arith, e, count_is, holds.few)
-
       abbrev words : List ℕ
       words = take (at + 3 + get_or table (at + 2) 0 - (at + 3)) (drop (at + 3) table)
 
@@ -114,14 +111,14 @@ module _ {t table bs : List ℕ} (g : Judging t table bs) where
         pub by_rule : b ≡ true → ByRule t table at words bs
         by_rule h = record { asked = asked; fits = λ q. sym (gave q) ∙ h; within = omega (arith, end_le, long) }
 
-        pub hit : (h : b ≡ true) → (r : ℕ × Answer) → ((q : ByRule t table at words bs) → r ≡ answered_by q) → r ≡ (0, direct (default_of table) g.force.known.sig g.force.rs g.value)
+        pub hit : (h : b ≡ true) → (r : Answer) → ((q : ByRule t table at words bs) → r ≡ answered_by q) → r ≡ direct (default_of table) g.force.known.sig g.force.rs g.value
         unfolding by_rule asked
         hit h r f =
             let q = the_binds (decide passed.pat g.value 0) (said ∙ h) in
             f (by_rule h)
-            ∙ ap (λ o. (0, record { rule = get_or table at 0; plan = get_or table (at + 1) 0; places = places_by o })) q.1
-            ∙ ap₂ (λ (x y : ℕ). (0, record { rule = x; plan = y; places = bind_all q.0 unbound })) step.reads.number_is step.reads.plan_is
-            ∙ ap (λ a. (0, a)) (sym (l.same ∙ ap (λ z. direct (default_of table) g.force.known.sig z g.value) step.here ∙ taken (default_of table) g.force.known.sig step.rule step.later g.value passed.pat q.0 passed.read q.1))
+            ∙ ap {A = Out} {B = Answer} (λ o. record { rule = get_or table at 0; plan = get_or table (at + 1) 0; places = places_by o }) q.1
+            ∙ ap₂ {C = Answer} (λ (x y : ℕ). record { rule = x; plan = y; places = bind_all q.0 unbound }) step.reads.number_is step.reads.plan_is
+            ∙ sym (l.same ∙ ap (λ z. direct (default_of table) g.force.known.sig z g.value) step.here ∙ taken (default_of table) g.force.known.sig step.rule step.later g.value passed.pat q.0 passed.read q.1)
 
         pub again : b ≡ false → Mid (at + 3 + get_or table (at + 2) 0) (i + 1)
         again h = record {

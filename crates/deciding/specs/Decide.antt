@@ -27,5 +27,5 @@ places_by (fit σ) = bind_all σ unbound
 places_by (fail σ) = unbound
 
 -- its number, its plan and the places that it binds
-abbrev pub answered_by : {t table : List ℕ} {at : ℕ} {ws bs : List ℕ} → ByRule t table at ws bs → ℕ × Answer
-answered_by {table = table} {at = at} g = (0, record { rule = get_or table at 0; plan = get_or table (at + 1) 0; places = places_by (decide g.asked.pattern g.asked.value 0) })
+abbrev pub answered_by : {t table : List ℕ} {at : ℕ} {ws bs : List ℕ} → ByRule t table at ws bs → Answer
+answered_by {table = table} {at = at} g = record { rule = get_or table at 0; plan = get_or table (at + 1) 0; places = places_by (decide g.asked.pattern g.asked.value 0) }

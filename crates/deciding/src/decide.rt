@@ -1,4 +1,5 @@
 // The call decide (1 to 3, 13).
+ghost use Rattle.signature.specs.Refusal.{number_in};
 ghost use Rattle.table.specs.Limits.{limits};
 ghost use Rattle.table.specs.Calls.{DecideCall};
 ghost use Rattle.run.specs.Outcome.{ran_answer};
@@ -6,21 +7,17 @@ ghost use Rattle.run.specs.Outcome.{ran_answer};
 use crate::rules::by_rules;
 use booking::walk::lawful;
 use opening::open::open;
-use run::Ran;
-use run::leaf::refused;
+use run::Answer;
 use signature::decoded::DECODED;
-use signature::refusals::BOOKING_UNLAWFUL;
+use signature::refusals::Refusal;
 
-pub fn decide(ss: &[u16], table: &[u16], b: &[u16]) -> Ran
-    ensures { DecideCall limits ss.now table.now b.now result.number (ran_answer result) }
+pub fn decide(ss: &[u16], table: &[u16], b: &[u16]) -> Result<Answer, Refusal>
+    ensures { DecideCall limits ss.now table.now b.now (number_in result) (ran_answer result) }
 {
     let mut t = [0u16; DECODED];
-    let q = open(ss, table, &mut t);
-    if q != 0 {
-        return refused(q);
-    }
+    open(ss, table, &mut t)?;
     if !lawful(&t, b) {
-        return refused(BOOKING_UNLAWFUL);
+        return Err(Refusal::BookingUnlawful);
     }
-    by_rules(&t, table, b)
+    Ok(by_rules(&t, table, b))
 }

@@ -16,7 +16,7 @@ use Rattle.signature.specs.Lawful.{SignatureWords}
 use Rattle.signature.specs.Read.{read_constructors, read_signature, count_kinds, stands_alone, lawful, lawful_kinds, least, Signed}
 use Rattle.signature.specs.Signature.{Signature, Constructor, numbers, levels, declares, is_number_kind, heads}
 use Rattle.signature.specs.Decoded.{Decoded, stride, kinds_at, kind_of, arity_of, argument_of, first_of, count_of, least_head_of, head_kind, least_head}
-use Rattle.decoding.specs.Decoding.{row, rows, SameBelow, kinds_or_0, kinds_due, alone_by, plain, Noted, Reading, AllRead, Fit, Spanned, span, KindsNoted, Marked}
+use Rattle.decoding.specs.Decoding.{row, rows, SameBelow, kinds_or_0, kinds_due, alone_by, plain, Noted, Reading, Unlawful, Fit, Spanned, span, KindsNoted, Marked}
 use Rattle.signature.proofs.Booleans.{and_left, and_right, and_false}
 use Rattle.signature.proofs.Members.{some_when}
 use Rattle.signature.proofs.ListFacts.{all_in, all_is, any_in, at_count, at_count_is, at_out, test_at}
@@ -49,12 +49,6 @@ module _ (w u : List ℕ) where
 
   counts : (sig : Signature) → SignatureWords w sig → get_or w 0 0 ≡ length sig
   counts sig h = ap (λ z. get_or z 0 0) h.is_code
-
-  pub no_words : length w ≡ 0 → Answer w false u
-  no_words l = never (λ sig h. omega (arith, ap length h.is_code))
-
-  pub no_constructors : (n : ℕ) → n ≡ get_or w 0 0 → n ≡ 0 → Answer w false u
-  no_constructors n e l = never (λ sig h. omega (arith, counts sig h, h.some_constructor))
 
   pub many_constructors : (n : ℕ) → n ≡ get_or w 0 0 → constructor_limit < n → Answer w false u
   many_constructors n e l = never (λ sig h. omega (arith, counts sig h, h.at_most))
@@ -105,12 +99,12 @@ all_same : (f g : ℕ → Bool) (i n : ℕ) → ((j : ℕ) → i ≤ j → j < i
 all_same f g i zero e = refl
 all_same f g i (suc n) e = ap₂ ◌&&◌ (e i (omega arith) (omega arith)) (all_same f g (suc i) n (λ j l m. e j (omega arith) (omega arith)))
 
-pub not_read : (w u v : List ℕ) (n m most declared : ℕ) → 0 < length w → n ≡ get_or w 0 0 → AllRead w n u m most declared → m ≡ 0 → Answer w false v
-not_read w u v n m most declared l e h z = refused w v (read_is w (read_constructors n (drop 1 w)) l (ap (λ x. read_constructors x (drop 1 w)) (sym e)) ∙ go (read_constructors n (drop 1 w)) refl)
+pub not_read : (w v : List ℕ) (n : ℕ) → 0 < length w → n ≡ get_or w 0 0 → Unlawful w n → Answer w false v
+not_read w v n l e h = refused w v (read_is w (read_constructors n (drop 1 w)) l (ap (λ x. read_constructors x (drop 1 w)) (sym e)) ∙ go (read_constructors n (drop 1 w)) refl)
   where
     go : (o : Option Signature) → read_constructors n (drop 1 w) ≡ o → (o >>= λ sig. require (lawful sig) >>= λ x. some sig) ≡ none
     go none q = refl
-    go (some sig) q = rw (not_ordered sig (h.refused z sig q))
+    go (some sig) q = rw (not_ordered sig (h sig q))
 
 all_rows : (f g : Constructor → Bool) (h : ℕ → Constructor) (i n : ℕ) → ((j : ℕ) → i ≤ j → j < i + n → f (h j) ≡ g (h j)) → all f (map h (count_up i n)) ≡ all g (map h (count_up i n))
 all_rows f g h i zero e = refl
@@ -161,8 +155,7 @@ pub record Begun (w : List ℕ) (n : ℕ) (u : List ℕ) (m top declared : ℕ) 
   pub count : n ≡ get_or w 0 0
   pub one : ¬ (n ≡ 0)
   pub most : n ≤ constructor_limit
-  pub read : AllRead w n u m top declared
-  pub some_kind : ¬ (m ≡ 0)
+  pub read : Reading w u n (length w) m top declared
 
 module _ {w : List ℕ} {n : ℕ} {u : List ℕ} {m top declared : ℕ} (k : Begun w n u m top declared) where
   abbrev sig : Signature
@@ -171,11 +164,11 @@ module _ {w : List ℕ} {n : ℕ} {u : List ℕ} {m top declared : ℕ} (k : Beg
   most : n ≤ constructor_limit
   most = k.most
 
-  kind_there : 0 < m
-  kind_there = let z : ¬ (m ≡ 0) = k.some_kind in omega arith
-
   reading : Reading w u n (length w) m top declared
-  reading = k.read.taken kind_there
+  reading = k.read
+
+  kind_there : 0 < m
+  kind_there = let z : ¬ (n ≡ 0) = k.one in reading.some_kind (omega arith)
 
   pub few_kinds : m ≤ kind_limit
   few_kinds = reading.few_kinds

@@ -223,9 +223,6 @@ size_one t k a l = size_not t k a (omega (arith, fewest_some (λ c. total a (row
 pub size_less : (t : List ℕ) (k : ℕ) (a : List ℕ) (v : ℕ) → v ≡ size_by t a k → v < get_or a k 0 → SizeLowered t k a (set a k v) 1
 size_less t k a v e l = record { once = omega arith; kept = λ z. absurd (omega arith); lowered = λ z. (ap (set a k) e, omega arith) }
 
-pub lowering_none : (t : List ℕ) (kinds : ℕ) (a : List ℕ) → Sizes a → SizesLowered t kinds kinds a a 0
-lowering_none t kinds a s = record { sizes = s; few = omega arith; kept = λ e. (refl, λ j l m. absurd (omega arith)); fewer = λ e. absurd (omega arith); over = λ g l h u. u }
-
 module _ (t : List ℕ) (kinds k : ℕ) (a b c : List ℕ) (r s : ℕ) (p : 0 < k) (most : kinds ≤ kind_limit) (h : SizesLowered t kinds k a b r) (g : SizeLowered t (k - 1) b c s) where
   in_kinds : k - 1 < kinds
   in_kinds = omega (arith, h.few)

@@ -1,58 +1,58 @@
 -- The kinds' order, and each kind's first constructor and count.
+use Rattle.std.specs.Prelude.{None, Some}
 use mathlib.Core.Path.{◌≡◌, refl, sym, ap, ap₂, ◌∙◌}
 use mathlib.Core.Logic.{◌⊎◌, inl, inr}
 use mathlib.Core.List.{List, [], ◌∷◌}
 use mathlib.Core.Option.{Option, none, some}
 use mathlib.Core.Bool.{Bool, true, false, cond}
-use Prim.Native.Nat.{ℕ, zero, suc, ◌+◌, ◌-◌, ◌*◌, ◌≤◌, ◌<◌}
+use Prim.Native.Nat.{ℕ, zero, suc, ◌+◌, ◌*◌, ◌≤◌, ◌<◌}
 use native.Mathlib.Numerals.{add-one}
 use native.Mathlib.Omega.{arith}
-use lib.ListN.{length, get_or, set, length-set}
+use lib.ListN.{length, get_or}
 use lib.Dec.{eqb, ltb}
-use lib.Seq.{get_or-set_other}
-use Rattle.signature.specs.Limits.{kind_limit, constructor_limit}
+use Rattle.signature.specs.Limits.{kind_limit}
 use Rattle.signature.specs.Lists.{◌>>=◌, require, first}
 use Rattle.signature.specs.Read.{count_kinds, kinds_from}
 use Rattle.signature.specs.Signature.{Signature, Constructor, numbers, numbers_from}
-use Rattle.signature.specs.Decoded.{decoded_length, kinds_at, kind_stride, first_of, count_of}
+use Rattle.signature.specs.Decoded.{kinds_at, kind_stride, first_of, count_of}
+use Rattle.std.proofs.lemmas.Option.{none-some, same_Some}
 use Rattle.decoding.specs.Decoding.{next_kinds, kinds_or_0, kinds_due, HeadNoted, Noted}
 use Rattle.signature.proofs.Tests.{eqb_self, eqb_eq, eqb_ne, eqb_no, ltb_yes, ltb_no, leb_no, le_of, lt_of_not, some_inj, bind_some}
-use Rattle.signature.proofs.Counting.{set_is, set_apart}
 
 -- the next number of kinds
 eqb_yes : (m n : ℕ) → m ≡ n → eqb m n ≡ true
 eqb_yes m n e = rw e (eqb_self n)
 
-pub next_same : (k n : ℕ) → suc k ≡ n → n ≡ next_kinds k n
+pub next_same : (k n : ℕ) → suc k ≡ n → Some n ≡ next_kinds k n
 next_same k n e = rw (eqb_yes (suc k) n e)
 
-pub next_new : (k n : ℕ) → k ≡ n → n < kind_limit → n + 1 ≡ next_kinds k n
-next_new k n e l = rw (eqb_no (suc k) n (λ p. omega arith), eqb_yes k n e, ltb_yes n kind_limit l) (add-one n)
+pub next_new : (k n : ℕ) → k ≡ n → n < kind_limit → Some (n + 1) ≡ next_kinds k n
+next_new k n e l = rw (eqb_no (suc k) n (λ p. omega arith), eqb_yes k n e, ltb_yes n kind_limit l) (ap Some (add-one n))
 
-pub next_wrong : (k n : ℕ) → ¬ (suc k ≡ n) → ¬ (k ≡ n) → 0 ≡ next_kinds k n
+pub next_wrong : (k n : ℕ) → ¬ (suc k ≡ n) → ¬ (k ≡ n) → None ≡ next_kinds k n
 next_wrong k n e f = rw (eqb_no (suc k) n e, eqb_no k n f)
 
-pub next_many : (k n : ℕ) → k ≡ n → kind_limit ≤ n → 0 ≡ next_kinds k n
+pub next_many : (k n : ℕ) → k ≡ n → kind_limit ≤ n → None ≡ next_kinds k n
 next_many k n e l = rw (eqb_no (suc k) n (λ p. omega arith), eqb_yes k n e, ltb_no n kind_limit l)
 
--- why a constructor of kind k may follow n kinds, or why not
-abbrev pub Follows : ℕ → ℕ → Type 0
-Follows k n = ((suc k ≡ n) × (next_kinds k n ≡ n)) ⊎ ((k ≡ n) × (n < kind_limit) × (next_kinds k n ≡ suc n))
+-- why a constructor of kind k may follow n kinds, which are m then
+abbrev pub Follows : ℕ → ℕ → ℕ → Type 0
+Follows k n m = ((suc k ≡ n) × (m ≡ n)) ⊎ ((k ≡ n) × (n < kind_limit) × (m ≡ suc n))
 
-pub follows : (k n : ℕ) → 0 < next_kinds k n → Follows k n
-follows k n l = go (eqb (suc k) n) (eqb k n) (ltb n kind_limit) refl refl refl
+pub follows : (k n m : ℕ) → Some m ≡ next_kinds k n → Follows k n m
+follows k n m e = go (eqb (suc k) n) (eqb k n) (ltb n kind_limit) refl refl refl
   where
-    go : (a b d : Bool) → eqb (suc k) n ≡ a → eqb k n ≡ b → ltb n kind_limit ≡ d → Follows k n
-    go true b d p q r = inl (eqb_eq (suc k) n p, sym (next_same k n (eqb_eq (suc k) n p)))
-    go false true true p q r = inr (eqb_eq k n q, le_of (suc n) kind_limit r, sym (next_new k n (eqb_eq k n q) (le_of (suc n) kind_limit r)) ∙ add-one n)
-    go false true false p q r = absurd (let z : 0 ≡ next_kinds k n = rw (p, q, r) in omega arith)
-    go false false d p q r = absurd (let z : 0 ≡ next_kinds k n = rw (p, q) in omega arith)
+    go : (a b d : Bool) → eqb (suc k) n ≡ a → eqb k n ≡ b → ltb n kind_limit ≡ d → Follows k n m
+    go true b d p q r = inl (eqb_eq (suc k) n p, same_Some m n (e ∙ sym (next_same k n (eqb_eq (suc k) n p))))
+    go false true true p q r = inr (eqb_eq k n q, le_of (suc n) kind_limit r, same_Some m (n + 1) (e ∙ sym (next_new k n (eqb_eq k n q) (le_of (suc n) kind_limit r))) ∙ add-one n)
+    go false true false p q r = absurd (none-some m (next_many k n (eqb_eq k n q) (omega (arith, lt_of_not (suc n) kind_limit r)) ∙ sym e))
+    go false false d p q r = absurd (none-some m (next_wrong k n (eqb_ne (suc k) n p) (eqb_ne k n q) ∙ sym e))
 
 -- the kinds that the constructors ahead make
-pub due_more : (n : ℕ) (d : Constructor) (cs : Signature) → 0 < next_kinds d.kind n → kinds_due n (d ∷ cs) ≡ kinds_due (next_kinds d.kind n) cs
-due_more n d cs l = go n (follows d.kind n l)
+pub due_more : (n m : ℕ) (d : Constructor) (cs : Signature) → Follows d.kind n m → kinds_due n (d ∷ cs) ≡ kinds_due m cs
+due_more n m d cs f = go n f
   where
-    go : (n : ℕ) → Follows d.kind n → kinds_due n (d ∷ cs) ≡ kinds_due (next_kinds d.kind n) cs
+    go : (n : ℕ) → Follows d.kind n m → kinds_due n (d ∷ cs) ≡ kinds_due m cs
     go zero (inl (p, e)) = absurd (omega arith)
     go zero (inr (p, m, e)) = ap (λ b. require b >>= λ u. kinds_from 0 cs) (eqb_yes d.kind 0 p) ∙ ap (λ z. kinds_due z cs) (sym e)
     go (suc k) (inl (p, e)) =
@@ -75,48 +75,33 @@ too_many k cs l = go (kinds_from k cs) refl
     go none e = refl
     go (some m) e = rw (leb_no m kind_limit (omega (arith, rising k m cs e)))
 
-pub due_refused : (n : ℕ) (d : Constructor) (cs : Signature) → next_kinds d.kind n ≡ 0 → 0 ≡ kinds_or_0 (kinds_due n (d ∷ cs))
+pub due_refused : (n : ℕ) (d : Constructor) (cs : Signature) → next_kinds d.kind n ≡ None → 0 ≡ kinds_or_0 (kinds_due n (d ∷ cs))
 due_refused zero d cs z = go (eqb d.kind 0) refl
   where
     go : (b : Bool) → eqb d.kind 0 ≡ b → 0 ≡ kinds_or_0 (count_kinds (d ∷ cs))
-    go true q = absurd (let y : 0 + 1 ≡ next_kinds d.kind 0 = next_new d.kind 0 (eqb_eq d.kind 0 q) (omega arith) in omega arith)
+    go true q = absurd (none-some (0 + 1) (sym z ∙ sym (next_new d.kind 0 (eqb_eq d.kind 0 q) (omega arith))))
     go false q = rw q
 due_refused (suc k) d cs z = go (eqb d.kind k) (eqb d.kind (suc k)) (ltb (suc k) kind_limit) refl refl refl
   where
     go : (a b e : Bool) → eqb d.kind k ≡ a → eqb d.kind (suc k) ≡ b → ltb (suc k) kind_limit ≡ e → 0 ≡ kinds_or_0 (kinds_from k (d ∷ cs))
-    go true b e p q r = absurd (let y : suc k ≡ next_kinds d.kind (suc k) = next_same d.kind (suc k) (ap suc (eqb_eq d.kind k p)) in omega arith)
-    go false true true p q r = absurd (let y : suc k + 1 ≡ next_kinds d.kind (suc k) = next_new d.kind (suc k) (eqb_eq d.kind (suc k) q) (le_of (suc (suc k)) kind_limit r) in omega arith)
+    go true b e p q r = absurd (none-some (suc k) (sym z ∙ sym (next_same d.kind (suc k) (ap suc (eqb_eq d.kind k p)))))
+    go false true true p q r = absurd (none-some (suc k + 1) (sym z ∙ sym (next_new d.kind (suc k) (eqb_eq d.kind (suc k) q) (le_of (suc (suc k)) kind_limit r))))
     go false true false p q r = rw (p, q) (too_many (suc k) cs (omega (arith, lt_of_not (suc (suc k)) kind_limit r)))
     go false false e p q r = rw (p, q)
 
-pub next_few : (k n : ℕ) → n ≤ kind_limit → next_kinds k n ≤ kind_limit
-next_few k n l = go (eqb (next_kinds k n) 0) refl
-  where
-    on : Follows k n → next_kinds k n ≤ kind_limit
-    on (inl (p, e)) = omega arith
-    on (inr (p, m, e)) = omega arith
+pub next_few : (k n m : ℕ) → Follows k n m → n ≤ kind_limit → m ≤ kind_limit
+next_few k n m (inl (p, e)) l = omega arith
+next_few k n m (inr (p, q, e)) l = omega arith
 
-    go : (b : Bool) → eqb (next_kinds k n) 0 ≡ b → next_kinds k n ≤ kind_limit
-    go true q = omega (arith, eqb_eq (next_kinds k n) 0 q)
-    go false q = let z : ¬ (next_kinds k n ≡ 0) = eqb_ne (next_kinds k n) 0 q in on (follows k n (omega arith))
+pub next_below : (k n m : ℕ) → Follows k n m → k < m
+next_below k n m (inl (p, e)) = omega arith
+next_below k n m (inr (p, q, e)) = omega arith
 
-pub next_below : (k n : ℕ) → 0 < next_kinds k n → k < next_kinds k n
-next_below k n l = go (follows k n l)
-  where
-    go : Follows k n → k < next_kinds k n
-    go (inl (p, e)) = omega arith
-    go (inr (p, m, e)) = omega arith
-
-pub next_grows : (k n : ℕ) → 0 < next_kinds k n → n ≤ next_kinds k n
-next_grows k n l = go (follows k n l)
-  where
-    go : Follows k n → n ≤ next_kinds k n
-    go (inl (p, e)) = omega arith
-    go (inr (p, m, e)) = omega arith
+pub next_grows : (k n m : ℕ) → Follows k n m → n ≤ m
+next_grows k n m (inl (p, e)) = omega arith
+next_grows k n m (inr (p, q, e)) = omega arith
 
 -- what is noted of each kind's constructors
-pub noted_none : (sig : Signature) (t : List ℕ) → Noted sig sig 0 0 t
-noted_none sig t = record { seen = λ k l. absurd (omega arith); unseen = λ k l. refl }
 
 pub noted_same : (sig ahead : Signature) (c n : ℕ) (t u : List ℕ) → ((i : ℕ) → kinds_at ≤ i → get_or u i 0 ≡ get_or t i 0) → Noted sig ahead c n t → Noted sig ahead c n u
 noted_same sig ahead c n t u e h = record { seen = λ k l. (e (kinds_at + kind_stride * k) (omega arith) ∙ (h.seen k l).0, ap (λ z. z + length (numbers_from c ahead k)) (e (kinds_at + kind_stride * k + 1) (omega arith)) ∙ (h.seen k l).1); unseen = h.unseen }
@@ -128,10 +113,10 @@ module _ (sig : Signature) (d : Constructor) (ahead : Signature) (c n : ℕ) (t 
   of_this : (k : ℕ) → k ≡ d.kind → numbers_from c (d ∷ ahead) k ≡ c ∷ numbers_from (c + 1) ahead k
   of_this k e = rw (add-one c, eqb_yes d.kind k (sym e))
 
-  seen_more : Follows d.kind n → (k : ℕ) → k < next_kinds d.kind n → (first_of u k ≡ first (numbers sig k)) × (count_of u k + length (numbers_from (c + 1) ahead k) ≡ length (numbers sig k))
-  seen_more f k l = go (eqb k d.kind) refl f
+  seen_more : (m : ℕ) → Follows d.kind n m → (k : ℕ) → k < m → (first_of u k ≡ first (numbers sig k)) × (count_of u k + length (numbers_from (c + 1) ahead k) ≡ length (numbers sig k))
+  seen_more m f k l = go (eqb k d.kind) refl f
     where
-      go : (b : Bool) → eqb k d.kind ≡ b → Follows d.kind n → (first_of u k ≡ first (numbers sig k)) × (count_of u k + length (numbers_from (c + 1) ahead k) ≡ length (numbers sig k))
+      go : (b : Bool) → eqb k d.kind ≡ b → Follows d.kind n m → (first_of u k ≡ first (numbers sig k)) × (count_of u k + length (numbers_from (c + 1) ahead k) ≡ length (numbers sig k))
       go true q (inl (p, e)) =
           let z : k ≡ d.kind = eqb_eq k d.kind q in
           let (a, b) = g.old (λ y. omega arith) in
@@ -154,29 +139,9 @@ module _ (sig : Signature) (d : Constructor) (ahead : Signature) (c n : ℕ) (t 
           let w : length (numbers_from c (d ∷ ahead) k) ≡ length (numbers_from (c + 1) ahead k) = ap length (of_other k z) in
           (a ∙ a', omega arith)
         where
-          below : Follows d.kind n → ¬ (k ≡ d.kind) → k < n
+          below : Follows d.kind n m → ¬ (k ≡ d.kind) → k < n
           below (inl (p, e)) z = omega arith
-          below (inr (p, m, e)) z = omega arith
+          below (inr (p, q, e)) z = omega arith
 
-  pub noted_more : 0 < next_kinds d.kind n → Noted sig ahead (c + 1) (next_kinds d.kind n) u
-  noted_more l = record { seen = seen_more (follows d.kind n l); unseen = λ k m. sym (of_other k (λ p. omega (arith, next_below d.kind n l))) ∙ h.unseen k (omega (arith, next_grows d.kind n l)) }
-
--- noting one constructor
-module _ (t : List ℕ) (k c n : ℕ) (long : length t ≡ decoded_length) (lk : k < kind_limit) where
-  abbrev place : ℕ
-  place = kinds_at + kind_stride * k
-
-  pub head_new : k ≡ n → HeadNoted t k c n (set (set t place c) (place + 1) 1)
-  head_new e = record { long = length-set (set t place c) (place + 1) 1 ∙ length-set t place c; rows_same = λ i l. set_apart (set t place c) (place + 1) i 1 (omega arith) ∙ set_apart t place i c (omega arith); others = λ j z. (other (kinds_at + kind_stride * j) (λ p. z (omega arith)) (λ p. omega arith), other (kinds_at + kind_stride * j + 1) (λ p. omega arith) (λ p. z (omega arith))); new = λ z. (set_apart (set t place c) (place + 1) place 1 (omega arith) ∙ set_is t place place c (omega arith) refl, set_is (set t place c) (place + 1) (place + 1) 1 (omega (arith, length-set t place c)) refl); old = λ z. absurd (z e) }
-    where
-      other : (x : ℕ) → ¬ (x ≡ place) → ¬ (x ≡ place + 1) → get_or (set (set t place c) (place + 1) 1) x 0 ≡ get_or t x 0
-      other x y z = get_or-set_other (set t place c) (place + 1) x 1 0 z ∙ get_or-set_other t place x c 0 y
-
-  pub head_old : ¬ (k ≡ n) → c < constructor_limit → first_of t k + count_of t k ≡ c → HeadNoted t k c n (set t (place + 1) (c + 1 - get_or t place 0))
-  head_old e lc q = record { long = length-set t (place + 1) v; rows_same = λ i l. set_apart t (place + 1) i v (omega arith); others = λ j z. (other (kinds_at + kind_stride * j) (λ p. omega arith), other (kinds_at + kind_stride * j + 1) (λ p. z (omega arith))); new = λ z. absurd (e z); old = λ z. (set_apart t (place + 1) place v (omega arith), set_is t (place + 1) (place + 1) v (omega arith) refl ∙ (omega arith)) }
-    where
-      v : ℕ
-      v = c + 1 - get_or t place 0
-
-      other : (x : ℕ) → ¬ (x ≡ place + 1) → get_or (set t (place + 1) (c + 1 - get_or t place 0)) x 0 ≡ get_or t x 0
-      other x z = get_or-set_other t (place + 1) x (c + 1 - get_or t place 0) 0 z
+  pub noted_more : (m : ℕ) → Follows d.kind n m → Noted sig ahead (c + 1) m u
+  noted_more m f = record { seen = seen_more m f; unseen = λ k l. sym (of_other k (λ p. omega (arith, next_below d.kind n m f))) ∙ h.unseen k (omega (arith, next_grows d.kind n m f)) }

@@ -1,4 +1,5 @@
 -- Reading the rows one after the other: their words, their kinds' order, their highest argument kind.
+use Rattle.std.specs.Prelude.{None}
 use mathlib.Core.Path.{◌≡◌, refl, sym, ap, ap₂, ◌∙◌, subst}
 use mathlib.Core.Logic.{inl, inr}
 use mathlib.Core.List.{List, [], ◌∷◌, ◌++◌, append_assoc}
@@ -10,75 +11,46 @@ use native.Mathlib.Omega.{arith}
 use lib.ListN.{length, drop}
 use lib.Seq.{drop-cons}
 use lib.Dec.{eqb, ltb}
-use Rattle.signature.specs.Limits.{constructor_limit, kind_limit}
+use Rattle.signature.specs.Limits.{constructor_limit}
 use Rattle.signature.specs.Read.{read_constructors, count_kinds}
 use Rattle.signature.specs.Signature.{Signature, Constructor}
-use Rattle.signature.specs.Decoded.{decoded_length, stride, kinds_at, kind_stride, kind_of, first_of, count_of}
-use Rattle.decoding.specs.Decoding.{declares_number, row, rows, below, kinds_below, plain, Highest, RowRead, Arities, next_kinds, kinds_or_0, HeadNoted, Noted, Reading, Barred, NextRead, AllRead, led_by}
-use Rattle.signature.proofs.Tests.{eqb_eq, eqb_ne, ltb_yes, none≢some, some_inj, bind_some}
+use Rattle.signature.specs.Decoded.{stride, kinds_at, kind_stride, kind_of, first_of, count_of}
+use Rattle.decoding.specs.Decoding.{declares_number, row, rows, below, kinds_below, plain, Highest, RowRead, Arities, next_kinds, kinds_or_0, HeadNoted, Noted, Reading, Barred, Unlawful, led_by}
+use Rattle.signature.proofs.Tests.{eqb_eq, eqb_ne, none≢some, some_inj, bind_some}
 use Rattle.signature.proofs.Counting.{counted_more}
-use Rattle.decoding.proofs.Rows.{all_more, led_none, row_none, rows_same, rows_more, arities_more}
-use Rattle.decoding.proofs.Ordering.{Follows, follows, due_more, due_refused, next_few, next_below, next_grows, noted_none, noted_same, noted_more}
+use Rattle.decoding.proofs.Rows.{all_more, rows_same, rows_more, arities_more}
+use Rattle.decoding.proofs.Ordering.{Follows, due_more, due_refused, next_few, next_below, next_grows, noted_same, noted_more}
 
 pub number_few : (b : Bool) (x : ℕ) → x ≡ cond b 1 0 → x ≤ 1
 number_few true x e = omega arith
 number_few false x e = omega arith
 
-pub reading_start : (w t : List ℕ) → 1 ≤ length w → length t ≡ decoded_length → Reading w t 0 1 0 0 0
-reading_start w t l m = record {
-  long = m;
-  within = l;
-  few_kinds = omega arith;
-  some_kind = λ z. absurd (omega arith);
-  few_numbers = omega arith;
-  arities = λ j z. absurd (omega arith);
-  read = λ i. rw (zero-add i) (led_none (read_constructors i (drop 1 w)));
-  due = λ ahead. refl;
-  noted = λ ahead. noted_none ahead t;
-  last = λ k e. absurd (omega arith);
-  each = λ i z. absurd (omega arith);
-  highest = λ k z. ltb_yes 0 k z;
-  bare = λ z. refl;
-}
-
 module _ (w t : List ℕ) (c place kinds most numbers : ℕ) (h : Reading w t c place kinds most numbers) (lc : c < constructor_limit) (u : List ℕ) where
-  pub next_none : (p k m n : ℕ) → (x : ℕ) → k ≡ 0 → x ≡ 0 → RowRead w place t c u x → NextRead w c u p k m n
-  next_none p k m n x z e r = record { long = r.long ∙ h.long; barred = λ y i sig f. none≢some (sym (row_none w t u place c i (subst (RowRead w place t c u) e r) (h.read (suc i))) ∙ f); taken = λ y. absurd (omega arith) }
-
-  module _ (words : ℕ) (r : RowRead w place t c u words) (some_word : 0 < words) where
+  module _ (words : ℕ) (r : RowRead w place t c u words) where
     abbrev d : Constructor
     d = row u c
 
     read_more : (m : ℕ) → read_constructors (c + suc m) (drop 1 w) ≡ led_by (rows t 0 c ++ (d ∷ [])) (read_constructors m (drop (place + words) w))
-    read_more m = rows_more w t u place c words m r some_word (h.read (suc m))
+    read_more m = rows_more w t u place c words m r (h.read (suc m))
 
     joined : (ahead : Signature) → (rows t 0 c ++ (d ∷ [])) ++ ahead ≡ rows t 0 c ++ (d ∷ ahead)
     joined ahead = append_assoc (rows t 0 c) (d ∷ []) ahead
 
-    pub next_wrong : (p k m n : ℕ) (x y : ℕ) → k ≡ 0 → x ≡ kind_of u c → y ≡ next_kinds x kinds → y ≡ 0 → NextRead w c u p k m n
-    next_wrong p k m n x y z ex ey ez = record { long = r.long ∙ h.long; barred = barred; taken = λ i. absurd (omega arith) }
-      where
-        wrong : next_kinds d.kind kinds ≡ 0
-        wrong = ap (λ v. next_kinds v kinds) (sym ex) ∙ sym ey ∙ ez
+    pub next_wrong : (x : ℕ) → x ≡ kind_of u c → None ≡ next_kinds x kinds → Barred w c
+    next_wrong x ex ey j sig f =
+        let (ds, e₁, e₂) = bind_some (read_constructors j (drop (place + words) w)) (λ ds. some ((rows t 0 c ++ (d ∷ [])) ++ ds)) sig (sym (read_more j) ∙ f) in
+        let e : sig ≡ rows t 0 c ++ (d ∷ ds) = sym (some_inj ((rows t 0 c ++ (d ∷ [])) ++ ds) sig e₂) ∙ joined ds in
+        due_refused kinds d ds (ap (λ v. next_kinds v kinds) (sym ex) ∙ sym ey) ∙ ap kinds_or_0 (sym (ap count_kinds e ∙ h.due (d ∷ ds)))
 
-        barred : k ≡ 0 → Barred w c
-        barred i j sig f =
-            let (ds, e₁, e₂) = bind_some (read_constructors j (drop (place + words) w)) (λ ds. some ((rows t 0 c ++ (d ∷ [])) ++ ds)) sig (sym (read_more j) ∙ f) in
-            let e : sig ≡ rows t 0 c ++ (d ∷ ds) = sym (some_inj ((rows t 0 c ++ (d ∷ [])) ++ ds) sig e₂) ∙ joined ds in
-            due_refused kinds d ds wrong ∙ ap kinds_or_0 (sym (ap count_kinds e ∙ h.due (d ∷ ds)))
-
-    module _ (v : List ℕ) (x y k : ℕ) (ex : x ≡ kind_of u c) (ey : y ≡ next_kinds x kinds) (one : ¬ (y ≡ 0)) (ek : k ≡ x) (g' : HeadNoted u k c kinds v) where
+    module _ (v : List ℕ) (x y k : ℕ) (ex : x ≡ kind_of u c) (f' : Follows x kinds y) (ek : k ≡ x) (g' : HeadNoted u k c kinds v) where
       g : HeadNoted u d.kind c kinds v
       g = subst (λ z. HeadNoted u z c kinds v) (ek ∙ ex) g'
 
-      next : y ≡ next_kinds d.kind kinds
-      next = ey ∙ ap (λ z. next_kinds z kinds) ex
-
-      more : 0 < next_kinds d.kind kinds
-      more = omega (arith, next)
+      follows : Follows d.kind kinds y
+      follows = subst (λ z. Follows z kinds y) ex f'
 
       arities_u : Arities u (c + 1)
-      arities_u = arities_more w t u place c words r some_word h.arities
+      arities_u = arities_more w t u place c words r h.arities
 
       rows_v : rows v 0 (c + 1) ≡ rows t 0 c ++ (d ∷ [])
       rows_v = rows_same u v kinds_at (c + 1) g.rows_same (omega arith) arities_u ∙ counted_more (λ j. row u j) 0 c ∙ ap₂ (λ xs j. xs ++ (row u j ∷ [])) (rows_same t u (stride * c) c r.before (omega arith) h.arities) (zero-add c)
@@ -92,7 +64,7 @@ module _ (w t : List ℕ) (c place kinds most numbers : ℕ) (h : Reading w t c 
       count_u : (j : ℕ) → count_of u j ≡ count_of t j
       count_u j = r.behind (kinds_at + kind_stride * j + 1) (omega arith)
 
-      last : Follows d.kind kinds → (j : ℕ) → suc j ≡ next_kinds d.kind kinds → first_of v j + count_of v j ≡ c + 1
+      last : Follows d.kind kinds y → (j : ℕ) → suc j ≡ y → first_of v j + count_of v j ≡ c + 1
       last (inl (p, e)) j q =
           let z : j ≡ d.kind = omega arith in
           let (a, b) = g.old (λ i. omega arith) in
@@ -103,14 +75,14 @@ module _ (w t : List ℕ) (c place kinds most numbers : ℕ) (h : Reading w t c 
           let (a, b) = g.new p in
           rw z (omega arith)
 
-      each : (i : ℕ) → i < c + 1 → kind_of v i < next_kinds d.kind kinds
+      each : (i : ℕ) → i < c + 1 → kind_of v i < y
       each i l = go (eqb i c) refl
         where
-          go : (b : Bool) → eqb i c ≡ b → kind_of v i < next_kinds d.kind kinds
-          go true q = rw (eqb_eq i c q) (omega (arith, g.rows_same (stride * c) (omega arith), next_below d.kind kinds more))
+          go : (b : Bool) → eqb i c ≡ b → kind_of v i < y
+          go true q = rw (eqb_eq i c q) (omega (arith, g.rows_same (stride * c) (omega arith), next_below d.kind kinds y follows))
           go false q =
               let z : ¬ (i ≡ c) = eqb_ne i c q in
-              omega (arith, g.rows_same (stride * i) (omega arith), r.before (stride * i) (omega arith), h.each i (omega arith), next_grows d.kind kinds more)
+              omega (arith, g.rows_same (stride * i) (omega arith), r.before (stride * i) (omega arith), h.each i (omega arith), next_grows d.kind kinds y follows)
 
       highest : (top : ℕ) → Highest most d.args top → (j : ℕ) → 0 < j → ltb top j ≡ kinds_below j (rows v 0 (c + 1))
       highest top e j l = e j ∙ ap (λ z. z && below j d.args) (h.highest j l) ∙ sym (ap (kinds_below j) rows_v ∙ all_more (λ i. below j i.args) (rows t 0 c) d)
@@ -122,52 +94,35 @@ module _ (w t : List ℕ) (c place kinds most numbers : ℕ) (h : Reading w t c 
           go true q = absurd (let y : number ≡ 1 = e ∙ (rw q) in omega arith)
           go false q = rw (q, h.bare (omega arith))
 
-      reading : (top number : ℕ) → Highest most d.args top → number ≡ cond (declares_number u c) 1 0 → Reading w v (c + 1) (place + words) (next_kinds d.kind kinds) top (numbers + number)
-      reading top number e f = record {
+      pub next_read : (top number : ℕ) → Highest most d.args top → number ≡ cond (declares_number u c) 1 0 → Reading w v (c + 1) (place + words) y top (numbers + number)
+      next_read top number e f = record {
         long = g.long ∙ r.long ∙ h.long;
         within = r.within;
-        few_kinds = next_few d.kind kinds h.few_kinds;
-        some_kind = λ z. more;
+        few_kinds = next_few d.kind kinds y follows h.few_kinds;
+        some_kind = λ z. omega (arith, next_below d.kind kinds y follows);
         few_numbers = omega (arith, h.few_numbers, number_few (declares_number u c) number f);
         arities = λ j l. omega (arith, g.rows_same (stride * j + 1) (omega arith), arities_u j l);
         read = λ m. let q : c + 1 + m ≡ c + suc m = omega arith in ap (λ z. read_constructors z (drop 1 w)) q ∙ read_more m ∙ ap (λ z. led_by z (read_constructors m (drop (place + words) w))) (sym rows_v);
-        due = λ ahead. ap count_kinds (ahead_v ahead) ∙ h.due (d ∷ ahead) ∙ due_more kinds d ahead more;
-        noted = λ ahead. subst (λ z. Noted z ahead (c + 1) (next_kinds d.kind kinds) v) (sym (ahead_v ahead)) (noted_more (rows t 0 c ++ (d ∷ ahead)) d ahead c kinds u v (noted_same (rows t 0 c ++ (d ∷ ahead)) (d ∷ ahead) c kinds t u r.behind (h.noted (d ∷ ahead))) g more);
-        last = last (follows d.kind kinds more);
+        due = λ ahead. ap count_kinds (ahead_v ahead) ∙ h.due (d ∷ ahead) ∙ due_more kinds y d ahead follows;
+        noted = λ ahead. subst (λ z. Noted z ahead (c + 1) y v) (sym (ahead_v ahead)) (noted_more (rows t 0 c ++ (d ∷ ahead)) d ahead c kinds u v (noted_same (rows t 0 c ++ (d ∷ ahead)) (d ∷ ahead) c kinds t u r.behind (h.noted (d ∷ ahead))) g y follows);
+        last = last follows;
         each = each;
         highest = highest top e;
         bare = bare number f;
       }
 
-      pub next_read : (top number : ℕ) → Highest most d.args top → number ≡ cond (declares_number u c) 1 0 → NextRead w c v (place + words) y top (numbers + number)
-      next_read top number e f = record { long = g.long ∙ r.long ∙ h.long; barred = λ z. absurd (one z); taken = λ z. subst (λ i. Reading w v (c + 1) (place + words) i top (numbers + number)) (sym next) (reading top number e f) }
-
-    -- what noting asks
-    pub kind_small : (x y k : ℕ) → x ≡ kind_of u c → y ≡ next_kinds x kinds → ¬ (y ≡ 0) → k ≡ x → k < kind_limit
-    kind_small x y k ex ey one ek = omega (arith, next_below x kinds (omega arith), next_few x kinds h.few_kinds)
-
-    pub count_known : (x y k : ℕ) → x ≡ kind_of u c → y ≡ next_kinds x kinds → ¬ (y ≡ 0) → k ≡ x → ¬ (k ≡ kinds) → first_of u k + count_of u k ≡ c
-    count_known x y k ex ey one ek ne = go (follows x kinds (omega arith))
-      where
-        go : Follows x kinds → first_of u k + count_of u k ≡ c
-        go (inl (p, e)) = omega (arith, r.behind (kinds_at + kind_stride * k) (omega arith), r.behind (kinds_at + kind_stride * k + 1) (omega arith), h.last k (ap suc ek ∙ p))
-        go (inr (p, m, e)) = absurd (ne (ek ∙ p))
-
 -- the end
-pub all_barred : (w u : List ℕ) (c n p k m i : ℕ) → c < n → NextRead w c u p k m i → k ≡ 0 → AllRead w n u k m i
-all_barred w u c n p k m i l h z =
+pub all_barred : (w : List ℕ) (c n : ℕ) → c < n → Barred w c → Unlawful w n
+all_barred w c n l h sig f =
     let q : c + suc (n - suc c) ≡ n = omega arith in
-    record { long = h.long; refused = λ y sig f. h.barred z (n - suc c) sig (ap (λ j. read_constructors j (drop 1 w)) q ∙ f); taken = λ y. absurd (omega arith) }
+    h (n - suc c) sig (ap (λ j. read_constructors j (drop 1 w)) q ∙ f)
 
 module _ (w t : List ℕ) (c n place kinds most numbers : ℕ) (h : Reading w t c place kinds most numbers) (same : c ≡ n) where
   whole : read_constructors n (drop 1 w) ≡ led_by (rows t 0 c) (read_constructors 0 (drop place w))
   whole = ap (λ j. read_constructors j (drop 1 w)) (sym same ∙ sym (add-zero c)) ∙ h.read 0
 
-  pub all_read : 1 ≤ n → place ≡ length w → AllRead w n t kinds most numbers
-  all_read l e = record { long = h.long; refused = λ z. absurd (omega (arith, h.some_kind (omega arith))); taken = λ z. subst (λ j. Reading w t j (length w) kinds most numbers) same (subst (λ j. Reading w t c j kinds most numbers) e h) }
-
-  pub all_short : ¬ (place ≡ length w) → (k m i : ℕ) → k ≡ 0 → AllRead w n t k m i
-  all_short ne k m i z = record { long = h.long; refused = λ y sig f. none≢some (sym left ∙ f); taken = λ y. absurd (omega arith) }
+  pub all_short : ¬ (place ≡ length w) → Unlawful w n
+  all_short ne sig f = none≢some (sym left ∙ f)
     where
       left : read_constructors n (drop 1 w) ≡ none
       left = whole ∙ rw (drop-cons w place 0 (omega (arith, h.within)))

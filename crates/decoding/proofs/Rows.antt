@@ -3,9 +3,10 @@ use mathlib.Core.Path.{◌≡◌, refl, sym, ap, ap₂, ◌∙◌}
 use mathlib.Core.List.{List, [], ◌∷◌, ◌++◌, append_assoc}
 use mathlib.Core.Option.{Option, none, some}
 use mathlib.Core.Bool.{Bool, true, false, ◌&&◌}
-use Prim.Native.Nat.{ℕ, zero, suc, ◌+◌, ◌-◌, ◌*◌, ◌≤◌, ◌<◌}
+use Prim.Native.Nat.{ℕ, zero, suc, ◌+◌, ◌-◌, ◌*◌, ◌≤◌, ◌<◌, max}
 use native.Mathlib.Numerals.{add-one}
 use native.Mathlib.Nat.{zero-add, add-zero, add-suc, suc-add}
+use native.Mathlib.Decide.{dec_le}
 use native.Mathlib.Omega.{arith}
 use lib.ListN.{length, get_or, set, take, drop, length-drop, length-set}
 use lib.Seq.{drop-cons, drop-drop, get_or-set_same, get_or-set_other}
@@ -18,12 +19,10 @@ use Rattle.signature.specs.Decoded.{decoded_length, stride, kinds_at, kind_of, a
 use Rattle.decoding.specs.Decoding.{words_from, declares_number, row, rows, SameBelow, read_constructor, argument_count, flag_by, below, Highest, Copied, RowRead, Arities, led_by}
 use Rattle.signature.proofs.ListFacts.{split_none, split_some}
 use Rattle.signature.proofs.Booleans.{and_assoc, and_false, and_true}
-use Rattle.signature.proofs.Tests.{leb_yes, leb_no, ltb_yes, le_of, eqb_eq, eqb_ne}
+use Rattle.signature.proofs.Tests.{leb_yes, ltb_yes, ltb_no, le_of, lt_of_not, eqb_eq, eqb_ne}
 use Rattle.signature.proofs.Counting.{counted_same, counted_more, set_is, set_apart}
 
 -- copying
-pub copied_none : (w : List ℕ) (from : ℕ) (t : List ℕ) (to : ℕ) → Copied w from t to 0 t
-copied_none w from t to = record { long = refl; there = λ j l. absurd (omega arith); before = λ i l. refl; behind = λ i l. refl }
 
 pub copied_more : (w : List ℕ) (from : ℕ) (t : List ℕ) (to n : ℕ) (u : List ℕ) → to + n < length t → Copied w from t to n u → Copied w from t to (n + 1) (set u (to + n) (get_or w (from + n) 0))
 copied_more w from t to n u l h = record { long = length-set u (to + n) (get_or w (from + n) 0) ∙ h.long; there = there; before = λ i m. set_apart u (to + n) i (get_or w (from + n) 0) (omega arith) ∙ h.before i m; behind = λ i m. get_or-set_other u (to + n) i (get_or w (from + n) 0) 0 (λ p. omega arith) ∙ h.behind i (omega arith) }
@@ -42,25 +41,19 @@ pub all_more : {A : Type 0} (f : A → Bool) (xs : List A) (y : A) → all f (xs
 all_more f [] y = and_true (f y)
 all_more f (x ∷ xs) y = ap (λ z. f x && z) (all_more f xs y) ∙ and_assoc (f x) (all f xs) (f y)
 
-pub highest_none : (m : ℕ) → Highest m [] m
-highest_none m k = sym (and_true (ltb m k))
-
 pub highest_more : (w : List ℕ) (from i m h r : ℕ) → ((k : ℕ) → ltb r k ≡ (ltb h k && ltb (get_or w (from + i) 0) k)) → Highest m (words_from w from i) h → Highest m (words_from w from (i + 1)) r
 highest_more w from i m h r e g k = e k ∙ ap (λ z. z && ltb (get_or w (from + i) 0) k) (g k) ∙ sym (and_assoc (ltb m k) (below k (words_from w from i)) (ltb (get_or w (from + i) 0) k)) ∙ ap (λ z. ltb m k && z) (sym (ap (below k) (counted_more (λ j. get_or w j 0) from i) ∙ all_more (λ j. ltb j k) (words_from w from i) (get_or w (from + i) 0)))
 
-pub higher_first : (a b : ℕ) → b ≤ a → (k : ℕ) → ltb a k ≡ (ltb a k && ltb b k)
-higher_first a b l k = go (ltb a k) refl
+pub higher_max : (a b r : ℕ) → r ≡ max a b → (k : ℕ) → ltb r k ≡ (ltb a k && ltb b k)
+higher_max a b r e k = go (ltb r k) refl
   where
-    go : (x : Bool) → ltb a k ≡ x → ltb a k ≡ (ltb a k && ltb b k)
-    go true q = let m : a < k = le_of (suc a) k q in rw (q, ltb_yes b k (omega arith))
-    go false q = rw q
-
-pub higher_second : (a b : ℕ) → a < b → (k : ℕ) → ltb b k ≡ (ltb a k && ltb b k)
-higher_second a b l k = go (ltb b k) refl
-  where
-    go : (x : Bool) → ltb b k ≡ x → ltb b k ≡ (ltb a k && ltb b k)
-    go true q = let m : b < k = le_of (suc b) k q in rw (q, ltb_yes a k (omega arith))
-    go false q = rw (q, and_false (ltb a k))
+    go : (x : Bool) → ltb r k ≡ x → ltb r k ≡ (ltb a k && ltb b k)
+    go true q = let l : r < k = le_of (suc r) k q in rw (q, ltb_yes a k (omega arith), ltb_yes b k (omega arith))
+    go false q = on (dec_le (suc a) k)
+      where
+        on : Dec (a < k) → ltb r k ≡ (ltb a k && ltb b k)
+        on (yes l) = let m : k < suc r = lt_of_not (suc r) k q in rw (q, ltb_no b k (omega arith), and_false (ltb a k))
+        on (no l) = rw (q, ltb_no a k (omega arith))
 
 -- one constructor, then the others
 pub read_one : (n : ℕ) (ws : List ℕ) → read_constructors (suc n) ws ≡ (read_constructor ws >>= λ r. read_constructors n r.1 >>= λ cs. some (r.0 ∷ cs))
@@ -89,9 +82,6 @@ few_words (k ∷ (m ∷ ws)) l = absurd (omega arith)
 pub row_short : (w : List ℕ) (p : ℕ) → length w - p < 2 → read_constructor (drop p w) ≡ none
 row_short w p l = few_words (drop p w) (omega (arith, length-drop p w))
 
-pub row_wide : (w : List ℕ) (p : ℕ) → p + 2 ≤ length w → number_count < get_or w (p + 1) 0 → read_constructor (drop p w) ≡ none
-row_wide w p l m = rw (two_words w p l, leb_no (get_or w (p + 1) 0) number_count m)
-
 pub row_cut : (w : List ℕ) (p : ℕ) → p + 2 ≤ length w → get_or w (p + 1) 0 ≤ number_count → length w - p - 2 < argument_count (get_or w (p + 1) 0) → read_constructor (drop p w) ≡ none
 row_cut w p l m n =
     let s : split (argument_count (get_or w (p + 1) 0)) (drop (p + 2) w) ≡ none = split_none (argument_count (get_or w (p + 1) 0)) (drop (p + 2) w) (omega (arith, length-drop (p + 2) w)) in
@@ -106,9 +96,6 @@ few_of m l = go (eqb m number_count) refl
     go false q =
         let z : ¬ (m ≡ number_count) = eqb_ne m number_count q in
         rw q (omega arith)
-
-pub none_of : (m : ℕ) → m ≡ 0 → (0 ≡ argument_count m) × (0 ≡ flag_by m)
-none_of m e = rw e (refl, refl)
 
 -- and the word in the place of the first argument
 number_is : (m x : ℕ) → (argument_count m ≡ 0 → x ≡ flag_by m) → (eqb (argument_count m) 0 && eqb x 1) ≡ eqb m number_count
@@ -145,7 +132,7 @@ module _ (w : List ℕ) (p : ℕ) (t : List ℕ) (c m : ℕ) (u : List ℕ) (n f
   Begun = set two (stride * c + 2) f
 
   pub row_taken : length t ≡ decoded_length → c < constructor_limit → m ≡ n → n ≡ argument_count (get_or w (p + 1) 0) → get_or w (p + 1) 0 ≤ number_count → p + 2 + m ≤ length w → f ≡ flag_by (get_or w (p + 1) 0) → Copied w (p + 2) Begun (stride * c + 2) m u → RowRead w p t c u (m + 2)
-  row_taken lt lc mn en lb lw ef h = record { long = h.long ∙ long; within = omega arith; refused = λ z. absurd (omega arith); taken = λ z. taken; two = λ z. omega arith; kind = λ z. kind; number = λ z. number; arity = λ z. omega (arith, arity, la); before = before; behind = behind }
+  row_taken lt lc mn en lb lw ef h = record { long = h.long ∙ long; within = omega arith; taken = taken; two = omega arith; kind = kind; number = number; arity = omega (arith, arity, la); before = before; behind = behind }
     where
       em : m ≡ argument_count (get_or w (p + 1) 0)
       em = mn ∙ en
@@ -210,26 +197,16 @@ led_one : (cs : Signature) (d : Constructor) (o : Option Signature) → led_by c
 led_one cs d none = refl
 led_one cs d (some ds) = ap some (sym (append_assoc cs (d ∷ []) ds))
 
-pub led_none : (o : Option Signature) → o ≡ led_by [] o
-led_none none = refl
-led_none (some ds) = refl
+pub rows_more : (w t u : List ℕ) (p c words m : ℕ) → RowRead w p t c u words → read_constructors (c + suc m) (drop 1 w) ≡ led_by (rows t 0 c) (read_constructors (suc m) (drop p w)) → read_constructors (c + suc m) (drop 1 w) ≡ led_by (rows t 0 c ++ (row u c ∷ [])) (read_constructors m (drop (p + words) w))
+rows_more w t u p c words m h e = e ∙ ap (led_by (rows t 0 c)) (read_one m (drop p w) ∙ ap (λ o. o >>= λ r. read_constructors m r.1 >>= λ cs. some (r.0 ∷ cs)) h.taken) ∙ led_one (rows t 0 c) (row u c) (read_constructors m (drop (p + words) w))
 
-pub rows_more : (w t u : List ℕ) (p c words m : ℕ) → RowRead w p t c u words → 0 < words → read_constructors (c + suc m) (drop 1 w) ≡ led_by (rows t 0 c) (read_constructors (suc m) (drop p w)) → read_constructors (c + suc m) (drop 1 w) ≡ led_by (rows t 0 c ++ (row u c ∷ [])) (read_constructors m (drop (p + words) w))
-rows_more w t u p c words m h k e = e ∙ ap (led_by (rows t 0 c)) (read_one m (drop p w) ∙ ap (λ o. o >>= λ r. read_constructors m r.1 >>= λ cs. some (r.0 ∷ cs)) (h.taken k)) ∙ led_one (rows t 0 c) (row u c) (read_constructors m (drop (p + words) w))
-
-pub row_none : (w t u : List ℕ) (p c m : ℕ) → RowRead w p t c u 0 → read_constructors (c + suc m) (drop 1 w) ≡ led_by (rows t 0 c) (read_constructors (suc m) (drop p w)) → read_constructors (c + suc m) (drop 1 w) ≡ none
-row_none w t u p c m h e = e ∙ ap (led_by (rows t 0 c)) (read_one m (drop p w) ∙ ap (λ o. o >>= λ r. read_constructors m r.1 >>= λ cs. some (r.0 ∷ cs)) (h.refused refl))
-
-pub arities_more : (w t u : List ℕ) (p c m : ℕ) → RowRead w p t c u m → 0 < m → Arities t c → Arities u (c + 1)
-arities_more w t u p c m h k a j l = go (eqb j c) refl
+pub arities_more : (w t u : List ℕ) (p c m : ℕ) → RowRead w p t c u m → Arities t c → Arities u (c + 1)
+arities_more w t u p c m h a j l = go (eqb j c) refl
   where
     go : (b : Bool) → eqb j c ≡ b → arity_of u j ≤ argument_limit
-    go true q = let e : j ≡ c = eqb_eq j c q in rw e (h.arity k)
+    go true q = let e : j ≡ c = eqb_eq j c q in rw e h.arity
     go false q =
         let e : ¬ (j ≡ c) = eqb_ne j c q in
         let s : arity_of u j ≡ arity_of t j = h.before (stride * j + 1) (omega arith) in
         let b : arity_of t j ≤ argument_limit = a j (omega arith) in
         omega arith
-
-pub row_refused : (w : List ℕ) (p : ℕ) (t : List ℕ) (c : ℕ) → p ≤ length w → read_constructor (drop p w) ≡ none → RowRead w p t c t 0
-row_refused w p t c l e = record { long = refl; within = omega arith; refused = λ z. e; taken = λ z. absurd (omega arith); two = λ z. absurd (omega arith); kind = λ z. absurd (omega arith); number = λ z. absurd (omega arith); arity = λ z. absurd (omega arith); before = λ i m. refl; behind = λ i m. refl }

@@ -1,22 +1,19 @@
 -- The words of a constructor's smallest value, and the least of the rows of a kind.
-use mathlib.Core.Path.{◌≡◌, refl, sym, ap, ◌∙◌}
+use mathlib.Core.Path.{◌≡◌, sym, ap, ◌∙◌}
 use mathlib.Core.List.{List}
-use mathlib.Core.Bool.{Bool, true, false}
+use mathlib.Core.Bool.{false}
 use Prim.Native.Nat.{ℕ, suc, ◌+◌, ◌-◌, ◌*◌, ◌≤◌, ◌<◌, min}
-use native.Mathlib.Nat.{add-zero, sub-zero}
-use native.Mathlib.Numerals.{one-add}
 use native.Mathlib.Omega.{arith}
-use lib.ListN.{length, get_or, set}
-use lib.Seq.{get_or-set_same, get_or-set_other}
+use lib.ListN.{length, get_or}
 use lib.Dec.{eqb}
 use Rattle.signature.specs.Limits.{kind_limit, over_small}
 use Rattle.signature.specs.Lists.{first, keep, count_up}
 use Rattle.signature.specs.Read.{total}
 use Rattle.signature.specs.Decoded.{stride, arity_of, argument_of}
 use Rattle.decoding.specs.Decoding.{words_from, row, RowFit, Sizes, fewest}
-use Rattle.signature.proofs.Tests.{eqb_self, eqb_eq, eqb_ne, eqb_no}
+use Rattle.signature.proofs.Tests.{eqb_no}
 use Rattle.signature.proofs.ListFacts.{at_getD}
-use Rattle.signature.proofs.Counting.{count_one, count_one_from, count_none}
+use Rattle.signature.proofs.Counting.{count_one, count_one_from}
 use Rattle.decoding.proofs.Fewest.{fewest_most, fewest_some}
 
 -- the words of a constructor's smallest value, argument by argument
@@ -27,9 +24,6 @@ pub record Summed (t : List ℕ) (c : ℕ) (sizes : List ℕ) (a sum j : ℕ) : 
   pub whole : sum + total sizes (words_from t (stride * c + 2 + j) (a - j)) ≡ suc (total sizes (row t c).args)
 
 module _ (t : List ℕ) (c : ℕ) (sizes : List ℕ) (a : ℕ) where
-  pub words_start : a ≡ arity_of t c → Summed t c sizes a 1 0
-  words_start e = record { within = omega arith; is_arity = e; small = omega arith; whole = rw (add-zero (stride * c + 2), sub-zero a, e) (one-add (total sizes (row t c).args)) }
-
   pub words_more : (sum j k₀ k : ℕ) → j < a → RowFit t c → Sizes sizes → k₀ ≡ argument_of t c j → k ≡ k₀ → Summed t c sizes a sum j → Summed t c sizes a (sum + get_or sizes k 0) (j + 1)
   words_more sum j k₀ k l f g e₀ e h =
       let q : get_or t (stride * c + 2 + j) 0 ≡ k = sym (e ∙ e₀) in
@@ -37,9 +31,6 @@ module _ (t : List ℕ) (c : ℕ) (sizes : List ℕ) (a : ℕ) where
       let n : k < length sizes = omega (arith, g.long) in
       let r : total sizes (words_from t (stride * c + 2 + j) (a - j)) ≡ get_or sizes k 0 + total sizes (words_from t (stride * c + 2 + (j + 1)) (a - (j + 1))) = rw (count_one_from (stride * c + 2) j a l, q, at_getD sizes k n) in
       record { within = omega arith; is_arity = h.is_arity; small = omega (arith, g.each k, h.small); whole = omega (arith, h.whole) }
-
-  pub words_end : (sum j : ℕ) → a ≤ j → Summed t c sizes a sum j → sum ≡ suc (total sizes (row t c).args)
-  words_end sum j l h = let e : sum + 0 ≡ suc (total sizes (row t c).args) = rw (count_none (stride * c + 2 + j) j a l) at h.whole in omega arith
 
 -- the rows from c on to the end e
 span_from : (a m c e : ℕ) → c ≡ a → e ≡ a + m → count_up a m ≡ count_up c (e - c)
@@ -58,11 +49,6 @@ module _ (f : ℕ → ℕ) (x c e size : ℕ) where
       let z : fewest f (count_up c (e - c)) ≡ min (f c) (fewest f (count_up (c + 1) (e - (c + 1)))) = rw (count_one c e l) in
       omega arith
 
-  pub fewest_end : e ≤ c → size ≤ over_small → x ≡ min size (fewest f (count_up c (e - c))) → size ≡ x
-  fewest_end l m r =
-      let z : fewest f (count_up c (e - c)) ≡ over_small = rw (count_none c c e l) in
-      omega arith
-
 pub fewest_one : (g : ℕ → ℕ) (x c e size w v : ℕ) → c < e → w ≡ suc (g c) → v ≡ min w size → v ≡ 1 → x ≡ min size (fewest (λ i. suc (g i)) (count_up c (e - c))) → 1 ≡ x
 fewest_one g x c e size w v l p q z r = omega (arith, fewest_next (λ i. suc (g i)) x c e size w v l p q r, fewest_some g (count_up (c + 1) (e - (c + 1))))
 
@@ -70,26 +56,7 @@ module _ (f : ℕ → ℕ) (v x c e : ℕ) where
   abbrev pub FirstFrom : Type 0
   FirstFrom = x ≡ first (keep (λ i. eqb (f i) v) (count_up c (e - c)))
 
-  pub first_start : (a m : ℕ) → c ≡ a → e ≡ a + m → x ≡ first (keep (λ i. eqb (f i) v) (count_up a m)) → FirstFrom
-  first_start a m q r z = z ∙ ap (λ y. first (keep (λ i. eqb (f i) v) y)) (span_from a m c e q r)
-
-  pub first_found : (w : ℕ) → c < e → w ≡ f c → w ≡ v → FirstFrom → c ≡ x
-  first_found w l p q z =
-      let r : eqb (f c) v ≡ true = rw (sym p ∙ q) (eqb_self v) in
-      sym (z ∙ rw (count_one c e l, r))
-
   pub first_passed : (w : ℕ) → c < e → w ≡ f c → ¬ (w ≡ v) → FirstFrom → x ≡ first (keep (λ i. eqb (f i) v) (count_up (c + 1) (e - (c + 1))))
   first_passed w l p q z =
       let r : eqb (f c) v ≡ false = eqb_no (f c) v (λ y. q (p ∙ y)) in
       z ∙ rw (count_one c e l, r)
-
-  pub first_none : e ≤ c → FirstFrom → 0 ≡ x
-  first_none l z = sym (z ∙ rw (count_none c c e l))
-
--- one more of a list whose first k are known
-pub set_more : (f : ℕ → ℕ) (xs : List ℕ) (k v : ℕ) → k < length xs → v ≡ f k → ((j : ℕ) → j < k → get_or xs j 0 ≡ f j) → (j : ℕ) → j < k + 1 → get_or (set xs k v) j 0 ≡ f j
-set_more f xs k v l e h j m = go (eqb j k) refl
-  where
-    go : (b : Bool) → eqb j k ≡ b → get_or (set xs k v) j 0 ≡ f j
-    go true q = rw (eqb_eq j k q) (get_or-set_same xs k v 0 l ∙ e)
-    go false q = let z : ¬ (j ≡ k) = eqb_ne j k q in get_or-set_other xs k j v 0 z ∙ h j (omega arith)

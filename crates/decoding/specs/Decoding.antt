@@ -1,5 +1,6 @@
 -- What the steps of decoding leave in the table.
 use Rattle.std.specs.Prelude.{◌≡◌, List, [], ◌∷◌, ◌++◌, map, Bool, true, cond, not, ◌&&◌, ◌||◌, ℕ, zero, suc, ◌+◌, ◌*◌, ◌≤◌, ◌<◌, min, eqb, ltb, leb, length, get_or, set, drop}
+use Rattle.std.specs.Prelude as prelude
 use Rattle.std.proofs.Math.Option.{Option, none, some}
 use Rattle.signature.specs.Limits.{argument_limit, constructor_limit, kind_limit, number_count, level_base, level_count, over_small, small_size}
 use Rattle.signature.specs.Lists.{◌>>=◌, count_up, first, keep, all}
@@ -48,16 +49,15 @@ pub record Copied (w : List ℕ) (from : ℕ) (t : List ℕ) (to n : ℕ) (u : L
   pub before : SameBelow to t u
   pub behind : (i : ℕ) → to + n ≤ i → get_or u i 0 ≡ get_or t i 0
 
--- the constructor at a place has been read into row c of u, with so many words, or there is none
+-- the constructor at a place has been read into row c of u, with so many words
 pub record RowRead (w : List ℕ) (place : ℕ) (t : List ℕ) (c : ℕ) (u : List ℕ) (m : ℕ) : Type 0 where
   pub long : length u ≡ length t
   pub within : place + m ≤ length w
-  pub refused : m ≡ 0 → read_constructor (drop place w) ≡ none
-  pub taken : 0 < m → read_constructor (drop place w) ≡ some (row u c, drop (place + m) w)
-  pub two : 0 < m → 2 ≤ m
-  pub kind : 0 < m → kind_of u c ≡ get_or w place 0
-  pub number : 0 < m → declares_number u c ≡ eqb (get_or w (place + 1) 0) number_count
-  pub arity : 0 < m → arity_of u c ≤ argument_limit
+  pub taken : read_constructor (drop place w) ≡ some (row u c, drop (place + m) w)
+  pub two : 2 ≤ m
+  pub kind : kind_of u c ≡ get_or w place 0
+  pub number : declares_number u c ≡ eqb (get_or w (place + 1) 0) number_count
+  pub arity : arity_of u c ≤ argument_limit
   pub before : SameBelow (stride * c) t u
   pub behind : (i : ℕ) → kinds_at ≤ i → get_or u i 0 ≡ get_or t i 0
 
@@ -75,9 +75,9 @@ kinds_below k sig = all (λ d. below k d.args) sig
 abbrev pub Highest : ℕ → List ℕ → ℕ → Type 0
 Highest m ws r = (k : ℕ) → ltb r k ≡ (ltb m k && below k ws)
 
--- the number of kinds once a constructor of kind k follows, 0 where it may not
-abbrev pub next_kinds : ℕ → ℕ → ℕ
-next_kinds k n = cond (eqb (suc k) n) n (cond (eqb k n) (cond (ltb n kind_limit) (suc n) 0) 0)
+-- the number of kinds once a constructor of kind k follows n kinds, none where it may not
+abbrev pub next_kinds : ℕ → ℕ → prelude.Option ℕ
+next_kinds k n = cond (eqb (suc k) n) (prelude.Some n) (cond (eqb k n) (cond (ltb n kind_limit) (prelude.Some (suc n)) prelude.None) prelude.None)
 
 -- the number of kinds, 0 where their order or their number is unlawful
 abbrev pub kinds_or_0 : Option ℕ → ℕ
@@ -134,17 +134,9 @@ pub record Reading (w t : List ℕ) (c place kinds most numbers : ℕ) : Type 0 
 abbrev pub Barred : List ℕ → ℕ → Type 0
 Barred w c = (m : ℕ) (sig : Signature) → read_constructors (c + suc m) (drop 1 w) ≡ some sig → 0 ≡ kinds_or_0 (count_kinds sig)
 
--- the next row has been read, or there is none
-pub record NextRead (w : List ℕ) (c : ℕ) (u : List ℕ) (place kinds most numbers : ℕ) : Type 0 where
-  pub long : length u ≡ decoded_length
-  pub barred : kinds ≡ 0 → Barred w c
-  pub taken : 0 < kinds → Reading w u (c + 1) place kinds most numbers
-
--- all n rows have been read, if their layout and kinds are lawful
-pub record AllRead (w : List ℕ) (n : ℕ) (u : List ℕ) (kinds most numbers : ℕ) : Type 0 where
-  pub long : length u ≡ decoded_length
-  pub refused : kinds ≡ 0 → (sig : Signature) → read_constructors n (drop 1 w) ≡ some sig → 0 ≡ kinds_or_0 (count_kinds sig)
-  pub taken : 0 < kinds → Reading w u n (length w) kinds most numbers
+-- the words have no n rows of lawful kinds
+abbrev pub Unlawful : List ℕ → ℕ → Type 0
+Unlawful w n = (sig : Signature) → read_constructors n (drop 1 w) ≡ some sig → 0 ≡ kinds_or_0 (count_kinds sig)
 
 -- a row that names no kind past the limit, and no argument
 pub record RowFit (t : List ℕ) (c : ℕ) : Type 0 where

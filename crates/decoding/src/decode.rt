@@ -1,12 +1,12 @@
 // Checking and decoding a signature.
-ghost use Rattle.std.specs.Prelude.{◌≡◌, true, ◌&&◌, ℕ, suc, ◌+◌, ◌*◌, ◌≤◌, ◌<◌, min, leb, ltb, length, get_or, replicate};
-ghost use Rattle.std.proofs.Math.Option.{some};
+ghost use Rattle.std.specs.Prelude.{◌≡◌, true, ◌&&◌, ℕ, suc, ◌+◌, ◌*◌, ◌≤◌, ◌<◌, leb, length, get_or, drop, replicate, IfNone, IfSome};
+ghost use Rattle.std.proofs.Math.Option.{none, some};
 ghost use Rattle.signature.specs.Limits.{constructor_limit, kind_limit, over_small, row_limit, small_size};
 ghost use Rattle.signature.specs.Lists.{all, count_up, is_some};
 ghost use Rattle.signature.specs.Read.{read_signature, total};
 ghost use Rattle.signature.specs.Signature.{Signature};
 ghost use Rattle.signature.specs.Decoded.{Decoded, decoded_length, kind_of, first_of, count_of};
-ghost use Rattle.decoding.specs.Decoding.{words_from, declares_number, row, rows, argument_count, flag_by, alone_by, plain, mark_of, Marked, Copied, Highest, RowRead, next_kinds, HeadNoted, Reading, NextRead, AllRead, RowFit, Fit, Sizes, size_by, KindFit, SizeLowered, SizesLowered, Greatest, Spanned, lowest_in, LeastNoted, KindsNoted};
+ghost use Rattle.decoding.specs.Decoding.{words_from, declares_number, row, rows, argument_count, flag_by, alone_by, plain, mark_of, Marked, Copied, Highest, RowRead, next_kinds, HeadNoted, Reading, Barred, Unlawful, read_constructor, RowFit, Fit, Sizes, size_by, KindFit, SizeLowered, SizesLowered, Greatest, Spanned, lowest_in, LeastNoted, KindsNoted};
 
 use signature::decoded::{
     COUNTS_AT, KIND_STRIDE, KINDS_AT, LEVEL_BASE, LEVELS, STRIDE, UNKINDED, argument_of, arity_of,
@@ -38,17 +38,11 @@ struct Read {
     numbers: usize,
 }
 
-// The words of a row, and the highest argument kind so far.
+// How many words a row has, and the highest argument kind so far.
 #[derive(Clone, Copy)]
 struct Row {
     words: usize,
     most: u16,
-}
-
-fn higher(a: u16, b: u16) -> u16
-    ensures { (k : ℕ) → ltb result k ≡ (ltb a k && ltb b k) }
-{
-    if a < b { b } else { a }
 }
 
 // The highest of these words and most. With that a copy of so few words is no call.
@@ -57,12 +51,10 @@ fn copy_words(w: &[u16], from: usize, t: &mut [u16], to: usize, count: usize, mo
     ensures { Copied w.now from t.old to count t.new × Highest most (words_from w.now from count) result }
 {
     let mut highest = most;
-    let mut i = 0;
-    while i < count {
+    for i in 0..count {
         let word = w[from + i];
         t[to + i] = word;
-        highest = higher(highest, word);
-        i += 1;
+        highest = highest.max(word);
     }
     highest
 }
@@ -87,14 +79,16 @@ fn flag_by(count: u16) -> u16
     1
 }
 
-// Reads the constructor at a place into row c. The number of its words is 0 if there is none.
-fn read_row(w: &[u16], place: usize, t: &mut [u16], c: usize, most: u16) -> Row
+// Reads the constructor at a place into row c, if there is one.
+fn read_row(w: &[u16], place: usize, t: &mut [u16], c: usize, most: u16) -> Option<Row>
     requires { (place ≤ length w.now) × (length t.old ≡ decoded_length) × (c < constructor_limit) }
-    ensures { RowRead w.now place t.old c t.new result.words × (0 < result.words → Highest most (row t.new c).args result.most) }
+    ensures long { length t.new ≡ length t.old }
+    ensures none { IfNone result (read_constructor (drop place w.now) ≡ none) }
+    ensures some { IfSome result (λ r. RowRead w.now place t.old c t.new r.words × Highest most (row t.new c).args r.most) }
 {
     let left = w.len() - place;
     if left < 2 {
-        return Row { words: 0, most: 0 };
+        return None;
     }
     let row = STRIDE * c;
     let count = w[place + 1];
@@ -102,44 +96,41 @@ fn read_row(w: &[u16], place: usize, t: &mut [u16], c: usize, most: u16) -> Row
         t[row] = w[place];
         t[row + 1] = 0;
         t[row + 2] = 0;
-        return Row {
-            words: 2,
-            most: most,
-        };
+        return Some(Row { words: 2, most });
     }
     if count > NUMBER_COUNT {
-        return Row { words: 0, most: 0 };
+        return None;
     }
     let few = argument_count(count);
     let arity = wide(few);
     if left - 2 < arity {
-        return Row { words: 0, most: 0 };
+        return None;
     }
     t[row] = w[place];
     t[row + 1] = few;
     t[row + 2] = flag_by(count);
     let highest = copy_words(w, place + 2, t, row + 2, arity, most);
-    Row {
+    Some(Row {
         words: arity + 2,
         most: highest,
-    }
+    })
 }
 
-// The number of kinds once a constructor of that kind follows, 0 if it may not.
-fn next_kinds(kind: u16, kinds: usize) -> usize
+// The number of kinds once a constructor of that kind follows, if it may.
+fn next_kinds(kind: u16, kinds: usize) -> Option<usize>
     ensures { result ≡ next_kinds kind kinds }
 {
     let k = wide(kind);
     if k + 1 == kinds {
-        return kinds;
+        return Some(kinds);
     }
     if k != kinds {
-        return 0;
+        return None;
     }
     if kinds < KIND_LIMIT {
-        return kinds + 1;
+        return Some(kinds + 1);
     }
-    0
+    None
 }
 
 // Counts constructor c to kind k, a new one if it is the next.
@@ -156,47 +147,33 @@ fn note_head(t: &mut [u16], k: usize, c: usize, kinds: usize)
     t[row + 1] = c as u16 + 1 - t[row];
 }
 
-// Nothing that is lawful was read.
-fn unread() -> Read
-    ensures { result.kinds ≡ 0 }
-{
-    Read {
-        place: 0,
-        kinds: 0,
-        most: 0,
-        numbers: 0,
-    }
-}
-
-// Reads row c and counts it to its kind. The number of kinds is 0 if there is no such row, or it is unlawful there.
-fn read_next(w: &[u16], t: &mut [u16], c: usize, s: Read) -> Read
+// Reads row c and counts it to its kind, if there is such a row, and it is lawful there.
+fn read_next(w: &[u16], t: &mut [u16], c: usize, s: Read) -> Option<Read>
     requires { Reading w.now t.old c s.place s.kinds s.most s.numbers × (c < constructor_limit) }
-    ensures { NextRead w.now c t.new result.place result.kinds result.most result.numbers }
+    ensures long { length t.new ≡ decoded_length }
+    ensures none { IfNone result (Barred w.now c) }
+    ensures some { IfSome result (λ r. Reading w.now t.new (c + 1) r.place r.kinds r.most r.numbers) }
 {
     let place = s.place;
-    let row = read_row(w, place, t, c, s.most);
-    if row.words == 0 {
-        return unread();
-    }
+    let row = read_row(w, place, t, c, s.most)?;
     let kind = w[place];
-    let kinds = next_kinds(kind, s.kinds);
-    if kinds == 0 {
-        return unread();
-    }
+    let kinds = next_kinds(kind, s.kinds)?;
     note_head(t, wide(kind), c, s.kinds);
     let number = wide(flag_by(w[place + 1]));
-    Read {
+    Some(Read {
         place: place + row.words,
-        kinds: kinds,
+        kinds,
         most: row.most,
         numbers: s.numbers + number,
-    }
+    })
 }
 
-// Reads n constructors behind the first word. The number of kinds is 0 if they are not exactly the words there, or their kinds are unlawful.
-fn read_rows(w: &[u16], t: &mut [u16], n: usize) -> Read
+// Reads n constructors behind the first word, if they are exactly the words there, and their kinds are lawful.
+fn read_rows(w: &[u16], t: &mut [u16], n: usize) -> Option<Read>
     requires { (1 ≤ length w.now) × (length t.old ≡ decoded_length) × (1 ≤ n) × (n ≤ constructor_limit) }
-    ensures { AllRead w.now n t.new result.kinds result.most result.numbers }
+    ensures long { length t.new ≡ decoded_length }
+    ensures none { IfNone result (Unlawful w.now n) }
+    ensures some { IfSome result (λ r. Reading w.now t.new n (length w.now) r.kinds r.most r.numbers) }
 {
     let mut s = Read {
         place: 1,
@@ -204,19 +181,13 @@ fn read_rows(w: &[u16], t: &mut [u16], n: usize) -> Read
         most: 0,
         numbers: 0,
     };
-    let mut c = 0;
-    while c < n {
-        let next = read_next(w, t, c, s);
-        if next.kinds == 0 {
-            return next;
-        }
-        s = next;
-        c += 1;
+    for c in 0..n {
+        s = read_next(w, t, c, s)?;
     }
     if s.place == w.len() {
-        return s;
+        return Some(s);
     }
-    unread()
+    None
 }
 
 // No kind has more than 64 rows.
@@ -224,12 +195,10 @@ fn few_rows(t: &[u16], kinds: usize) -> bool
     requires { (length t.now ≡ decoded_length) × (kinds ≤ kind_limit) }
     ensures { result ≡ all (λ k. leb (count_of t.now k) row_limit) (count_up 0 kinds) }
 {
-    let mut k = 0;
-    while k < kinds {
+    for k in 0..kinds {
         if count_of(t, k) > ROW_LIMIT {
             return false;
         }
-        k += 1;
     }
     true
 }
@@ -264,12 +233,10 @@ fn numbers_alone(t: &[u16], n: usize, numbers: usize) -> bool
     if numbers == 0 {
         return true;
     }
-    let mut c = 0;
-    while c < n {
+    for c in 0..n {
         if !stands_alone(t, c) {
             return false;
         }
-        c += 1;
     }
     true
 }
@@ -281,19 +248,11 @@ fn words_of(t: &[u16], c: usize, sizes: &[u16; KIND_LIMIT]) -> u16
 {
     let arity = wide(arity_of(t, c));
     let mut sum: u16 = 1;
-    let mut j = 0;
-    while j < arity {
+    for j in 0..arity {
         let k = wide(argument_of(t, c, j));
         sum += sizes[k];
-        j += 1;
     }
     sum
-}
-
-fn lower(a: u16, b: u16) -> u16
-    ensures { result ≡ min a b }
-{
-    if a < b { a } else { b }
 }
 
 // The size of kind k, by the kinds' sizes. No value has less than one word.
@@ -301,15 +260,14 @@ fn size_by(t: &[u16], k: usize, sizes: &[u16; KIND_LIMIT]) -> u16
     requires { (length t.now ≡ decoded_length) × (k < kind_limit) × KindFit t.now k × Sizes sizes.now }
     ensures { result ≡ size_by t.now sizes.now k }
 {
-    let mut c = wide(first_of(t, k));
-    let end = c + wide(count_of(t, k));
+    let first = wide(first_of(t, k));
+    let end = first + wide(count_of(t, k));
     let mut size = OVER_SMALL;
-    while c < end {
-        size = lower(words_of(t, c, sizes), size);
+    for c in first..end {
+        size = words_of(t, c, sizes).min(size);
         if size == 1 {
             return 1;
         }
-        c += 1;
     }
     size
 }
@@ -337,9 +295,7 @@ fn lower_sizes(t: &[u16], kinds: usize, sizes: &mut [u16; KIND_LIMIT]) -> usize
     ensures { SizesLowered t.now kinds 0 sizes.old sizes.new result }
 {
     let mut lowered = 0;
-    let mut k = kinds;
-    while k > 0 {
-        k -= 1;
+    for k in (0..kinds).rev() {
         lowered += lower_size(t, k, sizes);
     }
     lowered
@@ -363,13 +319,12 @@ fn lowest_head(t: &[u16], k: usize, sizes: &[u16; KIND_LIMIT]) -> u16
     requires { (length t.now ≡ decoded_length) × (k < kind_limit) × KindFit t.now k × Sizes sizes.now }
     ensures { result ≡ lowest_in t.now sizes.now k }
 {
-    let mut c = wide(first_of(t, k));
-    let end = c + wide(count_of(t, k));
-    while c < end {
+    let first = wide(first_of(t, k));
+    let end = first + wide(count_of(t, k));
+    for c in first..end {
         if words_of(t, c, sizes) == sizes[k] {
             return c as u16;
         }
-        c += 1;
     }
     0
 }
@@ -378,10 +333,8 @@ fn lowest_heads(t: &[u16], kinds: usize, sizes: &[u16; KIND_LIMIT], heads: &mut 
     requires { (length t.now ≡ decoded_length) × (kinds ≤ kind_limit) × ((k : ℕ) → k < kinds → KindFit t.now k) × Sizes sizes.now × (length heads.old ≡ kind_limit) }
     ensures { (k : ℕ) → k < kinds → get_or heads.new k 0 ≡ lowest_in t.now sizes.now k }
 {
-    let mut k = 0;
-    while k < kinds {
+    for k in 0..kinds {
         heads[k] = lowest_head(t, k, sizes);
-        k += 1;
     }
 }
 
@@ -389,12 +342,10 @@ fn note_least(t: &mut [u16], kinds: usize, heads: &[u16; KIND_LIMIT], sizes: &[u
     requires { (length t.old ≡ decoded_length) × (kinds ≤ kind_limit) }
     ensures { LeastNoted t.old kinds heads.now sizes.now t.new }
 {
-    let mut k = 0;
-    while k < kinds {
+    for k in 0..kinds {
         let row = KINDS_AT + KIND_STRIDE * k;
         t[row + 2] = heads[k];
         t[row + 3] = sizes[k];
-        k += 1;
     }
 }
 
@@ -403,12 +354,10 @@ fn all_small(sizes: &[u16; KIND_LIMIT], kinds: usize) -> bool
     requires { kinds ≤ kind_limit }
     ensures { result ≡ all (λ k. leb (get_or sizes.now k 0) small_size) (count_up 0 kinds) }
 {
-    let mut k = 0;
-    while k < kinds {
+    for k in 0..kinds {
         if sizes[k] > SMALL_SIZE {
             return false;
         }
-        k += 1;
     }
     true
 }
@@ -452,10 +401,8 @@ fn mark_numbers(t: &mut [u16], n: usize, numbers: usize)
     if numbers == 0 {
         return;
     }
-    let mut c = 0;
-    while c < n {
+    for c in 0..n {
         mark(t, c);
-        c += 1;
     }
 }
 
@@ -475,11 +422,10 @@ pub fn decode(w: &[u16], t: &mut [u16]) -> bool
     if n > CONSTRUCTOR_LIMIT {
         return false;
     }
-    let s = read_rows(w, t, n);
-    let kinds = s.kinds;
-    if kinds == 0 {
+    let Some(s) = read_rows(w, t, n) else {
         return false;
-    }
+    };
+    let kinds = s.kinds;
     if !few_rows(t, kinds) {
         return false;
     }

@@ -1,5 +1,5 @@
 -- The entry past refusals 1 and 2.
-use Rattle.std.specs.Prelude.{◌≡◌, List, ℕ, ◌≤◌, length}
+use Rattle.std.specs.Prelude.{◌≡◌, List, ℕ, ◌≤◌, length, Option, Some, None}
 use Rattle.signature.specs.Signature.{Signature}
 use Rattle.table.specs.Calls.{Enter, enter_start, on_sound}
 use Rattle.table.specs.Limits.{limits, witness_length}
@@ -7,8 +7,6 @@ use Rattle.table.specs.Sound.{sound}
 use Rattle.loading.specs.Load.{GivenLoad}
 use Rattle.entry.specs.Entry.{entry_answer, Numbered}
 use Rattle.entry.specs.declared.sound.Entry.{Entry}
-use Rattle.entry.specs.declared.sound.Tried.{Tried}
-use Rattle.entry.specs.declared.sound.Tried.TheVariants.{Done, NoRoom}
 
 -- a lawful signature's table, and slices that are long enough
 pub record GivenEnter (t table witness : List ℕ) : Type 0 where
@@ -20,6 +18,6 @@ abbrev pub EntersAs : Signature → ℕ → ℕ → List ℕ → List ℕ → Li
 EntersAs sig n plan ws before witness e after witness' = ((ss : List ℕ) → enter_start limits ss before witness ≡ on_sound sig (sound limits sig before) → Enter limits ss n plan ws before witness (entry_answer e) after witness') × Numbered e
 
 -- no room tells P, and nothing is written
-abbrev pub TriesAs : Type 0 → Signature → ℕ → ℕ → List ℕ → List ℕ → List ℕ → Tried → List ℕ → List ℕ → Type 0
-TriesAs P sig n plan ws before witness NoRoom after witness' = P × (after ≡ before) × (witness' ≡ witness)
-TriesAs P sig n plan ws before witness (Done e) after witness' = EntersAs sig n plan ws before witness e after witness'
+abbrev pub TriesAs : Type 0 → Signature → ℕ → ℕ → List ℕ → List ℕ → List ℕ → Option Entry → List ℕ → List ℕ → Type 0
+TriesAs P sig n plan ws before witness None after witness' = P × (after ≡ before) × (witness' ≡ witness)
+TriesAs P sig n plan ws before witness (Some e) after witness' = EntersAs sig n plan ws before witness e after witness'

@@ -4,18 +4,19 @@ ghost use Rattle.rowset.specs.Limits.{row_limit};
 ghost use Rattle.rowset.specs.Member.{set_words};
 ghost use Rattle.table.specs.Limits.{limits};
 ghost use Rattle.table.specs.Calls.{Enter, long_table, long_witness};
-ghost use Rattle.loading.specs.Add.{TooSmall};
+ghost use Rattle.builder.specs.Build.{row_room};
+ghost use Rattle.loading.specs.Add.{TooSmall, rows_room};
 ghost use Rattle.entry.specs.Entry.{entry_answer, Numbered};
-ghost use Rattle.entering.specs.Enter.{GivenEnter, EntersAs, TriesAs};
+ghost use Rattle.entering.specs.Enter.{GivenEnter, TriesAs};
 
 use booking::walk::BOOKING_LIMIT;
 use builder::build::ROW_ROOM;
-use entry::sound::{Entry, Tried, enter_sound};
-use loading::add::{ROWS_ROOM, SMALL_ROWS, SMALL_WORK};
-use loading::load::{Loaded, load};
+use entry::sound::{Entry, enter_sound};
+use loading::add::{LoadError, ROWS_ROOM, SMALL_ROWS, SMALL_WORK};
+use loading::load::load;
 use opening::begin::begin;
 use signature::decoded::DECODED;
-use signature::refusals::UNSOUND;
+use signature::refusals::Refusal;
 use store::layout::TABLE;
 
 // The words of a witness buffer.
@@ -25,78 +26,30 @@ pub const WITNESS: usize = BOOKING_LIMIT;
 pub fn long_enough(table: &[u16], witness: &[u16]) -> bool
     ensures { result ≡ (long_table limits table.now && long_witness witness.now) }
 {
-    if table.len() < TABLE {
-        return false;
-    }
-    WITNESS <= witness.len()
+    TABLE <= table.len() && WITNESS <= witness.len()
 }
 
-// The entry past refusals 1 and 2, over lent workspaces.
-fn enter_in(
+// The entry past refusals 1 and 2; None where arrays of so many words are too small. Not compiled into its callers, for the reason of `opening::load`.
+#[inline(never)]
+fn enter_in<const ROWS: usize, const WORK: usize>(
     t: &[u16],
     number: u16,
     plan: u16,
     pattern: &[u16],
     table: &mut [u16],
     witness: &mut [u16],
-    rows: &mut [u64],
-    work: &mut [u64],
-) -> Tried
-    requires { GivenEnter t.now table.old witness.old × (set_words * row_limit ≤ length work.old) }
-    ensures { (g : GivenEnter t.now table.old witness.old) → TriesAs (TooSmall (length rows.old) (length work.old)) g.load.known.sig number plan pattern.now table.old witness.old result table.new witness.new }
+) -> Option<Entry>
+    requires { GivenEnter t.now table.old witness.old × (ROWS ≤ rows_room) × (WORK ≤ row_room) × (set_words * row_limit ≤ WORK) }
+    ensures { (g : GivenEnter t.now table.old witness.old) → TriesAs (TooSmall ROWS WORK) g.load.known.sig number plan pattern.now table.old witness.old result table.new witness.new }
 {
-    match load(t, table, rows, work) {
-        Loaded::NoRoom => Tried::NoRoom,
-        Loaded::Unsound => Tried::Done(Entry::Refused(UNSOUND)),
-        Loaded::Sound(used, total) => enter_sound(
-            t, number, plan, pattern, used, total, table, rows, work, witness,
+    let mut rows = [0u64; ROWS];
+    let mut work = [0u64; WORK];
+    match load(t, table, &mut rows, &mut work) {
+        Err(LoadError::NoRoom) => None,
+        Err(LoadError::Unsound) => Some(Entry::Refused(Refusal::Unsound)),
+        Ok((used, total)) => enter_sound(
+            t, number, plan, pattern, used, total, table, &mut rows, &mut work, witness,
         ),
-    }
-}
-
-// The table is not short here, so that it never calls itself, for the reason of `opening::load`.
-fn enter_small(
-    t: &[u16],
-    number: u16,
-    plan: u16,
-    pattern: &[u16],
-    table: &mut [u16],
-    witness: &mut [u16],
-) -> Tried
-    requires { GivenEnter t.now table.old witness.old }
-    ensures { (g : GivenEnter t.now table.old witness.old) → TriesAs (Unit {0}) g.load.known.sig number plan pattern.now table.old witness.old result table.new witness.new }
-{
-    let mut rows = [0u64; SMALL_ROWS];
-    let mut work = [0u64; SMALL_WORK];
-    let r = enter_in(
-        t, number, plan, pattern, table, witness, &mut rows, &mut work,
-    );
-    if table.len() < TABLE {
-        return enter_small(t, number, plan, pattern, table, witness);
-    }
-    r
-}
-
-// Every table and pattern has room, as in `opening::load`.
-fn enter_large(
-    t: &[u16],
-    number: u16,
-    plan: u16,
-    pattern: &[u16],
-    table: &mut [u16],
-    witness: &mut [u16],
-) -> Entry
-    requires { GivenEnter t.now table.old witness.old }
-    ensures { (g : GivenEnter t.now table.old witness.old) → EntersAs g.load.known.sig number plan pattern.now table.old witness.old result table.new witness.new }
-{
-    let mut rows = [0u64; ROWS_ROOM];
-    let mut work = [0u64; ROW_ROOM];
-    let r = enter_in(
-        t, number, plan, pattern, table, witness, &mut rows, &mut work,
-    );
-    match r {
-        Tried::Done(e) => e,
-        Tried::NoRoom => enter_large(t, number, plan, pattern, table, witness),
     }
 }
 
@@ -114,13 +67,11 @@ pub fn enter(
 {
     let long = long_enough(table, witness);
     let mut t = [0u16; DECODED];
-    let q = begin(ss, long, &mut t);
-    if q != 0 {
-        return Entry::Refused(q);
+    if let Err(r) = begin(ss, long, &mut t) {
+        return Entry::Refused(r);
     }
-    let r = enter_small(&t, number, plan, pattern, table, witness);
-    match r {
-        Tried::Done(e) => e,
-        Tried::NoRoom => enter_large(&t, number, plan, pattern, table, witness),
+    if let Some(e) = enter_in::<SMALL_ROWS, SMALL_WORK>(&t, number, plan, pattern, table, witness) {
+        return e;
     }
+    enter_in::<ROWS_ROOM, ROW_ROOM>(&t, number, plan, pattern, table, witness).unwrap()
 }

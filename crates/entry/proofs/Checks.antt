@@ -30,36 +30,31 @@ use Rattle.table.specs.Refusals.{entry_refusal}
 use Rattle.table.specs.Rule.{Rule, held, total_weight}
 use Rattle.table.proofs.SoundFacts.{sound_valid}
 use Rattle.admission.specs.Admission.{GivenWords, admission_of}
-use Rattle.admission.specs.declared.admit.Admission.{Admission}
-use Rattle.admission.specs.declared.admit.Admission.TheVariants.{Passed, Refused as Barred}
+use Rattle.std.specs.Prelude.{Result, Ok, Err}
 use Rattle.store.specs.Laid.{Holds}
 use Rattle.store.specs.Place.{FreeAt, FoundAt}
-use Rattle.store.specs.declared.find.Found.{Found}
-use Rattle.store.specs.declared.find.Found.TheVariants.{Held, Free as Vacant}
 use Rattle.store.proofs.FindFacts.{count_is}
 use Rattle.store.proofs.LaidFacts.{sound_holds}
 use Rattle.loading.specs.Lists.{lists_for}
 use Rattle.loading.specs.Load.{Ready, patterns}
 use Rattle.entry.specs.Check.{number_refusal, FreeFor, GivenCheck, CheckedAs}
-use Rattle.entry.specs.declared.check.Checked.{Checked}
-use Rattle.entry.specs.declared.check.Checked.TheVariants.{Free, Refused}
 
 -- 4 and 5
 module _ (n : ℕ) (rs : List Rule) where
-  pub too_low : n < 1 → FreeFor n rs (Refused 4)
+  pub too_low : n < 1 → FreeFor n rs (Err 4)
   too_low h = (omega arith, λ e. omega arith, λ later. ap (λ b. cond (not (b && leb n last_number)) 4 (cond (held n rs) 5 later)) (leb_no 1 n h))
 
-  pub too_high : last_number < n → FreeFor n rs (Refused 4)
+  pub too_high : last_number < n → FreeFor n rs (Err 4)
   too_high h = (omega arith, λ e. omega arith, λ later. ap (λ b. cond (not (leb 1 n && b)) 4 (cond (held n rs) 5 later)) (leb_no n last_number h) ∙ ap (λ b. cond (not b) 4 (cond (held n rs) 5 later)) (and_false (leb 1 n)))
 
   module _ (low : 1 ≤ n) (high : n ≤ last_number) where
     numbered : (later : ℕ) → number_refusal n rs later ≡ cond (held n rs) 5 later
     numbered later = let a = leb_yes 1 n low in let b = leb_yes n last_number high in rw (a, b)
 
-    pub was_held : (r : Found) → FoundAt n rs r → (at : ℕ) → r ≡ Held at → FreeFor n rs (Refused 5)
+    pub was_held : (r : Result ℕ ℕ) → FoundAt n rs r → (at : ℕ) → r ≡ Ok at → FreeFor n rs (Err 5)
     was_held r f at e = let h = subst (FoundAt n rs) e f in (omega arith, λ e. omega arith, λ later. numbered later ∙ ap (λ b. cond b 5 later) h.is_held)
 
-    pub free_there : (r : Found) → FoundAt n rs r → (at : ℕ) → r ≡ Vacant at → FreeFor n rs (Free at)
+    pub free_there : (r : Result ℕ ℕ) → FoundAt n rs r → (at : ℕ) → r ≡ Err at → FreeFor n rs (Ok at)
     free_there r f at e = (low, high, subst (FoundAt n rs) e f)
 
     not_held : (at : ℕ) → FreeAt n rs at → (later : ℕ) → number_refusal n rs later ≡ later
@@ -78,9 +73,9 @@ refusal_other sig (some p) = go (ranged p) (linear_plus p) (light_plus p) (ambig
     go true true true false e = omega arith
 
 -- what the admission tells of the words
-abbrev Tells : Signature → List ℕ → Admission → Type 0
-Tells sig ws (Passed w) = (refusal_of_pattern sig ws ≡ 0) × (w ≡ weight sig ws)
-Tells sig ws (Barred q) = (1 ≤ q) × (q ≡ 12 → ⊥) × (q ≡ refusal_of_pattern sig ws)
+abbrev Tells : Signature → List ℕ → Result ℕ ℕ → Type 0
+Tells sig ws (Ok w) = (refusal_of_pattern sig ws ≡ 0) × (w ≡ weight sig ws)
+Tells sig ws (Err q) = (1 ≤ q) × (q ≡ 12 → ⊥) × (q ≡ refusal_of_pattern sig ws)
 
 tells : (sig : Signature) (ws : List ℕ) → Tells sig ws (admission_of sig ws)
 tells sig ws = go (eqb (refusal_of_pattern sig ws) 0) refl
@@ -88,7 +83,7 @@ tells sig ws = go (eqb (refusal_of_pattern sig ws) 0) refl
     some_number : (q : ℕ) → (q ≡ 0 → ⊥) → 1 ≤ q
     some_number q f = omega (arith, f)
 
-    go : (b : Bool) → eqb (refusal_of_pattern sig ws) 0 ≡ b → Tells sig ws (cond b (Passed (weight sig ws)) (Barred (refusal_of_pattern sig ws)))
+    go : (b : Bool) → eqb (refusal_of_pattern sig ws) 0 ≡ b → Tells sig ws (cond b (Ok (weight sig ws)) (Err (refusal_of_pattern sig ws)))
     go true e = (eqb_eq (refusal_of_pattern sig ws) 0 e, refl)
     go false e = (some_number (refusal_of_pattern sig ws) (eqb_ne (refusal_of_pattern sig ws) 0 e), refusal_other sig (read_pattern sig ws), refl)
 
@@ -127,27 +122,27 @@ module _ {t table ws : List ℕ} {used total : ℕ} {rows : List ℕ} {m : ℕ} 
     abbrev after_number : ℕ
     after_number = cond (not (eqb (refusal_of_pattern g.force.known.sig ws) 0)) (refusal_of_pattern g.force.known.sig ws) later
 
-    module _ (s : Checked) (said : (rs : List Rule) → Holds limits table rs → FreeFor n rs s) where
-      pub bad_number : (q : ℕ) → s ≡ Refused q → CheckedAs g.force.known.sig g.force.rs n ws used total (Refused q) rows
+    module _ (s : Result ℕ ℕ) (said : (rs : List Rule) → Holds limits table rs → FreeFor n rs s) where
+      pub bad_number : (q : ℕ) → s ≡ Err q → CheckedAs g.force.known.sig g.force.rs n ws used total (Err q) rows
       bad_number q e = let f = subst (FreeFor n g.force.rs) e (said g.force.rs holds) in (f.0, f.1, f.2 after_number)
 
-    module _ (s : Checked) (said : (rs : List Rule) → Holds limits table rs → FreeFor n rs s) (at : ℕ) (s_is : s ≡ Free at) (n' m' : ℕ) (n'_is : n' ≡ length rows - used) (m'_is : m' ≡ m) (r : Admission) (gave : (q : GivenWords t ws n' m') → r ≡ admission_of q.known.sig ws) where
+    module _ (s : Result ℕ ℕ) (said : (rs : List Rule) → Holds limits table rs → FreeFor n rs s) (at : ℕ) (s_is : s ≡ Ok at) (n' m' : ℕ) (n'_is : n' ≡ length rows - used) (m'_is : m' ≡ m) (r : Result ℕ ℕ) (gave : (q : GivenWords t ws n' m') → r ≡ admission_of q.known.sig ws) where
       told : Tells g.force.known.sig ws r
       unfolding words_given
       told = subst (Tells g.force.known.sig ws) (sym (gave (words_given n' m' n'_is m'_is))) (tells g.force.known.sig ws)
 
-      f : FreeFor n g.force.rs (Free at)
+      f : FreeFor n g.force.rs (Ok at)
       f = subst (FreeFor n g.force.rs) s_is (said g.force.rs holds)
 
       start : entry_refusal limits g.force.known.sig n ws g.force.rs ≡ after_number
       start = not_held n g.force.rs f.0 f.1 at f.2 after_number
 
-      pub bad_pattern : (q : ℕ) → r ≡ Barred q → CheckedAs g.force.known.sig g.force.rs n ws used total (Refused q) rows
+      pub bad_pattern : (q : ℕ) → r ≡ Err q → CheckedAs g.force.known.sig g.force.rs n ws used total (Err q) rows
       bad_pattern q e =
-          let z : Tells g.force.known.sig ws (Barred q) = subst (Tells g.force.known.sig ws) e told in
+          let z : Tells g.force.known.sig ws (Err q) = subst (Tells g.force.known.sig ws) e told in
           (z.0, z.1, start ∙ own_number (refusal_of_pattern g.force.known.sig ws) later (omega (arith, z.0, z.2)) ∙ sym z.2)
 
-      module _ (w : ℕ) (e : r ≡ Passed w) where
+      module _ (w : ℕ) (e : r ≡ Ok w) where
         so : (refusal_of_pattern g.force.known.sig ws ≡ 0) × (w ≡ weight g.force.known.sig ws)
         so = subst (Tells g.force.known.sig ws) e told
 
@@ -159,10 +154,10 @@ module _ {t table ws : List ℕ} {used total : ℕ} {rows : List ℕ} {m : ℕ} 
         good : entry_refusal limits g.force.known.sig n ws g.force.rs ≡ later
         good = start ∙ ap (λ q. cond (not (eqb q 0)) q later) so.0
 
-        pub full : limits.rules ≤ get_or table 0 0 → CheckedAs g.force.known.sig g.force.rs n ws used total (Refused 11) rows
+        pub full : limits.rules ≤ get_or table 0 0 → CheckedAs g.force.known.sig g.force.rs n ws used total (Err 11) rows
         full h = (omega arith, λ e. omega arith, good ∙ ap (λ b. cond (b || ltb limits.weight (weight g.force.known.sig ws + total_weight g.force.known.sig g.force.rs)) 11 (cond (any (λ r. shares g.force.known.sig ws r.pattern) g.force.rs) 12 0)) (leb_yes limits.rules (length g.force.rs) (omega (arith, h, count_is holds))))
 
-        pub heavy : limits.weight < total + w → CheckedAs g.force.known.sig g.force.rs n ws used total (Refused 11) rows
+        pub heavy : limits.weight < total + w → CheckedAs g.force.known.sig g.force.rs n ws used total (Err 11) rows
         heavy h = (
           omega arith,
           λ e. omega arith,
@@ -171,7 +166,7 @@ module _ {t table ws : List ℕ} {used total : ℕ} {rows : List ℕ} {m : ℕ} 
               ∙ ap (λ b. cond b 11 (cond (any (λ r. shares g.force.known.sig ws r.pattern) g.force.rs) 12 0)) (or_true (leb limits.rules (length g.force.rs))),
         )
 
-        pub clear : get_or table 0 0 < limits.rules → total + w ≤ limits.weight → (ys : List ℕ) → CheckedAs g.force.known.sig g.force.rs n ws used total (Free at) (back rows used ys)
+        pub clear : get_or table 0 0 < limits.rules → total + w ≤ limits.weight → (ys : List ℕ) → CheckedAs g.force.known.sig g.force.rs n ws used total (Ok at) (back rows used ys)
         clear h k ys =
             let few : length g.force.rs < limits.rules = omega (arith, h, count_is holds) in
             let a = leb_no limits.rules (length g.force.rs) few in

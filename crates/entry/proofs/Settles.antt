@@ -1,5 +1,5 @@
 -- 12, and the rule stored.
-use mathlib.Core.Path.{◌≡◌, refl, sym, ap, ap₂, ◌∙◌}
+use mathlib.Core.Path.{◌≡◌, refl, sym, ap, ap₂, ◌∙◌, subst}
 use mathlib.Core.List.{List, [], ◌∷◌, ◌++◌, append_assoc}
 use mathlib.Core.Bool.{cond}
 use Prim.Native.Nat.{ℕ, suc, ◌+◌, ◌-◌, ◌<◌, ◌≤◌}
@@ -26,6 +26,7 @@ use Rattle.loading.specs.Lists.{rows_by, list_for, lists_for}
 use Rattle.loading.specs.Load.{patterns}
 use Rattle.sharing.specs.Sharer.{GivenSharer, SharerOf}
 use Rattle.sharing.specs.declared.first.Sharer.{Sharer}
+use Rattle.std.specs.Prelude.{Option as CodeOption, None, Some}
 use Rattle.entry.specs.Entry.{entry_answer}
 use Rattle.entry.specs.Settle.{GivenSettle, EntryOf}
 use Rattle.entry.specs.declared.sound.Entry.TheVariants.{Entered, Shares}
@@ -99,14 +100,14 @@ module _ {t table : List ℕ} {n : ℕ} {ws : List ℕ} {at used : ℕ} {rows : 
       room = g.witness_long;
     }
 
-    module _ (plan : ℕ) (witness : List ℕ) (s : Sharer) (witness' : List ℕ) (gave : (q : GivenSharer t table o (used + 1) l) → SharerOf q.force.known.sig q.force.rs q.ws witness s witness') where
+    module _ (plan : ℕ) (witness : List ℕ) (s : CodeOption Sharer) (witness' : List ℕ) (gave : (q : GivenSharer t table o (used + 1) l) → SharerOf q.force.known.sig q.force.rs q.ws witness s witness') where
       said : SharerOf g.force.known.sig g.force.rs ws witness s witness'
       unfolding sharer_given
       said = gave sharer_given
 
-      pub shared : 0 < s.length → EntryOf g.force.known.sig g.force.rs n plan ws table witness (entry_answer (Shares s.rule s.length)) table witness'
-      shared h =
-          let (e, w) = said.one_shares (omega (arith, h)) in
+      pub shared : (r : Sharer) → s ≡ Some r → EntryOf g.force.known.sig g.force.rs n plan ws table witness (entry_answer (Shares r.rule r.length)) table witness'
+      shared r is =
+          let (e, w) = subst (λ z. SharerOf g.force.known.sig g.force.rs ws witness z witness') is said in
           let z : entry_refusal limits g.force.known.sig n ws g.force.rs ≡ 12 = g.cleared.refusal_is ∙ ap (λ b. cond b 12 0) e in
           record {
             number_is = sym z;
@@ -115,10 +116,10 @@ module _ {t table : List ℕ} {n : ℕ} {ws : List ℕ} {at used : ℕ} {rows : 
             on_12 = λ x. w;
           }
 
-      pub entered : s.length ≤ 0 → (after : List ℕ) → ((q : GivenPut table at n ws) → after ≡ stored limits (default_of table) (add_rule (record { number = n; plan = plan; pattern = ws }) q.rs) table) → EntryOf g.force.known.sig g.force.rs n plan ws table witness (entry_answer Entered) after witness'
+      pub entered : s ≡ None → (after : List ℕ) → ((q : GivenPut table at n ws) → after ≡ stored limits (default_of table) (add_rule (record { number = n; plan = plan; pattern = ws }) q.rs) table) → EntryOf g.force.known.sig g.force.rs n plan ws table witness (entry_answer Entered) after witness'
       unfolding put_given
-      entered h after did =
-          let (e, u, w) = said.none_shares (omega (arith, h)) in
+      entered is after did =
+          let (e, w) = subst (λ z. SharerOf g.force.known.sig g.force.rs ws witness z witness') is said in
           let z : entry_refusal limits g.force.known.sig n ws g.force.rs ≡ 0 = g.cleared.refusal_is ∙ ap (λ b. cond b 12 0) e in
           record {
             number_is = sym z;

@@ -20,8 +20,10 @@ use Rattle.loading.specs.Load.{InForce}
 use Rattle.entry.specs.Check.{GivenCheck, CheckedAs}
 use Rattle.entry.specs.Entry.{entry_answer, Numbered}
 use Rattle.entry.specs.Settle.{GivenSettle, EntryOf}
-use Rattle.entry.specs.declared.check.Checked.{Checked}
-use Rattle.entry.specs.declared.check.Checked.TheVariants.{Free, Refused as Barred}
+use Rattle.std.specs.Prelude.{Result, Ok, Err}
+use Rattle.signature.specs.Refusal.{number_of}
+use Rattle.signature.specs.declared.refusals.Refusal.{Refusal}
+use Rattle.signature.proofs.Numbers.{positive}
 use Rattle.entry.specs.declared.sound.Entry.TheVariants.{Refused}
 
 not_0 : (q : ℕ) (x y : List ℕ) → 1 ≤ q → cond (eqb q 0) x y ≡ y
@@ -34,21 +36,18 @@ module _ {t table : List ℕ} {used total : ℕ} {rows : List ℕ} (g : InForce 
   abbrev pub check_given : {ws : List ℕ} {m : ℕ} → (used + 1 + words_room (length ws) ≤ length rows) × (words_room (length ws) ≤ m) → GivenCheck t table ws used total rows m
   check_given h = record { force = g; room = h.0; work_room = h.1 }
 
-module _ {t table ws : List ℕ} {used total : ℕ} {rows : List ℕ} {m : ℕ} (g : GivenCheck t table ws used total rows m) (n plan : ℕ) (witness : List ℕ) (r : Checked) (rows' : List ℕ) (gave : (q : GivenCheck t table ws used total rows m) → CheckedAs q.force.known.sig q.force.rs n ws used total r rows') where
-  pub turned_down : (q : ℕ) → r ≡ Barred q → EntryOf g.force.known.sig g.force.rs n plan ws table witness (entry_answer (Refused q)) table witness
+module _ {t table ws : List ℕ} {used total : ℕ} {rows : List ℕ} {m : ℕ} (g : GivenCheck t table ws used total rows m) (n plan : ℕ) (witness : List ℕ) (r : Result ℕ ℕ) (rows' : List ℕ) (gave : (q : GivenCheck t table ws used total rows m) → CheckedAs q.force.known.sig q.force.rs n ws used total r rows') where
+  pub turned_down : (q : Refusal) → r ≡ Err (number_of q) → EntryOf g.force.known.sig g.force.rs n plan ws table witness (entry_answer (Refused q)) table witness
   turned_down q e =
       let (a, b, c) = subst (λ z. CheckedAs g.force.known.sig g.force.rs n ws used total z rows') e (gave g) in
       record {
         number_is = sym c;
-        table_is = sym (ap (λ z. cond (eqb z 0) (stored limits (default_of table) (add_rule (record { number = n; plan = plan; pattern = ws }) g.force.rs) table) table) c ∙ not_0 q (stored limits (default_of table) (add_rule (record { number = n; plan = plan; pattern = ws }) g.force.rs) table) table a);
+        table_is = sym (ap (λ z. cond (eqb z 0) (stored limits (default_of table) (add_rule (record { number = n; plan = plan; pattern = ws }) g.force.rs) table) table) c ∙ not_0 (number_of q) (stored limits (default_of table) (add_rule (record { number = n; plan = plan; pattern = ws }) g.force.rs) table) table a);
         not_12 = λ f. (refl, refl, refl);
         on_12 = λ x. absurd (b x);
       }
 
-  pub numbered : (q : ℕ) → r ≡ Barred q → Numbered (Refused q)
-  numbered q e = (subst (λ z. CheckedAs g.force.known.sig g.force.rs n ws used total z rows') e (gave g)).0
-
-  pub settle_given : (at : ℕ) → r ≡ Free at → (m' : ℕ) → m' ≡ m → length rows' ≡ length rows → (l : ℕ) → witness_length ≤ l → set_words * row_limit ≤ m → GivenSettle t table n ws at used rows' m' l
+  pub settle_given : (at : ℕ) → r ≡ Ok at → (m' : ℕ) → m' ≡ m → length rows' ≡ length rows → (l : ℕ) → witness_length ≤ l → set_words * row_limit ≤ m → GivenSettle t table n ws at used rows' m' l
   settle_given at e m' m_is rows_is l w v =
       let z = subst (λ z. CheckedAs g.force.known.sig g.force.rs n ws used total z rows') e (gave g) in
       record {
@@ -61,7 +60,7 @@ module _ {t table ws : List ℕ} {used total : ℕ} {rows : List ℕ} {m : ℕ} 
         witness_long = w;
       }
 
-  pub settled : (at : ℕ) (e : r ≡ Free at) (m' : ℕ) (m_is : m' ≡ m) (rows_is : length rows' ≡ length rows) (w : witness_length ≤ length witness) (v : set_words * row_limit ≤ m) (a : Answer) (after witness' : List ℕ)
+  pub settled : (at : ℕ) (e : r ≡ Ok at) (m' : ℕ) (m_is : m' ≡ m) (rows_is : length rows' ≡ length rows) (w : witness_length ≤ length witness) (v : set_words * row_limit ≤ m) (a : Answer) (after witness' : List ℕ)
       → ((q : GivenSettle t table n ws at used rows' m' (length witness)) → EntryOf q.force.known.sig q.force.rs n plan ws table witness a after witness')
       → EntryOf g.force.known.sig g.force.rs n plan ws table witness a after witness'
   unfolding settle_given

@@ -1,5 +1,5 @@
 -- 01, Turned down: an entry from 4 on, under rules in force.
-use Rattle.std.specs.Prelude.{◌≡◌, List, ℕ, ◌+◌, ◌*◌, ◌≤◌, length}
+use Rattle.std.specs.Prelude.{◌≡◌, List, ℕ, ◌+◌, ◌*◌, ◌≤◌, length, Option, None, Some}
 use Rattle.signature.specs.Signature.{Signature}
 use Rattle.rowset.specs.Limits.{row_limit}
 use Rattle.rowset.specs.Member.{set_words}
@@ -12,8 +12,7 @@ use Rattle.builder.specs.Build.{words_room}
 use Rattle.loading.specs.Load.{InForce}
 use Rattle.entry.specs.Check.{Cleared}
 use Rattle.entry.specs.Entry.{entry_answer, Numbered}
-use Rattle.entry.specs.declared.sound.Tried.{Tried}
-use Rattle.entry.specs.declared.sound.Tried.TheVariants.{Done, NoRoom}
+use Rattle.entry.specs.declared.sound.Entry.{Entry}
 
 -- an entry that none of 4 to 11 applies to
 pub record GivenSettle (t table : List ℕ) (n : ℕ) (ws : List ℕ) (at used : ℕ) (rows : List ℕ) (m l : ℕ) : Type 0 where
@@ -33,6 +32,6 @@ pub record EntryOf (sig : Signature) (rs : List Rule) (n plan : ℕ) (ws before 
   pub on_12 : e.number ≡ 12 → Shows sig rs ws witness e witness'
 
 -- an entry tried: no room tells P, and nothing is written
-abbrev pub TriedAs : Type 0 → Signature → List Rule → ℕ → ℕ → List ℕ → List ℕ → List ℕ → Tried → List ℕ → List ℕ → Type 0
-TriedAs P sig rs n plan ws before witness NoRoom after witness' = P × (after ≡ before) × (witness' ≡ witness)
-TriedAs P sig rs n plan ws before witness (Done e) after witness' = EntryOf sig rs n plan ws before witness (entry_answer e) after witness' × Numbered e
+abbrev pub TriedAs : Type 0 → Signature → List Rule → ℕ → ℕ → List ℕ → List ℕ → List ℕ → Option Entry → List ℕ → List ℕ → Type 0
+TriedAs P sig rs n plan ws before witness None after witness' = P × (after ≡ before) × (witness' ≡ witness)
+TriedAs P sig rs n plan ws before witness (Some e) after witness' = EntryOf sig rs n plan ws before witness (entry_answer e) after witness' × Numbered e

@@ -26,8 +26,7 @@ pub fn settle(
     ensures numbered { Numbered result }
 {
     place(t, pattern, used, rows, work);
-    let s = first_sharer(t, table, rows, used + 1, work, witness);
-    if s.length > 0 {
+    if let Some(s) = first_sharer(t, table, rows, used + 1, work, witness) {
         return Entry::Shares(s.rule, s.length);
     }
     put(table, at, number, plan, pattern);

@@ -7,26 +7,20 @@ ghost use Rattle.loading.specs.Add.{TooSmall};
 ghost use Rattle.loading.specs.Load.{InForce};
 ghost use Rattle.entry.specs.Settle.{TriedAs};
 
-use crate::check::{Checked, check};
+use crate::check::check;
 use crate::settle::settle;
 use loading::add::has_room;
+use signature::refusals::Refusal;
 
 // What an entry answers: the rule is in; a refusal; or a held rule's number, and the length of the booking that it shares.
 #[derive(Clone, Copy)]
 pub enum Entry {
     Entered,
-    Refused(u16),
+    Refused(Refusal),
     Shares(u16, usize),
 }
 
-// An entry in workspaces that may be too small: then nothing is written.
-#[derive(Clone, Copy)]
-pub enum Tried {
-    Done(Entry),
-    NoRoom,
-}
-
-// Refusals 1 to 3 do not apply; the rules' lists of rows stand first in rows.
+// Refusals 1 to 3 do not apply; the rules' lists of rows stand first in rows. None where the workspaces are too small: then nothing is written.
 pub fn enter_sound(
     t: &[u16],
     number: u16,
@@ -38,16 +32,16 @@ pub fn enter_sound(
     rows: &mut [u64],
     work: &mut [u64],
     witness: &mut [u16],
-) -> Tried
+) -> Option<Entry>
     requires { InForce t.now table.old used total rows.old × (witness_length ≤ length witness.old) × (set_words * row_limit ≤ length work.old) }
     ensures { (g : InForce t.now table.old used total rows.old) → TriedAs (TooSmall (length rows.old) (length work.old)) g.known.sig g.rs number plan pattern.now table.old witness.old result table.new witness.new }
 {
     if !has_room(pattern.len(), used, rows.len(), work.len()) {
-        return Tried::NoRoom;
+        return None;
     }
     match check(t, table, number, pattern, used, total, rows, work) {
-        Checked::Refused(q) => Tried::Done(Entry::Refused(q)),
-        Checked::Free(at) => Tried::Done(settle(
+        Err(r) => Some(Entry::Refused(r)),
+        Ok(at) => Some(settle(
             t, number, plan, pattern, at, used, table, rows, work, witness,
         )),
     }

@@ -6,7 +6,7 @@ ghost use Rattle.text.specs.Limits.{list_limit};
 ghost use Rattle.lines.specs.Lines.{rest_text};
 
 use lines::line;
-use lines::line::{CountLine, LIST_LIMIT, RuleLines};
+use lines::line::LIST_LIMIT;
 use numbers::bytes;
 
 pub const TEXT_LIMIT: usize = 32768;
@@ -18,21 +18,15 @@ fn rest_keeps(rest: &[u8], w: &mut [u16]) -> bool
 {
     let mut t = rest;
     while bytes::starts(t, b"rule=") {
-        let RuleLines::Is {
-            number: _,
-            plan: _,
-            count: _,
-            used: n,
-        } = line::rule_lines(t, w)
-        else {
+        let Some(rule) = line::rule_lines(t, w) else {
             return false;
         };
-        t = &t[n..];
+        t = &t[rule.used..];
     }
-    let CountLine::Is { count: _, used: n } = line::list_line(t, b"book=", w) else {
+    let Some(book) = line::list_line(t, b"book=", w) else {
         return false;
     };
-    n == t.len()
+    book.used == t.len()
 }
 
 pub fn keeps_format(text: &[u8]) -> bool
@@ -42,8 +36,8 @@ pub fn keeps_format(text: &[u8]) -> bool
         return false;
     }
     let mut w = [0u16; LIST_LIMIT];
-    let CountLine::Is { count: _, used: n } = line::list_line(text, b"sig=", &mut w) else {
+    let Some(sig) = line::list_line(text, b"sig=", &mut w) else {
         return false;
     };
-    rest_keeps(&text[n..], &mut w)
+    rest_keeps(&text[sig.used..], &mut w)
 }

@@ -4,6 +4,13 @@ use mathlib.Core.List.{List}
 use mathlib.Core.Option.{none, some}
 use mathlib.Core.Bool.{Bool, ◌&&◌}
 use Prim.Native.Nat.{ℕ}
+use native.Mathlib.Omega.{arith}
+use Rattle.std.specs.Prelude.{Option as CodeOption, None, Some, IsSome, Result}
+use Rattle.signature.specs.Refusal.{number_in}
+use Rattle.signature.specs.Signature.{Signature}
+use Rattle.signature.specs.declared.refusals.Refusal.{Refusal}
+use Rattle.builder.specs.Build.{row_room}
+use Rattle.loading.specs.Add.{TooSmall, rows_room}
 use Rattle.table.specs.Limits.{limits}
 use Rattle.table.specs.Calls.{Start, enter_start, on_sound, refused, long_table, long_witness}
 use Rattle.table.specs.Gap.{GapFrom, GapCall, ShowsGap}
@@ -14,23 +21,20 @@ use Rattle.opening.specs.Open.{BeginsAs}
 use Rattle.entering.specs.Enter.{GivenEnter}
 use Rattle.entering.proofs.Enters.{refused_start, given, starts}
 use Rattle.compiling.specs.Compile.{InTable}
-use Rattle.gap.specs.Answer.{GapsAs, TriedAs}
-use Rattle.gap.specs.declared.Shown.{Shown}
-use Rattle.gap.specs.declared.Tried.{Tried}
-use Rattle.gap.specs.declared.Tried.TheVariants.{Done, NoRoom}
+use Rattle.gap.specs.Answer.{GapsAs, TriedAs, length_in, shown}
 
 -- 3, or what is shown
 module _ {t table witness : List ℕ} (g : GivenEnter t table witness) where
   pub unsound : sound limits g.load.known.sig table ≡ none → GapsAs g.load.known.sig table witness 3 0 witness
   unsound e = subst (λ o. GapFrom (on_sound g.load.known.sig o) witness 3 0 witness) (sym e) (refl, refl, refl)
 
-  module _ (lists : List ℕ) (used total : ℕ) (d : (rs : List Rule) × (sound limits g.load.known.sig table ≡ some rs) × Ready g.load.known.sig rs used total lists) where
+  module _ (lists : List ℕ) (x : ℕ × ℕ) (d : (rs : List Rule) × (sound limits g.load.known.sig table ≡ some rs) × Ready g.load.known.sig rs x.0 x.1 lists) where
     pub in_table : InTable t table lists
-    in_table = record { used = used; total = total; force = record { known = g.load.known; rs = d.0; is_sound = d.1; ready = d.2 } }
+    in_table = record { used = x.0; total = x.1; force = record { known = g.load.known; rs = d.0; is_sound = d.1; ready = d.2 } }
 
-    pub told : (len : ℕ) (witness' : List ℕ) → ((q : InTable t table lists) → ShowsGap q.force.known.sig q.force.rs len witness witness') → GapsAs g.load.known.sig table witness 0 len witness'
+    pub told : (m : CodeOption ℕ) (witness' : List ℕ) → ((q : InTable t table lists) → ShowsGap q.force.known.sig q.force.rs (shown m) witness witness') → GapsAs g.load.known.sig table witness 0 (shown m) witness'
     unfolding in_table
-    told len witness' f = subst (λ o. GapFrom (on_sound g.load.known.sig o) witness 0 len witness') (sym d.1) (refl, f in_table)
+    told m witness' f = subst (λ o. GapFrom (on_sound g.load.known.sig o) witness 0 (shown m) witness') (sym d.1) (refl, f in_table)
 
 -- 1 and 2, then the answer with lists of one size or the other
 module _ (ss table witness : List ℕ) (long : Bool) (long_so : long ≡ (long_table limits table && long_witness witness)) (t : List ℕ) (k : ℕ) (begin_so : BeginsAs ss long k t) where
@@ -44,19 +48,24 @@ module _ (ss table witness : List ℕ) (long : Bool) (long_so : long ≡ (long_t
     abbrev pub here : GivenEnter t table witness
     here = given ss table witness long long_so t k begin_so e
 
-    answered : (s : Shown) (witness' : List ℕ) → GapsAs here.load.known.sig table witness s.number s.len witness' → GapCall limits ss table witness s.number s.len witness'
-    answered s witness' h = from (on_sound here.load.known.sig (sound limits here.load.known.sig table)) (starts ss table witness long long_so t k begin_so e) s.number s.len witness' h
+    answered : (number len : ℕ) (witness' : List ℕ) → GapsAs here.load.known.sig table witness number len witness' → GapCall limits ss table witness number len witness'
+    answered number len witness' h = from (on_sound here.load.known.sig (sound limits here.load.known.sig table)) (starts ss table witness long long_so t k begin_so e) number len witness' h
 
-    module _ (r : Tried) (witness₁ : List ℕ) (gave : (g : GivenEnter t table witness) → TriedAs g.load.known.sig table witness r witness₁) where
-      pub answered_small : (s : Shown) → r ≡ Done s → GapCall limits ss table witness s.number s.len witness₁
-      answered_small s x = answered s witness₁ (subst (λ z. TriedAs here.load.known.sig table witness z witness₁) x (gave here))
+    module _ (P : Type 0) (r : CodeOption (Result (CodeOption ℕ) Refusal)) (witness₁ : List ℕ) (gave : (g : GivenEnter t table witness) → TriedAs P g.load.known.sig table witness r witness₁) where
+      pub answered_first : (a : Result (CodeOption ℕ) Refusal) → r ≡ Some a → GapCall limits ss table witness (number_in a) (length_in a) witness₁
+      answered_first a x = answered (number_in a) (length_in a) witness₁ (subst (λ z. TriedAs P here.load.known.sig table witness z witness₁) x (gave here))
 
-      module _ (x : r ≡ NoRoom) where
+      module _ (x : r ≡ None) where
         same : witness₁ ≡ witness
-        same = subst (λ z. TriedAs here.load.known.sig table witness z witness₁) x (gave here)
+        same = (subst (λ z. TriedAs P here.load.known.sig table witness z witness₁) x (gave here)).1
 
         pub here_again : GivenEnter t table witness₁
         here_again = subst (λ z. GivenEnter t table z) (sym same) here
 
-        pub answered_large : (s : Shown) (witness' : List ℕ) → ((g : GivenEnter t table witness₁) → GapsAs g.load.known.sig table witness₁ s.number s.len witness') → GapCall limits ss table witness s.number s.len witness'
-        answered_large s witness' did = answered s witness' (subst (λ z. (g : GivenEnter t table z) → GapsAs g.load.known.sig table z s.number s.len witness') same did here)
+        pub answered_then : (Q : Type 0) (q : CodeOption (Result (CodeOption ℕ) Refusal)) (a : Result (CodeOption ℕ) Refusal) (witness' : List ℕ) → ((g : GivenEnter t table witness₁) → TriedAs Q g.load.known.sig table witness₁ q witness') → q ≡ Some a → GapCall limits ss table witness (number_in a) (length_in a) witness'
+        answered_then Q q a witness' did y = answered (number_in a) (length_in a) witness' (subst (λ z. TriedAs Q here.load.known.sig table witness z witness') y (subst (λ z. (g : GivenEnter t table z) → TriedAs Q g.load.known.sig table z q witness') same did here))
+
+-- the largest arrays are never too small
+pub always : (sig : Signature) (table witness : List ℕ) (r : CodeOption (Result (CodeOption ℕ) Refusal)) (witness' : List ℕ) → TriedAs (TooSmall rows_room row_room) sig table witness r witness' → IsSome r
+always sig table witness None witness' h = absurd (h.0 (omega arith) (omega arith))
+always sig table witness (Some a) witness' h = refl

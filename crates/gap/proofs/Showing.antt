@@ -2,9 +2,10 @@
 use mathlib.Core.Path.{◌≡◌, refl, ap, sym, ◌∙◌}
 use mathlib.Core.List.{List, ◌++◌}
 use mathlib.Core.Option.{some}
-use Prim.Native.Nat.{ℕ, zero, suc, ◌*◌, ◌≤◌, ◌<◌}
+use Prim.Native.Nat.{ℕ, ◌*◌, ◌≤◌, ◌<◌}
 use native.Mathlib.Omega.{arith}
 use lib.ListN.{length, take, drop, get_elem?, length-map}
+use Rattle.std.specs.Prelude.{Option as CodeOption, None, Some}
 use Rattle.signature.specs.Lawful.{LawfulBooking}
 use Rattle.signature.specs.Limits.{booking_limit}
 use Rattle.signature.specs.Signature.{Signature}
@@ -52,14 +53,13 @@ module _ {t table lists : List ℕ} (g : InTable t table lists) where
       placed = placed;
     }
 
-    pub searched : (m : ℕ) (o : List ℕ) → ((q : GivenTable t lists tab n) → Searched q.known.sig q.rs m o) → Searched g.force.known.sig (rows_in g.force.known.sig g.force.rs) m o
+    pub searched : (res : CodeOption ℕ) (o : List ℕ) → ((q : GivenTable t lists tab n) → Searched q.known.sig q.rs res o) → Searched g.force.known.sig (rows_in g.force.known.sig g.force.rs) res o
     unfolding given_table
-    searched m o search_so = search_so given_table
+    searched res o search_so = search_so given_table
 
 -- a value within the limits of a booking
-pub short : {sig : Signature} {rs : List Row} {m : ℕ} {o : List ℕ} → Searched sig rs m o → m ≤ booking_limit
-short {m = zero} s = omega arith
-short {m = suc k} s = let (v, h, l, c) = s.one_there (omega arith) in omega (arith, l, h.few)
+pub short : {sig : Signature} {rs : List Row} {res : CodeOption ℕ} {o : List ℕ} → Searched sig rs res o → (m : ℕ) → res ≡ Some m → m ≤ booking_limit
+short s m e = let (v, h, l, c) = s.one_there m e in omega (arith, l, h.few)
 
 lawful : {sig : Signature} {rs : List Row} (v : Value) → Missed sig rs v → LawfulBooking sig (code v) v
 lawful v h = record { kind_0 = h.kinded; is_code = refl; some_words = omega (arith, length_code v, some_size v); at_most = omega (arith, length_code v, h.few); deep = h.deep }
@@ -69,10 +69,14 @@ module _ {t table lists : List ℕ} (g : InTable t table lists) where
   missed p = record { kinded = p.lawful.kind_0; few = omega (arith, length_code p.value, ap length p.lawful.is_code, p.lawful.at_most); deep = p.lawful.deep; taken_by_none = taken_by_none g.force.known.sig g.force.rs (held g).passed p.booking p.value p.lawful p.failed }
 
   -- the words are copied into the witness buffer
-  pub shows : (m : ℕ) (o witness ws : List ℕ) → Searched g.force.known.sig (rows_in g.force.known.sig g.force.rs) m o → ws ≡ take m o → ShowsGap g.force.known.sig g.force.rs m witness (ws ++ drop m witness)
-  shows m o witness ws s w = record {
-    none_there = λ e. (λ p. s.none_there e p.value (missed p), ap (λ z. z ++ drop m witness) w ∙ ap (λ k. take k o ++ drop k witness) e);
+  pub shows : (res : CodeOption ℕ) (m : ℕ) (o witness ws : List ℕ) → Searched g.force.known.sig (rows_in g.force.known.sig g.force.rs) res o → res ≡ Some m → ws ≡ take m o → ShowsGap g.force.known.sig g.force.rs m witness (ws ++ drop m witness)
+  shows res m o witness ws s f w = record {
+    none_there = λ e. let (v, h, k, c) = s.one_there m f in absurd (omega (arith, e, k, some_size v));
     one_there = λ l.
-        let (v, h, k, c) = s.one_there l in
+        let (v, h, k, c) = s.one_there m f in
         (record { booking = code v; value = v; lawful = lawful v h; failed = fails_all g.force.known.sig g.force.rs (held g).passed (code v) v (lawful v h) h.taken_by_none }, k ∙ sym (length_code v), ap (λ z. z ++ drop m witness) (w ∙ c));
   }
+
+  -- nothing is found, and nothing is written
+  pub shows_none : (res : CodeOption ℕ) (o witness : List ℕ) → Searched g.force.known.sig (rows_in g.force.known.sig g.force.rs) res o → res ≡ None → ShowsGap g.force.known.sig g.force.rs 0 witness witness
+  shows_none res o witness s e = record { none_there = λ z. (λ p. s.none_there e p.value (missed p), refl); one_there = λ l. absurd (omega (arith, l)) }

@@ -15,12 +15,10 @@ fn index_rows(t: &[u16], table: &[u16], lists: &[u64], rows: &mut [u16]) -> usiz
     let mut at = RULES_AT;
     let mut from = 0;
     let mut r = 0;
-    let mut i = 0;
-    while i < n {
+    for _i in 0..n {
         r = index_list(t, lists, from + 1, table[at], table[at + PLAN], r, rows);
         from = from + 1 + lists[from] as usize;
         at = at + RULE_HEAD + table[at + LENGTH] as usize;
-        i += 1;
     }
     r
 }

@@ -15,6 +15,7 @@ use Rattle.signature.proofs.Tests.{eqb_eq, eqb_ne}
 use Rattle.pattern.specs.Limits.{variable_count}
 use Rattle.tree.specs.Tree.{default, hit}
 use Rattle.tree.specs.Words.{pairs}
+use Rattle.std.specs.Prelude.{Some, None}
 use Rattle.leaf.specs.Leaf.{Paired, all_pairs, pairs_from, cell_pair, cell_pairs, Pairing, Used, NextVariable}
 use Rattle.cell.specs.Cursor.{cell_at}
 use Rattle.cell.specs.declared.cell.Cell.{Cell}
@@ -37,50 +38,54 @@ module _ (a rows vis : List ℕ) (r q rule plan : ℕ) where
   pub leaf_short : (o : List ℕ) → length o < 4 → Wrote (hit rule plan (bound a rows vis r q)) 0 (length o + 1) o o
   leaf_short o l = record { much = omega arith; wrote = λ h. absurd (omega arith) }
 
-  module _ (n : ℕ) (o ys : List ℕ) (l : 4 ≤ length o) (w : Paired (all_pairs a rows vis r q) 0 n (take (length o - 4) (drop 4 o)) ys) where
+  module _ (o ys : List ℕ) (l : 4 ≤ length o) where
     tail_long : length (take (length o - 4) (drop 4 o)) ≡ length o - 4
     tail_long = length-take-le (length o - 4) (drop 4 o) (simp length-drop (omega arith))
 
-    pub leaf_most : n ≤ length o
-    leaf_most = omega (arith, w.much, tail_long)
+    pub leaf_full : (m : ℕ) (o' : List ℕ) → m ≡ length o → Paired (all_pairs a rows vis r q) 0 None (take (length o - 4) (drop 4 o)) ys → Wrote (hit rule plan (bound a rows vis r q)) 0 (m + 1) o o'
+    leaf_full m o' e w = let s = w.short refl in record { much = omega (arith, s, tail_long, rising); wrote = λ i. absurd (omega (arith, s, tail_long, rising)) }
 
-    pub leaf_full : (m : ℕ) (o' : List ℕ) → m ≡ length o → length o - 4 < n → Wrote (hit rule plan (bound a rows vis r q)) 0 (m + 1) o o'
-    leaf_full m o' e h = record { much = omega (arith, w.much, tail_long, rising); wrote = λ i. absurd (omega (arith, w.much, tail_long, rising)) }
+    module _ (n : ℕ) (w : Paired (all_pairs a rows vis r q) 0 (Some n) (take (length o - 4) (drop 4 o)) ys) where
+      much : (n ≡ 2 * length (all_pairs a rows vis r q)) × (n ≤ length o - 4)
+      much = let z = w.ends n refl in (omega (arith, z.0), omega (arith, z.1, tail_long))
 
-    pub leaf_wrote : (u v : ℕ) → u ≡ rule → v ≡ plan → n ≤ length o - 4 → Wrote (hit rule plan (bound a rows vis r q)) 0 (n + 4) o (set (set (set (set (take 4 o ++ (ys ++ drop (length o - 4) (drop 4 o))) 0 1) 1 u) 2 v) 3 (n / 2))
-    leaf_wrote u v d f h = rw (d, f) (record {
-      much = omega (arith, w.much, tail_long, rising);
-      wrote = λ i. go o l tail;
-    })
-      where
-        many : n ≡ 2 * length (all_pairs a rows vis r q)
-        many = omega (arith, w.much, tail_long)
+      pub leaf_most : n ≤ length o
+      leaf_most = omega (arith, much)
 
-        end : drop (length o - 4) (drop 4 o) ≡ []
-        end = drop_of_length-le (drop 4 o) {i = length o - 4} (simp length-drop (omega arith))
+      pub leaf_wrote : (u v : ℕ) → u ≡ rule → v ≡ plan → Wrote (hit rule plan (bound a rows vis r q)) 0 (n + 4) o (set (set (set (set (take 4 o ++ (ys ++ drop (length o - 4) (drop 4 o))) 0 1) 1 u) 2 v) 3 (n / 2))
+      leaf_wrote u v d f = rw (d, f) (record {
+        much = omega (arith, much, rising);
+        wrote = λ i. go o l tail;
+      })
+        where
+          many : n ≡ 2 * length (all_pairs a rows vis r q)
+          many = much.0
 
-        whole : take (length o - 4) (drop 4 o) ≡ drop 4 o
-        whole = take_all (length o - 4) (drop 4 o) (simp length-drop (omega arith))
+          end : drop (length o - 4) (drop 4 o) ≡ []
+          end = drop_of_length-le (drop 4 o) {i = length o - 4} (simp length-drop (omega arith))
 
-        tail : ys ++ drop (length o - 4) (drop 4 o) ≡ pairs (bound a rows vis r q) ++ drop n (drop 4 o)
-        tail =
-            ap (λ (z : List ℕ). ys ++ z) end
-            ∙ append-nil ys
-            ∙ w.wrote (omega (arith, many, tail_long))
-            ∙ (rw (whole, bound_rising a rows vis r q, ← many, zero-add n))
+          whole : take (length o - 4) (drop 4 o) ≡ drop 4 o
+          whole = take_all (length o - 4) (drop 4 o) (simp length-drop (omega arith))
 
-        half : n / 2 ≡ length (bound a rows vis r q)
-        half = omega (arith, many, rising)
+          tail : ys ++ drop (length o - 4) (drop 4 o) ≡ pairs (bound a rows vis r q) ++ drop n (drop 4 o)
+          tail =
+              ap (λ (z : List ℕ). ys ++ z) end
+              ∙ append-nil ys
+              ∙ w.wrote (omega (arith, much, tail_long))
+              ∙ (rw (whole, bound_rising a rows vis r q, ← many, zero-add n))
 
-        go : (o : List ℕ) → 4 ≤ length o → ys ++ drop (length o - 4) (drop 4 o) ≡ pairs (bound a rows vis r q) ++ drop n (drop 4 o)
-            → set (set (set (set (take 4 o ++ (ys ++ drop (length o - 4) (drop 4 o))) 0 1) 1 rule) 2 plan) 3 (n / 2) ≡ 1 ∷ (rule ∷ (plan ∷ (length (bound a rows vis r q) ∷ (pairs (bound a rows vis r q) ++ drop (4 + 2 * length (bound a rows vis r q)) o))))
-        go [] k e = absurd (omega arith)
-        go (x ∷ []) k e = absurd (omega arith)
-        go (x ∷ (y ∷ [])) k e = absurd (omega arith)
-        go (x ∷ (y ∷ (z ∷ []))) k e = absurd (omega arith)
-        go (x ∷ (y ∷ (z ∷ (u ∷ o)))) k e =
-            let d : 2 * length (bound a rows vis r q) ≡ n = omega (arith, many, rising) in
-            rw (e, half, d) (ap (λ (l : List ℕ). 1 ∷ (rule ∷ (plan ∷ (length (bound a rows vis r q) ∷ (pairs (bound a rows vis r q) ++ l))))) (drop-drop n 4 (x ∷ (y ∷ (z ∷ (u ∷ o))))))
+          half : n / 2 ≡ length (bound a rows vis r q)
+          half = omega (arith, many, rising)
+
+          go : (o : List ℕ) → 4 ≤ length o → ys ++ drop (length o - 4) (drop 4 o) ≡ pairs (bound a rows vis r q) ++ drop n (drop 4 o)
+              → set (set (set (set (take 4 o ++ (ys ++ drop (length o - 4) (drop 4 o))) 0 1) 1 rule) 2 plan) 3 (n / 2) ≡ 1 ∷ (rule ∷ (plan ∷ (length (bound a rows vis r q) ∷ (pairs (bound a rows vis r q) ++ drop (4 + 2 * length (bound a rows vis r q)) o))))
+          go [] k e = absurd (omega arith)
+          go (x ∷ []) k e = absurd (omega arith)
+          go (x ∷ (y ∷ [])) k e = absurd (omega arith)
+          go (x ∷ (y ∷ (z ∷ []))) k e = absurd (omega arith)
+          go (x ∷ (y ∷ (z ∷ (u ∷ o)))) k e =
+              let d : 2 * length (bound a rows vis r q) ≡ n = omega (arith, many, rising) in
+              rw (e, half, d) (ap (λ (l : List ℕ). 1 ∷ (rule ∷ (plan ∷ (length (bound a rows vis r q) ∷ (pairs (bound a rows vis r q) ++ l))))) (drop-drop n 4 (x ∷ (y ∷ (z ∷ (u ∷ o))))))
 
 -- the loops over the cells and over the variables
 
@@ -91,13 +96,13 @@ module _ (a rows vis : List ℕ) (r x p : ℕ) where
   cells_end : p ≤ 0 → cell_pairs a rows vis r x p ≡ []
   cells_end l = let e : p ≡ 0 = omega arith in ap (cell_pairs a rows vis r x) e
 
-  pub cell_more : (bs : List (ℕ × ℕ)) (at to u : ℕ) (o₀ o o' : List ℕ) → 0 < p → Sofar bs (cell_pairs a rows vis r x p) at to o₀ o → Paired (cell_pair a rows vis r x (p - 1)) to u o o' → u ≤ length o' → length o' ≡ length o → Sofar bs (cell_pairs a rows vis r x (p - 1)) at u o₀ o'
-  cell_more bs at to u o₀ o o' l s w h e = sofar_more bs (cell_pair a rows vis r x (p - 1)) (cell_pairs a rows vis r x (p - 1)) at to u o₀ o o' (subst (λ (cs : List (ℕ × ℕ)). Sofar bs cs at to o₀ o) (cells_next l) s) w h e
+  pub cell_more : (bs : List (ℕ × ℕ)) (at to u : ℕ) (o₀ o o' : List ℕ) → 0 < p → Sofar bs (cell_pairs a rows vis r x p) at to o₀ o → Paired (cell_pair a rows vis r x (p - 1)) to (Some u) o o' → length o' ≡ length o → Sofar bs (cell_pairs a rows vis r x (p - 1)) at u o₀ o'
+  cell_more bs at to u o₀ o o' l s w e = sofar_more bs (cell_pair a rows vis r x (p - 1)) (cell_pairs a rows vis r x (p - 1)) at to u o₀ o o' (subst (λ (cs : List (ℕ × ℕ)). Sofar bs cs at to o₀ o) (cells_next l) s) w e
 
-  pub cell_full : (bs : List (ℕ × ℕ)) (at to u : ℕ) (o₀ o o' o'' : List ℕ) → 0 < p → Sofar bs (cell_pairs a rows vis r x p) at to o₀ o → Paired (cell_pair a rows vis r x (p - 1)) to u o o' → length o < u → Paired bs at u o₀ o''
-  cell_full bs at to u o₀ o o' o'' l s w h = sofar_full bs (cell_pair a rows vis r x (p - 1)) (cell_pairs a rows vis r x (p - 1)) at to u o₀ o o' o'' (subst (λ (cs : List (ℕ × ℕ)). Sofar bs cs at to o₀ o) (cells_next l) s) w h
+  pub cell_full : (bs : List (ℕ × ℕ)) (at to : ℕ) (o₀ o o' o'' : List ℕ) → 0 < p → Sofar bs (cell_pairs a rows vis r x p) at to o₀ o → Paired (cell_pair a rows vis r x (p - 1)) to None o o' → Paired bs at None o₀ o''
+  cell_full bs at to o₀ o o' o'' l s w = sofar_full bs (cell_pair a rows vis r x (p - 1)) (cell_pairs a rows vis r x (p - 1)) at to o₀ o o' o'' (subst (λ (cs : List (ℕ × ℕ)). Sofar bs cs at to o₀ o) (cells_next l) s) w
 
-  pub cell_end : (bs : List (ℕ × ℕ)) (at to : ℕ) (o₀ o : List ℕ) → p ≤ 0 → Sofar bs (cell_pairs a rows vis r x p) at to o₀ o → Paired bs at to o₀ o
+  pub cell_end : (bs : List (ℕ × ℕ)) (at to : ℕ) (o₀ o : List ℕ) → p ≤ 0 → Sofar bs (cell_pairs a rows vis r x p) at to o₀ o → Paired bs at (Some to) o₀ o
   cell_end bs at to o₀ o l s = sofar_end bs at to o₀ o (subst (λ (cs : List (ℕ × ℕ)). Sofar bs cs at to o₀ o) (cells_end l) s)
 
 module _ (a rows vis : List ℕ) (r q x : ℕ) where
@@ -114,13 +119,13 @@ module _ (a rows vis : List ℕ) (r q x : ℕ) where
   later_end : variable_count ≤ x → later x ≡ []
   later_end l = let e : variable_count - x ≡ 0 = omega arith in rw e
 
-  pub variable_more : (bs : List (ℕ × ℕ)) (to u : ℕ) (o₀ o o' : List ℕ) → x < variable_count → Sofar bs (later x) 0 to o₀ o → Paired (cell_pairs a rows vis r x q) to u o o' → u ≤ length o' → length o' ≡ length o → Sofar bs (later (x + 1)) 0 u o₀ o'
-  variable_more bs to u o₀ o o' l s w h e = sofar_more bs (cell_pairs a rows vis r x q) (later (x + 1)) 0 to u o₀ o o' (subst (λ (cs : List (ℕ × ℕ)). Sofar bs cs 0 to o₀ o) (later_next l) s) w h e
+  pub variable_more : (bs : List (ℕ × ℕ)) (to u : ℕ) (o₀ o o' : List ℕ) → x < variable_count → Sofar bs (later x) 0 to o₀ o → Paired (cell_pairs a rows vis r x q) to (Some u) o o' → length o' ≡ length o → Sofar bs (later (x + 1)) 0 u o₀ o'
+  variable_more bs to u o₀ o o' l s w e = sofar_more bs (cell_pairs a rows vis r x q) (later (x + 1)) 0 to u o₀ o o' (subst (λ (cs : List (ℕ × ℕ)). Sofar bs cs 0 to o₀ o) (later_next l) s) w e
 
-  pub variable_full : (bs : List (ℕ × ℕ)) (to u : ℕ) (o₀ o o' o'' : List ℕ) → x < variable_count → Sofar bs (later x) 0 to o₀ o → Paired (cell_pairs a rows vis r x q) to u o o' → length o < u → Paired bs 0 u o₀ o''
-  variable_full bs to u o₀ o o' o'' l s w h = sofar_full bs (cell_pairs a rows vis r x q) (later (x + 1)) 0 to u o₀ o o' o'' (subst (λ (cs : List (ℕ × ℕ)). Sofar bs cs 0 to o₀ o) (later_next l) s) w h
+  pub variable_full : (bs : List (ℕ × ℕ)) (to : ℕ) (o₀ o o' o'' : List ℕ) → x < variable_count → Sofar bs (later x) 0 to o₀ o → Paired (cell_pairs a rows vis r x q) to None o o' → Paired bs 0 None o₀ o''
+  variable_full bs to o₀ o o' o'' l s w = sofar_full bs (cell_pairs a rows vis r x q) (later (x + 1)) 0 to o₀ o o' o'' (subst (λ (cs : List (ℕ × ℕ)). Sofar bs cs 0 to o₀ o) (later_next l) s) w
 
-  pub variable_end : (bs : List (ℕ × ℕ)) (to : ℕ) (o₀ o : List ℕ) → variable_count ≤ x → Sofar bs (later x) 0 to o₀ o → Paired bs 0 to o₀ o
+  pub variable_end : (bs : List (ℕ × ℕ)) (to : ℕ) (o₀ o : List ℕ) → variable_count ≤ x → Sofar bs (later x) 0 to o₀ o → Paired bs 0 (Some to) o₀ o
   variable_end bs to o₀ o l s = sofar_end bs 0 to o₀ o (subst (λ (cs : List (ℕ × ℕ)). Sofar bs cs 0 to o₀ o) (later_end l) s)
 
 -- variables that no cell binds

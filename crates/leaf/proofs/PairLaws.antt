@@ -2,7 +2,7 @@
 use mathlib.Core.Path.{◌≡◌, refl, sym, ap, ap₂, ◌∙◌}
 use mathlib.Core.List.{List, [], ◌∷◌, ◌++◌, append_assoc, append-nil}
 use mathlib.Core.Bool.{Bool, true, false, cond}
-use Prim.Native.Nat.{ℕ, zero, suc, ◌+◌, ◌-◌, ◌*◌, ◌≤◌, ◌<◌}
+use Prim.Native.Nat.{ℕ, zero, suc, ◌+◌, ◌*◌, ◌≤◌, ◌<◌}
 use native.Mathlib.Nat.{add-zero}
 use native.Mathlib.Omega.{arith}
 use lib.Dec.{eqb}
@@ -13,6 +13,7 @@ use Rattle.signature.proofs.Tests.{leb_yes, leb_no}
 use Rattle.pattern.specs.Limits.{variable_count}
 use Rattle.tree.specs.Tree.{insert, inserts}
 use Rattle.tree.specs.Words.{pairs}
+use Rattle.std.specs.Prelude.{Some, None}
 use Rattle.leaf.specs.Leaf.{cell_pair, cell_pairs, pairs_from, all_pairs, Paired}
 use Rattle.cell.specs.Cursor.{cell_at}
 use Rattle.cell.specs.declared.cell.Cell.{Cell}
@@ -99,8 +100,8 @@ pub pairs_length : (bs : List (ℕ × ℕ)) → length (pairs bs) ≡ 2 * length
 pairs_length [] = refl
 pairs_length (b ∷ bs) = omega (arith, pairs_length bs)
 
-pub paired_none : (at : ℕ) (o : List ℕ) → at ≤ length o → Paired [] at at o o
-paired_none at o l = record { much = omega arith; wrote = λ h. rw (add-zero at) (sym (take-append-drop at o)) }
+pub paired_none : (at : ℕ) (o : List ℕ) → at ≤ length o → Paired [] at (Some at) o o
+paired_none at o l = record { short = λ e. absurd cc; ends = λ u e. (let z : at ≡ u = cc in omega arith, let z : at ≡ u = cc in omega arith); wrote = λ h. rw (add-zero at) (sym (take-append-drop at o)) }
 
 two_set : (at x v : ℕ) (o : List ℕ) → at + 2 ≤ length o → set (set o at x) (at + 1) v ≡ take at o ++ (x ∷ (v ∷ drop (at + 2) o))
 two_set zero x v [] l = absurd (omega arith)
@@ -112,11 +113,11 @@ two_set (suc at) x v (y ∷ o) l =
     let q : suc at + 2 ≡ suc (at + 2) = omega arith in
     rw (p, q) (ap (λ (l : List ℕ). y ∷ l) (two_set at x v o (omega arith)))
 
-paired_one : (x v at : ℕ) (o : List ℕ) → at + 2 ≤ length o → Paired ((x, v) ∷ []) at (at + 2) o (set (set o at x) (at + 1) v)
-paired_one x v at o l = record { much = omega arith; wrote = λ h. two_set at x v o l }
+paired_one : (x v at : ℕ) (o : List ℕ) → at + 2 ≤ length o → Paired ((x, v) ∷ []) at (Some (at + 2)) o (set (set o at x) (at + 1) v)
+paired_one x v at o l = record { short = λ e. absurd cc; ends = λ u e. (let z : at + 2 ≡ u = cc in omega arith, let z : at + 2 ≡ u = cc in omega arith); wrote = λ h. two_set at x v o l }
 
-paired_full : (x v at : ℕ) (o : List ℕ) → length o < at + 2 → Paired ((x, v) ∷ []) at (length o + 1) o o
-paired_full x v at o l = record { much = omega arith; wrote = λ h. absurd (omega arith) }
+paired_full : (x v at : ℕ) (o : List ℕ) → length o < at + 2 → Paired ((x, v) ∷ []) at None o o
+paired_full x v at o l = record { short = λ e. l; ends = λ u e. absurd cc; wrote = λ h. absurd (omega arith) }
 
 module _ (a rows vis : List ℕ) (r x p : ℕ) (c : Cell) (e : c ≡ cell_at a (cell_of rows r p)) (at : ℕ) (o : List ℕ) where
   abbrev bit_of : Bool
@@ -125,13 +126,13 @@ module _ (a rows vis : List ℕ) (r x p : ℕ) (c : Cell) (e : c ≡ cell_at a (
   same : bit_of ≡ eqb (bit (vars_of a (cell_of rows r p)) x) 1
   same = ap (λ (y : Cell). eqb (bit y.vars x) 1) e
 
-  pub pair_wrote : bit_of ≡ true → at + 2 ≤ length o → Paired (cell_pair a rows vis r x p) at (at + 2) o (set (set o at x) (at + 1) (visit_of vis r p))
+  pub pair_wrote : bit_of ≡ true → at + 2 ≤ length o → Paired (cell_pair a rows vis r x p) at (Some (at + 2)) o (set (set o at x) (at + 1) (visit_of vis r p))
   pair_wrote b l = rw (sym same ∙ b) (paired_one x (visit_of vis r p) at o l)
 
-  pub pair_full : bit_of ≡ true → length o < at + 2 → Paired (cell_pair a rows vis r x p) at (length o + 1) o o
+  pub pair_full : bit_of ≡ true → length o < at + 2 → Paired (cell_pair a rows vis r x p) at None o o
   pair_full b l = rw (sym same ∙ b) (paired_full x (visit_of vis r p) at o l)
 
-  pub pair_none : bit_of ≡ false → at ≤ length o → Paired (cell_pair a rows vis r x p) at at o o
+  pub pair_none : bit_of ≡ false → at ≤ length o → Paired (cell_pair a rows vis r x p) at (Some at) o o
   pair_none b l = rw (sym same ∙ b) (paired_none at o l)
 
 -- pairs are written, others are still to come
@@ -146,9 +147,10 @@ pub record Sofar (bs rest : List (ℕ × ℕ)) (at to : ℕ) (o₀ o : List ℕ)
 pub sofar_start : (bs : List (ℕ × ℕ)) (at : ℕ) (o : List ℕ) → at ≤ length o → Sofar bs bs at at o o
 sofar_start bs at o l = record { done = []; split = refl; to_is = omega arith; fits = l; len = refl; list = sym (take-append-drop at o) }
 
-pub sofar_more : (bs cs rest : List (ℕ × ℕ)) (at to u : ℕ) (o₀ o o' : List ℕ) → Sofar bs (cs ++ rest) at to o₀ o → Paired cs to u o o' → u ≤ length o' → length o' ≡ length o → Sofar bs rest at u o₀ o'
-sofar_more bs cs rest at to u o₀ o o' s w h e =
-    let i : u ≡ to + 2 * length cs = omega (arith, w.much) in
+pub sofar_more : (bs cs rest : List (ℕ × ℕ)) (at to u : ℕ) (o₀ o o' : List ℕ) → Sofar bs (cs ++ rest) at to o₀ o → Paired cs to (Some u) o o' → length o' ≡ length o → Sofar bs rest at u o₀ o'
+sofar_more bs cs rest at to u o₀ o o' s w e =
+    let i : u ≡ to + 2 * length cs = (w.ends u refl).0 in
+    let room : u ≤ length o = (w.ends u refl).1 in
     let front : List ℕ = take at o₀ ++ pairs s.done in
     let long : length front ≡ to = simp length-append (omega (arith, length-take-le at o₀ (omega (arith, s.to_is, s.fits, s.len)), pairs_length s.done, s.to_is)) in
     let whole : o ≡ front ++ drop to o₀ = s.list ∙ sym (append_assoc (take at o₀) (pairs s.done) (drop to o₀)) in
@@ -158,21 +160,23 @@ sofar_more bs cs rest at to u o₀ o o' s w h e =
       done = s.done ++ cs;
       split = s.split ∙ sym (append_assoc s.done cs rest);
       to_is = simp length-append (omega (arith, s.to_is, i));
-      fits = h;
+      fits = omega (arith, room, e);
       len = e ∙ s.len;
-      list = w.wrote (omega (arith, i, e)) ∙ (rw (fr, tl, pairs_append s.done cs) (simp append_assoc));
+      list = w.wrote (omega (arith, i, room)) ∙ (rw (fr, tl, pairs_append s.done cs) (simp append_assoc));
     }
 
-pub sofar_full : (bs cs rest : List (ℕ × ℕ)) (at to u : ℕ) (o₀ o o' o'' : List ℕ) → Sofar bs (cs ++ rest) at to o₀ o → Paired cs to u o o' → length o < u → Paired bs at u o₀ o''
-sofar_full bs cs rest at to u o₀ o o' o'' s w h =
+pub sofar_full : (bs cs rest : List (ℕ × ℕ)) (at to : ℕ) (o₀ o o' o'' : List ℕ) → Sofar bs (cs ++ rest) at to o₀ o → Paired cs to None o o' → Paired bs at None o₀ o''
+sofar_full bs cs rest at to o₀ o o' o'' s w =
     let n : length bs ≡ length s.done + (length cs + length rest) = ap length s.split ∙ (simp length-append) in
-    record { much = omega (arith, w.much, s.to_is, s.len, n); wrote = λ l. absurd (omega (arith, w.much, s.to_is, s.len, n)) }
+    let m : length o < to + 2 * length cs = w.short refl in
+    record { short = λ e. omega (arith, m, s.to_is, s.len, n); ends = λ u e. absurd cc; wrote = λ l. absurd (omega (arith, m, s.to_is, s.len, n)) }
 
-pub sofar_end : (bs : List (ℕ × ℕ)) (at to : ℕ) (o₀ o : List ℕ) → Sofar bs [] at to o₀ o → Paired bs at to o₀ o
+pub sofar_end : (bs : List (ℕ × ℕ)) (at to : ℕ) (o₀ o : List ℕ) → Sofar bs [] at to o₀ o → Paired bs at (Some to) o₀ o
 sofar_end bs at to o₀ o s =
     let e : bs ≡ s.done = s.split ∙ append-nil s.done in
     let n : length bs ≡ length s.done = ap length e in
     record {
-      much = omega (arith, s.to_is, s.fits, s.len, n);
+      short = λ e. absurd cc;
+      ends = λ u e. (let z : to ≡ u = cc in omega (arith, s.to_is, n), let z : to ≡ u = cc in omega (arith, s.fits, s.len));
       wrote = λ l. s.list ∙ ap₂ (λ (cs : List (ℕ × ℕ)) (m : ℕ). take at o₀ ++ (pairs cs ++ drop m o₀)) (sym e) (let q : to ≡ at + 2 * length bs = omega (arith, s.to_is, n) in q);
     }

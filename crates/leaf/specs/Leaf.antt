@@ -1,5 +1,5 @@
 -- A leaf, and its pairs, variables rising.
-use Rattle.std.specs.Prelude.{◌≡◌, List, [], ◌∷◌, ◌++◌, cond, ℕ, zero, suc, ◌+◌, ◌*◌, ◌≤◌, ◌<◌, min, eqb, length, get_or, take, drop}
+use Rattle.std.specs.Prelude.{◌≡◌, List, [], ◌∷◌, ◌++◌, cond, ℕ, zero, suc, ◌+◌, ◌*◌, ◌≤◌, ◌<◌, eqb, length, get_or, take, drop, Option, Some, None}
 use Rattle.sets.specs.Set.{bit}
 use Rattle.pattern.specs.Limits.{pattern_limit, variable_count}
 use Rattle.tree.specs.Tree.{Tree, hit}
@@ -44,8 +44,9 @@ pub record Pairing (a rows vis : List ℕ) (r q : ℕ) : Type 0 where
   pub cells : cell_of rows r q ≤ length a
 
 -- pairs written from a word on: where they end, or that there is no room
-pub record Paired (bs : List (ℕ × ℕ)) (at res : ℕ) (o o' : List ℕ) : Type 0 where
-  pub much : res ≡ min (at + 2 * length bs) (suc (length o))
+pub record Paired (bs : List (ℕ × ℕ)) (at : ℕ) (res : Option ℕ) (o o' : List ℕ) : Type 0 where
+  pub short : res ≡ None → length o < at + 2 * length bs
+  pub ends : (u : ℕ) → res ≡ Some u → (u ≡ at + 2 * length bs) × (u ≤ length o)
   pub wrote : at + 2 * length bs ≤ length o → o' ≡ take at o ++ (pairs bs ++ drop (at + 2 * length bs) o)
 
 -- what a leaf is given

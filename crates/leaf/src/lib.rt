@@ -32,7 +32,7 @@ fn plan_of(rows: &[u16], r: usize) -> u16
     rows[ROW * r + 3]
 }
 
-// The pair of variable x in cell p of row r, where the cell binds it, from a word on: where it ends, or one more than there is room.
+// The pair of variable x in cell p of row r, where the cell binds it, from a word on: where it ends, None where there is no room.
 fn one_pair(
     a: &[u64],
     rows: &[u16],
@@ -42,20 +42,20 @@ fn one_pair(
     x: u16,
     at: usize,
     out: &mut [u16],
-) -> usize
+) -> Option<usize>
     requires { Pairing a.now rows.now vis.now r (p + 1) × (x < set_limit) × (at ≤ length out.old) }
     ensures { Paired (cell_pair a.now rows.now vis.now r x p) at result out.old out.new }
 {
     let c = cell_of(a, rows, r, p);
     if has_bit(c.vars, x as u32) {
         if out.len() - at < 2 {
-            return out.len() + 1;
+            return None;
         }
         out[at] = x;
         out[at + 1] = vis[PATTERN_WORDS * r + p];
-        return at + 2;
+        return Some(at + 2);
     }
-    at
+    Some(at)
 }
 
 // The pairs of variable x in the cells of row r before q.
@@ -68,21 +68,15 @@ fn variable_pairs(
     x: u16,
     at: usize,
     out: &mut [u16],
-) -> usize
+) -> Option<usize>
     requires { Pairing a.now rows.now vis.now r q × (x < set_limit) × (at ≤ length out.old) }
     ensures { Paired (cell_pairs a.now rows.now vis.now r x q) at result out.old out.new }
 {
-    let mut p = q;
     let mut to = at;
-    while p > 0 {
-        p -= 1;
-        let u = one_pair(a, rows, vis, r, p, x, to, out);
-        if u > out.len() {
-            return u;
-        }
-        to = u;
+    for p in (0..q).rev() {
+        to = one_pair(a, rows, vis, r, p, x, to, out)?;
     }
-    to
+    Some(to)
 }
 
 // The variables that some cell of row r before q binds.
@@ -91,11 +85,9 @@ fn used(a: &[u64], rows: &[u16], r: usize, q: usize) -> u64
     ensures { Used a.now rows.now r q result }
 {
     let mut u = 0;
-    let mut p = 0;
-    while p < q {
+    for p in 0..q {
         let c = cell_of(a, rows, r, p);
         u = join(u, c.vars);
-        p += 1;
     }
     u
 }
@@ -117,7 +109,7 @@ fn next_variable(bound: u64, x: u16) -> u16
 }
 
 // The pairs of all variables, rising.
-fn pairs(a: &[u64], rows: &[u16], vis: &[u16], r: usize, q: usize, out: &mut [u16]) -> usize
+fn pairs(a: &[u64], rows: &[u16], vis: &[u16], r: usize, q: usize, out: &mut [u16]) -> Option<usize>
     requires { Pairing a.now rows.now vis.now r q }
     ensures { Paired (all_pairs a.now rows.now vis.now r q) 0 result out.old out.new }
 {
@@ -125,14 +117,10 @@ fn pairs(a: &[u64], rows: &[u16], vis: &[u16], r: usize, q: usize, out: &mut [u1
     let mut x = next_variable(bound, 0);
     let mut to = 0;
     while x < VARIABLE_COUNT {
-        let u = variable_pairs(a, rows, vis, r, q, x, to, out);
-        if u > out.len() {
-            return u;
-        }
-        to = u;
+        to = variable_pairs(a, rows, vis, r, q, x, to, out)?;
         x = next_variable(bound, x + 1);
     }
-    to
+    Some(to)
 }
 
 // The leaf where no row is left: how long it is, or one more than there is room.
@@ -157,10 +145,9 @@ pub fn leaf(a: &[u64], rows: &[u16], r: usize, cur: &[u8], vis: &[u16], out: &mu
         return out.len() + 1;
     }
     let q = cur[r] as usize;
-    let n = pairs(a, rows, vis, r, q, &mut out[HIT_WORDS..]);
-    if n > out.len() - HIT_WORDS {
+    let Some(n) = pairs(a, rows, vis, r, q, &mut out[HIT_WORDS..]) else {
         return out.len() + 1;
-    }
+    };
     out[0] = HIT;
     out[1] = rule_of(rows, r);
     out[2] = plan_of(rows, r);

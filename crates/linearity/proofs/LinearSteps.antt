@@ -1,4 +1,5 @@
 -- What the steps of the check of linearity show, at either side.
+use Rattle.std.specs.Prelude.{Option, None, Some, is_some}
 use mathlib.Core.Path.{◌≡◌, refl, sym, ap, ap₂, subst, ◌∙◌}
 use mathlib.Core.List.{List, [], ◌∷◌, ◌++◌, append_assoc, append-nil}
 use mathlib.Core.Bool.{Bool, true, false, ◌&&◌, not, ◌||◌}
@@ -21,8 +22,6 @@ use Rattle.pattern.specs.Side.{Side, plus, minus}
 use Rattle.pattern.specs.Word.{own_words, part_count}
 use Rattle.linearity.specs.declared.linear.Joint.{Joint}
 use Rattle.linearity.specs.declared.linear.Joint.TheVariants.{Apart, Bare}
-use Rattle.linearity.specs.declared.linear.Part.{Part}
-use Rattle.linearity.specs.declared.linear.Part.TheVariants.{Is, NotLinear}
 use Rattle.pattern.proofs.Opened.{shape, inner, inner_length, OpensAll, Uncons, uncons, none_open, opened, shape_is, fits_in, to_part}
 use Rattle.pattern.proofs.ReadSteps.{part}
 use Rattle.linearity.proofs.VarSets.{holds_join, holds_same}
@@ -166,43 +165,43 @@ module _ (s : Side) {t ws : List ℕ} {p : Pattern} {s' : Side} {jt : Joint} {se
   opened_so : linear_at s p ≡ linear_from s' jt j l.xs (pcons first_part.first first_part.others)
   opened_so = l.linear ∙ ap (linear_from s' jt j l.xs) first_part.are
 
-  module _ (r : Part) (gave : (o : Opens t (part ws i)) → Judged s' o.pattern r) where
+  module _ (r : Option (ℕ × ℕ)) (gave : (o : Opens t (part ws i)) → Judged s' o.pattern r) where
     said : Judged s' first_part.first r
     said = subst (λ q. Judged s' q r) first_part.one_is (gave part_open)
 
-    pub turn_not : r ≡ NotLinear → Judged s p NotLinear
-    turn_not e = let h : linear_at s' first_part.first ≡ false = subst (Judged s' first_part.first) e said in opened_so ∙ (rw h)
+  pub turn_not : ((o : Opens t (part ws i)) → Judged s' o.pattern None) → Judged s p None
+  turn_not gave = let h : linear_at s' first_part.first ≡ false = said None gave in opened_so ∙ (rw h)
 
-    module _ (m used : ℕ) (e : r ≡ Is m used) where
-      so : Judged s' first_part.first (Is m used)
-      so = subst (Judged s' first_part.first) e said
+  module _ (m used : ℕ) (gave : (o : Opens t (part ws i)) → Judged s' o.pattern (Some (m, used))) where
+    so : Judged s' first_part.first (Some (m, used))
+    so = said (Some (m, used)) gave
 
-      pub part_le : i ≤ length ws → i + used ≤ length ws
-      part_le h = omega (arith, ap (λ q. length (pattern_code q)) first_part.one_is, fits_in first_part.one, length-drop i ws, so.2)
+    pub part_le : i ≤ length ws → i + used ≤ length ws
+    part_le h = omega (arith, ap (λ q. length (pattern_code q)) first_part.one_is, fits_in first_part.one, length-drop i ws, so.2)
 
-      module _ (b : Bool) (goes : (xs ys : List ℕ) → Holds set xs → Holds m ys → b ≡ joins jt j xs ys) where
-        test : b ≡ joins jt j l.xs (vars_at s' first_part.first)
-        test = goes l.xs (vars_at s' first_part.first) l.holds so.1
+    module _ (b : Bool) (goes : (xs ys : List ℕ) → Holds set xs → Holds m ys → b ≡ joins jt j xs ys) where
+      test : b ≡ joins jt j l.xs (vars_at s' first_part.first)
+      test = goes l.xs (vars_at s' first_part.first) l.holds so.1
 
-        pub turn_joint : b ≡ false → Judged s p NotLinear
-        turn_joint h = let q : joins jt j l.xs (vars_at s' first_part.first) ≡ false = sym test ∙ h in opened_so ∙ (rw (so.0, q))
+      pub turn_joint : b ≡ false → Judged s p None
+      turn_joint h = let q : joins jt j l.xs (vars_at s' first_part.first) ≡ false = sym test ∙ h in opened_so ∙ (rw (so.0, q))
 
-        pub turn : (v : ℕ) → b ≡ true → ((x : ℕ) → bit v x ≡ max (bit set x) (bit m x)) → Left s t ws p s' jt v (i + used) (k - (j + 1)) (j + 1)
-        turn v h bits =
-            let u = first_part in
-            let q : joins jt j l.xs (vars_at s' u.first) ≡ true = sym test ∙ h in
-            record {
-              xs = l.xs ++ vars_at s' u.first;
-              ps = u.others;
-              front = subst (λ w. OpensAll t w (k - (j + 1)) u.others) (drop-drop used i ws) (u.more used (k - (j + 1)) so.2 (omega arith));
-              ends = omega (arith, l.ends, so.2, ap (λ z. length (patterns_code z)) u.are, length-append (pattern_code u.first) (patterns_code u.others));
-              holds = holds_join v set m l.xs (vars_at s' u.first) bits l.holds so.1;
-              linear = opened_so ∙ (rw (so.0, q, add-one j));
-              vars = l.vars ∙ ap (gathered s' l.xs) u.are;
-            }
+      pub turn : (v : ℕ) → b ≡ true → ((x : ℕ) → bit v x ≡ max (bit set x) (bit m x)) → Left s t ws p s' jt v (i + used) (k - (j + 1)) (j + 1)
+      turn v h bits =
+          let u = first_part in
+          let q : joins jt j l.xs (vars_at s' u.first) ≡ true = sym test ∙ h in
+          record {
+            xs = l.xs ++ vars_at s' u.first;
+            ps = u.others;
+            front = subst (λ w. OpensAll t w (k - (j + 1)) u.others) (drop-drop used i ws) (u.more used (k - (j + 1)) so.2 (omega arith));
+            ends = omega (arith, l.ends, so.2, ap (λ z. length (patterns_code z)) u.are, length-append (pattern_code u.first) (patterns_code u.others));
+            holds = holds_join v set m l.xs (vars_at s' u.first) bits l.holds so.1;
+            linear = opened_so ∙ (rw (so.0, q, add-one j));
+            vars = l.vars ∙ ap (gathered s' l.xs) u.are;
+          }
 
 -- no part is left
-pub ends_linear : (s : Side) {t ws : List ℕ} {p : Pattern} {s' : Side} {jt : Joint} {set i : ℕ} (k j : ℕ) → Left s t ws p s' jt set i (k - j) j → k ≤ j → Judged s p (Is set i)
+pub ends_linear : (s : Side) {t ws : List ℕ} {p : Pattern} {s' : Side} {jt : Joint} {set i : ℕ} (k j : ℕ) → Left s t ws p s' jt set i (k - j) j → k ≤ j → Judged s p (Some (set, i))
 ends_linear s {t} {ws} {p} {s'} {jt} {set} {i} k j l h =
     let e : l.ps ≡ pnil = none_open (k - j) l.ps (omega arith) l.front in (
       l.linear ∙ ap (linear_from s' jt j l.xs) e,
@@ -211,8 +210,6 @@ ends_linear s {t} {ws} {p} {s'} {jt} {set} {i} k j l h =
     )
 
 -- the whole pattern
-pub whole_linear : (p : Pattern) (r : Part) (set used : ℕ) → Judged plus p r → r ≡ Is set used → true ≡ linear_plus p
-whole_linear p r set used h e = sym (subst (Judged plus p) e h).0
-
-pub whole_not : (p : Pattern) (r : Part) → Judged plus p r → r ≡ NotLinear → false ≡ linear_plus p
-whole_not p r h e = sym (subst (Judged plus p) e h)
+pub whole_told : (p : Pattern) (r : Option (ℕ × ℕ)) → Judged plus p r → is_some r ≡ linear_plus p
+whole_told p (Some r) h = sym h.0
+whole_told p None h = sym h

@@ -17,7 +17,10 @@ use Rattle.pattern.specs.Linear.{disjoint, same_set}
 use Rattle.linearity.specs.Linearity.{Holds, own_vars}
 use Rattle.pattern.specs.Linearity.{side_of}
 use Rattle.pattern.specs.Places.{tick}
-use Rattle.pattern.specs.Read.{Form, is_head, is_var, is_and, is_or, is_wild, is_absurd, is_not, is_range, is_other}
+use Rattle.pattern.specs.Word.{form_of}
+use Rattle.pattern.specs.declared.token.Word.{Word}
+use Rattle.pattern.specs.declared.token.Word.TheVariants.{Head, And, Or, Wild, Absurd, Not, Var, Range, Other}
+use Rattle.pattern.specs.Read.{Form, is_var}
 
 tick_or : (a b : Bool) → max (tick a) (tick b) ≡ tick (a || b)
 tick_or true true = refl
@@ -102,32 +105,21 @@ bare_is a [] l f = rw (no_member a l (λ x m. f x))
 bare_is a (y ∷ ys) l f = eqb_no a 0 (λ e. omega (arith, ap tick (first_in y ys), sym (f y) ∙ ap (λ z. bit z y) e ∙ bit_zero y))
 
 -- a word's own variable
-abbrev pub plain : Form → Bool
-plain (is_head c) = true
-plain (is_var x) = false
-plain is_and = true
-plain is_or = true
-plain is_wild = true
-plain is_absurd = true
-plain is_not = true
-plain is_range = true
-plain is_other = true
-
 pub own_minus : (b : Bool) (f : Form) → b ≡ false → Holds 0 (own_vars (side_of b) f)
 own_minus true f e = true≢false e
 own_minus false f e = holds_none
 
-pub own_plain : (b : Bool) (f : Form) → plain f ≡ true → Holds 0 (own_vars (side_of b) f)
-own_plain false f e = holds_none
-own_plain true (is_head c) e = holds_none
-own_plain true (is_var x) e = true≢false (sym e)
-own_plain true is_and e = holds_none
-own_plain true is_or e = holds_none
-own_plain true is_wild e = holds_none
-own_plain true is_absurd e = holds_none
-own_plain true is_not e = holds_none
-own_plain true is_range e = holds_none
-own_plain true is_other e = holds_none
+pub own_none : (b : Bool) (w : Word) → ((x : ℕ) → w ≡ Var x → ⊥) → Holds 0 (own_vars (side_of b) (form_of w))
+own_none false w e = holds_none
+own_none true (Head c) e = holds_none
+own_none true (Var x) e = absurd (e x refl)
+own_none true And e = holds_none
+own_none true Or e = holds_none
+own_none true Wild e = holds_none
+own_none true Absurd e = holds_none
+own_none true Not e = holds_none
+own_none true Range e = holds_none
+own_none true Other e = holds_none
 
 pub own_var : (b : Bool) (x r : ℕ) → b ≡ true → ((j : ℕ) → bit r j ≡ cond (eqb j x) 1 0) → Holds r (own_vars (side_of b) (is_var x))
 own_var true x r e h = holds_one r x h

@@ -1,5 +1,5 @@
 -- Linearity in the code's terms: at a side, with sets of variables.
-use Rattle.std.specs.Prelude.{◌≡◌, List, [], ◌∷◌, Bool, true, false, cond, ℕ, eqb, length}
+use Rattle.std.specs.Prelude.{◌≡◌, List, [], ◌∷◌, Bool, true, false, cond, ℕ, eqb, length, Option, None, Some}
 use Rattle.signature.specs.Lists.{memb, is_empty}
 use Rattle.sets.specs.Set.{bit}
 use Rattle.pattern.specs.Linear.{linear_plus, linear_minus, disjoint, same_set}
@@ -10,8 +10,6 @@ use Rattle.pattern.specs.Read.{Form, is_head, is_var, is_and, is_or, is_wild, is
 use Rattle.pattern.specs.Side.{Side, plus, minus}
 use Rattle.linearity.specs.declared.linear.Joint.{Joint}
 use Rattle.linearity.specs.declared.linear.Joint.TheVariants.{Apart, Alike, Bare}
-use Rattle.linearity.specs.declared.linear.Part.{Part}
-use Rattle.linearity.specs.declared.linear.Part.TheVariants.{Is, NotLinear}
 
 abbrev pub linear_at : Side → Pattern → Bool
 linear_at plus p = linear_plus p
@@ -21,10 +19,10 @@ linear_at minus p = linear_minus p
 abbrev pub Holds : ℕ → List ℕ → Type 0
 Holds s xs = (x : ℕ) → bit s x ≡ tick (memb x xs)
 
--- what is answered of a part at a side
-abbrev pub Judged : Side → Pattern → Part → Type 0
-Judged s p (Is set used) = (linear_at s p ≡ true) × Holds set (vars_at s p) × (used ≡ length (pattern_code p))
-Judged s p NotLinear = linear_at s p ≡ false
+-- what is answered of a part at a side: the set of its variables, and how many words it takes
+abbrev pub Judged : Side → Pattern → Option (ℕ × ℕ) → Type 0
+Judged s p (Some r) = (linear_at s p ≡ true) × Holds r.0 (vars_at s p) × (r.1 ≡ length (pattern_code p))
+Judged s p None = linear_at s p ≡ false
 
 -- how the sets of the parts behind a word must stand to each other
 abbrev pub joint_at : Side → Form → Joint

@@ -9,13 +9,6 @@ ghost use Rattle.pattern.specs.Word.{form_of, var_small};
 use pattern::token::{Word, classify, own_words, parts, side_behind};
 use sets::set::{join, meet, only, size};
 
-// The set of a part at a side, E or O, and how many words the part takes.
-#[derive(Clone, Copy)]
-pub enum Part {
-    Is(u64, usize),
-    NotLinear,
-}
-
 // How the sets of the parts behind a word must stand to each other: disjoint, equal, or each empty.
 #[derive(Clone, Copy)]
 pub enum Joint {
@@ -28,15 +21,8 @@ fn plus_joint(w: Word) -> Joint
     ensures { result ≡ joint_at (side_of true) (form_of w) }
 {
     match w {
-        Word::Head(_c) => Joint::Apart,
-        Word::And => Joint::Apart,
         Word::Or => Joint::Alike,
-        Word::Wild => Joint::Apart,
-        Word::Absurd => Joint::Apart,
-        Word::Not => Joint::Apart,
-        Word::Var(_x) => Joint::Apart,
-        Word::Range => Joint::Apart,
-        Word::Other => Joint::Apart,
+        _ => Joint::Apart,
     }
 }
 
@@ -46,13 +32,7 @@ fn minus_joint(w: Word) -> Joint
     match w {
         Word::Head(_c) => Joint::Bare,
         Word::And => Joint::Alike,
-        Word::Or => Joint::Apart,
-        Word::Wild => Joint::Apart,
-        Word::Absurd => Joint::Apart,
-        Word::Not => Joint::Apart,
-        Word::Var(_x) => Joint::Apart,
-        Word::Range => Joint::Apart,
-        Word::Other => Joint::Apart,
+        _ => Joint::Apart,
     }
 }
 
@@ -73,15 +53,8 @@ fn own_set(w: Word, plus: bool) -> u64
         return 0;
     }
     match w {
-        Word::Head(_c) => 0,
-        Word::And => 0,
-        Word::Or => 0,
-        Word::Wild => 0,
-        Word::Absurd => 0,
-        Word::Not => 0,
         Word::Var(x) => only(x as u32),
-        Word::Range => 0,
-        Word::Other => 0,
+        _ => 0,
     }
 }
 
@@ -101,8 +74,8 @@ fn goes_with(joint: Joint, j: u16, set: u64, m: u64) -> bool
     }
 }
 
-// The pattern that begins `p`, at a side.
-fn linear_at(t: &[u16], p: &[u16], plus: bool) -> Part
+// The set of the pattern that begins `p`, at a side, E or O, and how many words it takes; if it is linear there.
+fn linear_at(t: &[u16], p: &[u16], plus: bool) -> Option<(u64, usize)>
     requires { Opens t.now p.now }
     ensures { (g : Opens t.now p.now) → Judged (side_of plus) g.pattern result }
 {
@@ -112,28 +85,20 @@ fn linear_at(t: &[u16], p: &[u16], plus: bool) -> Part
     let joint = joint_of(w, plus);
     let mut set = own_set(w, plus);
     let mut at = own_words(w);
-    let mut i = 0;
-    while i < count {
-        let Part::Is(m, used) = linear_at(t, &p[at..], side) else {
-            return Part::NotLinear;
-        };
+    for i in 0..count {
+        let (m, used) = linear_at(t, &p[at..], side)?;
         if !goes_with(joint, i, set, m) {
-            return Part::NotLinear;
+            return None;
         }
         set = join(set, m);
         at += used;
-        i += 1;
     }
-    Part::Is(set, at)
+    Some((set, at))
 }
 
 pub fn linear(t: &[u16], p: &[u16]) -> bool
     requires { Patterned t.now p.now }
     ensures { (g : Patterned t.now p.now) → result ≡ linear_plus g.pattern }
 {
-    let r = linear_at(t, p, true);
-    match r {
-        Part::Is(_set, _used) => true,
-        Part::NotLinear => false,
-    }
+    linear_at(t, p, true).is_some()
 }

@@ -8,6 +8,7 @@ use native.Mathlib.Decide.{dec_le}
 use native.Mathlib.Omega.{arith}
 use lib.ListN.{length, drop, take}
 use lib.Seq.{length-take-le}
+use Rattle.std.specs.Prelude.{Option as Answer, Some, None}
 use Rattle.signature.specs.Lists.{◌>>=◌, is_some}
 use Rattle.signature.proofs.Tests.{some_inj, none≢some}
 use Rattle.text.specs.Format.{after_key, number, list}
@@ -15,12 +16,6 @@ use Rattle.lines.specs.Answers.{word_line_of, count_line_of, LineFilled}
 use Rattle.numbers.specs.Bytes.{bytes_before, word_of}
 use Rattle.numbers.specs.Lists.{count_of, Filled}
 use Rattle.lines.specs.Lines.{first_line, end_of, line_end, number_line, list_line}
-use Rattle.lines.specs.declared.line.CountLine.TheVariants as count_line
-use Rattle.lines.specs.declared.line.WordLine.TheVariants as word_line
-use Rattle.numbers.specs.declared.list.Count.{Count}
-use Rattle.numbers.specs.declared.list.Count.TheVariants as count
-use Rattle.numbers.specs.declared.number.Word.{Word}
-use Rattle.numbers.specs.declared.number.Word.TheVariants as word
 use Rattle.numbers.proofs.Digits.{word_none, word_some}
 use Rattle.numbers.proofs.Lists.{count_none, count_some}
 use Rattle.lines.proofs.LineLaws.{line_was, no_newline, newline, other_number, other_list, the_number, the_list, no_number_line, no_list_line}
@@ -28,7 +23,7 @@ use Rattle.numbers.proofs.Spans.{before_most, behind_key}
 
 -- a line that is broken
 abbrev NoList : List ℕ → List ℕ → List ℕ → List ℕ → Type 0
-NoList key t entry exit = (count_line.Broken ≡ count_line_of (list_line key t)) × LineFilled (list_line key t) entry exit
+NoList key t entry exit = (None ≡ count_line_of (list_line key t)) × LineFilled (list_line key t) entry exit
 
 no_list : (key t entry exit : List ℕ) → list_line key t ≡ none → NoList key t entry exit
 no_list key t entry exit e = (sym (ap count_line_of e), λ r f. none≢some (sym e ∙ f))
@@ -83,7 +78,7 @@ module _ (key t : List ℕ) (e : ℕ) (end : e ≡ line_end key t) where
   unfolding line_end
   none_there q = no_line key t (first_line t) refl (sym end ∙ q)
 
-  pub word_cut : e ≡ length t → word_line.Broken ≡ word_line_of (number_line key t)
+  pub word_cut : e ≡ length t → None ≡ word_line_of (number_line key t)
   word_cut q = sym (ap word_line_of (none_there q).0)
 
   pub list_cut : (entry exit : List ℕ) → e ≡ length t → NoList key t entry exit
@@ -116,19 +111,19 @@ module _ {key t : List ℕ} {e : ℕ} (h : Line key t e) where
   list_is : list_line key t ≡ (list rest >>= λ ns. some (ns, e + 1))
   list_is = the_list key t (take e t) e h.line h.begins ∙ ap (λ i. list rest >>= λ ns. some (ns, i + 1)) line_long
 
-  module _ (w : Word) (r : w ≡ word_of (number rest)) where
-    pub word_bad : w ≡ word.Broken → word_line.Broken ≡ word_line_of (number_line key t)
+  module _ (w : Answer ℕ) (r : w ≡ word_of (number rest)) where
+    pub word_bad : w ≡ None → None ≡ word_line_of (number_line key t)
     word_bad s = sym (ap word_line_of (number_is ∙ ap (λ o. o >>= λ n. some (n, e + 1)) (word_none (number rest) (sym r ∙ s))))
 
-    pub word_is : (v : ℕ) → w ≡ word.Is v → word_line.Is v (e + 1) ≡ word_line_of (number_line key t)
+    pub word_is : (v : ℕ) → w ≡ Some v → Some (record { word = v; used = e + 1 }) ≡ word_line_of (number_line key t)
     word_is v s = sym (ap word_line_of (number_is ∙ ap (λ o. o >>= λ n. some (n, e + 1)) (word_some (number rest) v (sym r ∙ s))))
 
-  module _ (entry exit : List ℕ) (w : Count) (r : w ≡ count_of (list rest)) (filled : Filled (list rest) entry exit) where
-    pub list_bad : w ≡ count.Broken → NoList key t entry exit
+  module _ (entry exit : List ℕ) (w : Answer ℕ) (r : w ≡ count_of (list rest)) (filled : Filled (list rest) entry exit) where
+    pub list_bad : w ≡ None → NoList key t entry exit
     list_bad s = no_list key t entry exit (list_is ∙ ap (λ o. o >>= λ ns. some (ns, e + 1)) (count_none (list rest) (sym r ∙ s)))
 
-    pub list_there : (n : ℕ) → w ≡ count.Is n → (count_line.Is n (e + 1) ≡ count_line_of (list_line key t)) × LineFilled (list_line key t) entry exit
+    pub list_there : (n : ℕ) → w ≡ Some n → (Some (record { count = n; used = e + 1 }) ≡ count_line_of (list_line key t)) × LineFilled (list_line key t) entry exit
     list_there n s =
         let (ns, f, g) = count_some (list rest) n (sym r ∙ s) in
         let h : list_line key t ≡ some (ns, e + 1) = list_is ∙ ap (λ o. o >>= λ ms. some (ms, e + 1)) f in
-        (sym (ap count_line_of h ∙ ap (λ m. count_line.Is m (e + 1)) g), λ x k. let z : (ns, e + 1) ≡ x = some_inj (ns, e + 1) x (sym h ∙ k) in filled x.0 (f ∙ ap (λ y. some y.0) z))
+        (sym (ap count_line_of h ∙ ap (λ m. Some (record { count = m; used = e + 1 })) g), λ x k. let z : (ns, e + 1) ≡ x = some_inj (ns, e + 1) x (sym h ∙ k) in filled x.0 (f ∙ ap (λ y. some y.0) z))

@@ -1,25 +1,22 @@
 -- What the functions over lines hand back, by what was read.
-use Rattle.std.specs.Prelude.{◌≡◌, List, ◌++◌, ℕ, length, drop}
+use Rattle.std.specs.Prelude.{◌≡◌, List, ◌++◌, ℕ, length, drop, Option as Answer, Some, None}
 use Rattle.std.proofs.Math.Option.{Option, none, some}
 use Rattle.table.specs.Rule.{Rule}
 use Rattle.lines.specs.declared.line.WordLine.{WordLine}
-use Rattle.lines.specs.declared.line.WordLine.TheVariants as word_line
 use Rattle.lines.specs.declared.line.CountLine.{CountLine}
-use Rattle.lines.specs.declared.line.CountLine.TheVariants as count_line
 use Rattle.lines.specs.declared.line.RuleLines.{RuleLines}
-use Rattle.lines.specs.declared.line.RuleLines.TheVariants as rule_line
 
-abbrev pub word_line_of : Option (ℕ × ℕ) → WordLine
-word_line_of none = word_line.Broken
-word_line_of (some r) = word_line.Is r.0 r.1
+abbrev pub word_line_of : Option (ℕ × ℕ) → Answer WordLine
+word_line_of none = None
+word_line_of (some r) = Some (record { word = r.0; used = r.1 })
 
-abbrev pub count_line_of : Option (List ℕ × ℕ) → CountLine
-count_line_of none = count_line.Broken
-count_line_of (some r) = count_line.Is (length r.0) r.1
+abbrev pub count_line_of : Option (List ℕ × ℕ) → Answer CountLine
+count_line_of none = None
+count_line_of (some r) = Some (record { count = length r.0; used = r.1 })
 
-abbrev pub rule_of : Option (Rule × ℕ) → RuleLines
-rule_of none = rule_line.Broken
-rule_of (some r) = rule_line.Is r.0.number r.0.plan (length r.0.pattern) r.1
+abbrev pub rule_of : Option (Rule × ℕ) → Answer RuleLines
+rule_of none = None
+rule_of (some r) = Some (record { number = r.0.number; plan = r.0.plan; count = length r.0.pattern; used = r.1 })
 
 -- the numbers of the line stand first, and the rest is untouched
 abbrev pub LineFilled : Option (List ℕ × ℕ) → List ℕ → List ℕ → Type 0

@@ -23,21 +23,21 @@ use Rattle.cell.proofs.Walk.{back, each_append}
 use Rattle.table.specs.Limits.{limits}
 use Rattle.builder.specs.Build.{words_room}
 use Rattle.admission.specs.Admission.{GivenWords, admission_of}
-use Rattle.admission.specs.declared.admit.Admission.{Admission}
-use Rattle.admission.specs.declared.admit.Admission.TheVariants.{Passed, Refused}
+use Rattle.std.specs.Prelude.{Result, Ok, Err}
+use Rattle.signature.specs.Refusal.{numbered}
+use Rattle.signature.specs.declared.refusals.Refusal.{Refusal}
 use Rattle.loading.specs.Add.{weights, GivenPlace, ListPlaced, GivenAdd, goes_with, Stepped, lists_room, row_words}
 use Rattle.loading.specs.Lists.{rows_by, list_for, lists_for}
-use Rattle.loading.specs.declared.add.Addition.TheVariants.{Added}
 
 -- what the admission tells of the words
-abbrev Tells : Signature → List ℕ → Admission → Type 0
-Tells sig ws (Passed w) = (refusal_of_pattern sig ws ≡ 0) × (w ≡ weight sig ws)
-Tells sig ws (Refused q) = eqb (refusal_of_pattern sig ws) 0 ≡ false
+abbrev Tells : Signature → List ℕ → Result ℕ ℕ → Type 0
+Tells sig ws (Ok w) = (refusal_of_pattern sig ws ≡ 0) × (w ≡ weight sig ws)
+Tells sig ws (Err q) = eqb (refusal_of_pattern sig ws) 0 ≡ false
 
 tells : (sig : Signature) (ws : List ℕ) → Tells sig ws (admission_of sig ws)
 tells sig ws = go (eqb (refusal_of_pattern sig ws) 0) refl
   where
-    go : (b : Bool) → eqb (refusal_of_pattern sig ws) 0 ≡ b → Tells sig ws (cond b (Passed (weight sig ws)) (Refused (refusal_of_pattern sig ws)))
+    go : (b : Bool) → eqb (refusal_of_pattern sig ws) 0 ≡ b → Tells sig ws (cond b (Ok (weight sig ws)) (Err (refusal_of_pattern sig ws)))
     go true e = (eqb_eq (refusal_of_pattern sig ws) 0 e, refl)
     go false e = e
 
@@ -56,17 +56,21 @@ module _ {t : List ℕ} {used total : ℕ} {rows : List ℕ} (g : GivenAdd t use
     pub words_given : (n' : ℕ) → n' ≡ length rows - used → GivenWords t ws n' m
     words_given n' e = record { known = g.known; room = omega (arith, e, has.0); work_room = has.1 }
 
-  module _ (ws : List ℕ) {m : ℕ} (has : (used + 1 + words_room (length ws) ≤ length rows) × (words_room (length ws) ≤ m)) (n' : ℕ) (n'_is : n' ≡ length rows - used) (r : Admission) (gave : (q : GivenWords t ws n' m) → r ≡ admission_of q.known.sig ws) where
-    told : Tells g.known.sig ws r
+  module _ (ws : List ℕ) {m : ℕ} (has : (used + 1 + words_room (length ws) ≤ length rows) × (words_room (length ws) ≤ m)) (n' : ℕ) (n'_is : n' ≡ length rows - used) (r : Result ℕ Refusal) (gave : (q : GivenWords t ws n' m) → numbered r ≡ admission_of q.known.sig ws) where
+    told : Tells g.known.sig ws (numbered r)
     unfolding words_given
     told = subst (Tells g.known.sig ws) (sym (gave (words_given has n' n'_is))) (tells g.known.sig ws)
 
-    pub refused : (q : ℕ) → r ≡ Refused q → goes_with g.known.sig g.wss ws ≡ false
-    refused q e = let z : eqb (refusal_of_pattern g.known.sig ws) 0 ≡ false = subst (Tells g.known.sig ws) e told in rw z
+    pub refused : ((w : ℕ) → r ≡ Ok w → ⊥) → goes_with g.known.sig g.wss ws ≡ false
+    refused f = go r f told
+      where
+        go : (s : Result ℕ Refusal) → ((w : ℕ) → s ≡ Ok w → ⊥) → Tells g.known.sig ws (numbered s) → goes_with g.known.sig g.wss ws ≡ false
+        go (Ok w) f z = absurd (f w refl)
+        go (Err q) f z = rw z
 
-    module _ (w : ℕ) (e : r ≡ Passed w) where
+    module _ (w : ℕ) (e : r ≡ Ok w) where
       so : (refusal_of_pattern g.known.sig ws ≡ 0) × (w ≡ weight g.known.sig ws)
-      so = subst (Tells g.known.sig ws) e told
+      so = subst (λ s. Tells g.known.sig ws (numbered s)) e told
 
       abbrev passed : PassedWords g.known.sig ws
       passed = passed_of g.known.sig ws so.0
@@ -107,7 +111,7 @@ module _ {t : List ℕ} {used total : ℕ} {rows : List ℕ} (g : GivenAdd t use
           light : leb (weight g.known.sig ws + weights g.known.sig g.wss) limits.weight ≡ true
           light = leb_yes (weight g.known.sig ws + weights g.known.sig g.wss) limits.weight (omega (arith, so.1, g.total_is, fits))
 
-          pub added : Stepped g.known.sig g.wss ws (length rows) m (Added r' (total + w)) o'
+          pub added : Stepped g.known.sig g.wss ws (length rows) m (Ok (r', total + w)) o'
           unfolding L
           added =
               let W = g.wss in

@@ -19,10 +19,11 @@ use Rattle.store.proofs.LaidFacts.{laid_holds, holds_laid, sound_laid, is_stored
 use Rattle.store.proofs.Walk.{walk_start, walk_step, walk_end}
 use Rattle.loading.specs.Add.{TooSmall, GivenAdd, goes_with, Stepped}
 use Rattle.loading.specs.Lists.{lists_for}
-use Rattle.loading.specs.Load.{GivenLoad, Ready, patterns}
+use Rattle.loading.specs.Load.{GivenLoad, Ready, LoadedAs, patterns}
 use Rattle.loading.proofs.Tested.{tests}
-use Rattle.loading.specs.declared.add.Addition.{Addition}
-use Rattle.loading.specs.declared.add.Addition.TheVariants.{Added, Unsound, NoRoom}
+use Rattle.std.specs.Prelude.{Result, Ok, Err}
+use Rattle.loading.specs.declared.add.LoadError.{LoadError}
+use Rattle.loading.specs.declared.add.LoadError.TheVariants.{Unsound, NoRoom}
 use Rattle.loading.proofs.Shared.{none_shared, rules_lists}
 use Rattle.loading.proofs.Tested.{passed, same_weight, weight_last, passed_light, passed_more, tests_none}
 
@@ -117,7 +118,7 @@ module _ {t table : List ℕ} (g : GivenLoad t table) (rs : List Rule) (h : Hold
         small = omega (arith, l.ready.small, l.walked.passed, many);
       }
 
-      module _ (k m : ℕ) (s : Addition) (rows' : List ℕ) (gave : (q : GivenAdd t used total rows) → Stepped q.known.sig q.wss (take (at + 3 + get_or table (at + 2) 0 - (at + 3)) (drop (at + 3) table)) k m s rows') where
+      module _ (k m : ℕ) (s : Result (ℕ × ℕ) LoadError) (rows' : List ℕ) (gave : (q : GivenAdd t used total rows) → Stepped q.known.sig q.wss (take (at + 3 + get_or table (at + 2) 0 - (at + 3)) (drop (at + 3) table)) k m s rows') where
         said : Stepped g.known.sig (patterns l.before) step.rule.pattern k m s rows'
         unfolding given
         said = subst (λ z. Stepped g.known.sig (patterns l.before) z k m s rows') words_are (gave given)
@@ -125,18 +126,22 @@ module _ {t table : List ℕ} (g : GivenLoad t table) (rs : List Rule) (h : Hold
         rules_are : rs ≡ l.before ++ (step.rule ∷ step.later)
         rules_are = l.walked.are ∙ ap (λ z. l.before ++ z) step.here
 
-        pub no_room : s ≡ NoRoom → TooSmall k m
+        no_room : s ≡ Err NoRoom → TooSmall k m
         no_room x = subst (λ z. Stepped g.known.sig (patterns l.before) step.rule.pattern k m z rows') x said
 
-        pub unsound : s ≡ Unsound → sound limits g.known.sig table ≡ none
+        unsound : s ≡ Err Unsound → sound limits g.known.sig table ≡ none
         unsound x =
             let y : goes_with g.known.sig (patterns l.before) step.rule.pattern ≡ false = subst (λ z. Stepped g.known.sig (patterns l.before) step.rule.pattern k m z rows') x said in
             let z : tests g.known.sig rs ≡ false = ap (tests g.known.sig) rules_are ∙ tests_none g.known.sig l.before step.rule step.later y in
             tested ∙ (rw z)
 
-        pub again : (u w : ℕ) → s ≡ Added u w → Mid (at + 3 + get_or table (at + 2) 0) u w (i + 1) rows'
+        pub failed : (e : LoadError) → s ≡ Err e → (k' m' : ℕ) → k ≡ k' → m ≡ m' → LoadedAs (TooSmall k' m') g.known.sig table (Err e) rows'
+        failed NoRoom x k' m' a b = λ p q. no_room x (omega (arith, p, a)) (omega (arith, q, b))
+        failed Unsound x k' m' a b = unsound x
+
+        pub again : (u w : ℕ) → s ≡ Ok (u, w) → Mid (at + 3 + get_or table (at + 2) 0) u w (i + 1) rows'
         again u w x =
-            let y : Stepped g.known.sig (patterns l.before) step.rule.pattern k m (Added u w) rows' = subst (λ z. Stepped g.known.sig (patterns l.before) step.rule.pattern k m z rows') x said in
+            let y : Stepped g.known.sig (patterns l.before) step.rule.pattern k m (Ok (u, w)) rows' = subst (λ z. Stepped g.known.sig (patterns l.before) step.rule.pattern k m z rows') x said in
             let p : patterns (l.before ++ (step.rule ∷ [])) ≡ patterns l.before ++ (step.rule.pattern ∷ []) = map-append (λ r. r.pattern) l.before (step.rule ∷ []) in
             record {
               before = l.before ++ (step.rule ∷ []);

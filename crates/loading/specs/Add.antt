@@ -1,5 +1,5 @@
 -- The rules of a table one after the other: what holds of their patterns so far, and where their rows stand.
-use Rattle.std.specs.Prelude.{◌≡◌, List, [], ◌∷◌, ◌++◌, Bool, true, false, ◌&&◌, ℕ, ◌+◌, ◌*◌, ◌≤◌, eqb, leb, length, take}
+use Rattle.std.specs.Prelude.{◌≡◌, List, Result, Ok, Err, [], ◌∷◌, ◌++◌, Bool, true, false, ◌&&◌, ℕ, ◌+◌, ◌*◌, ◌≤◌, eqb, leb, length, take}
 use Rattle.signature.specs.Decoded.{Known}
 use Rattle.signature.specs.Signature.{Signature}
 use Rattle.pattern.specs.Limits.{pattern_limit}
@@ -15,8 +15,8 @@ use Rattle.cell.specs.RowList.{list_code}
 use Rattle.table.specs.Limits.{limits}
 use Rattle.builder.specs.Build.{row_room, words_room}
 use Rattle.loading.specs.Lists.{lists_for}
-use Rattle.loading.specs.declared.add.Addition.{Addition}
-use Rattle.loading.specs.declared.add.Addition.TheVariants.{Added, Unsound, NoRoom}
+use Rattle.loading.specs.declared.add.LoadError.{LoadError}
+use Rattle.loading.specs.declared.add.LoadError.TheVariants.{Unsound, NoRoom}
 
 -- what the patterns weigh in all
 abbrev pub weights : Signature → List (List ℕ) → ℕ
@@ -77,7 +77,7 @@ abbrev pub goes_with : Signature → List (List ℕ) → List ℕ → Bool
 goes_with sig wss ws = eqb (refusal_of_pattern sig ws) 0 && leb (weight sig ws + weights sig wss) limits.weight
 
 -- of slices of n and m words
-abbrev pub Stepped : Signature → List (List ℕ) → List ℕ → ℕ → ℕ → Addition → List ℕ → Type 0
-Stepped sig wss ws n m NoRoom rows = TooSmall n m
-Stepped sig wss ws n m Unsound rows = goes_with sig wss ws ≡ false
-Stepped sig wss ws n m (Added used total) rows = (goes_with sig wss ws ≡ true) × (total ≡ weight sig ws + weights sig wss) × (used ≡ length (lists_for sig (wss ++ (ws ∷ [])))) × ((rest : List ℕ) × (rows ≡ lists_for sig (wss ++ (ws ∷ [])) ++ rest)) × (used ≤ lists_room total (length (wss ++ (ws ∷ []))))
+abbrev pub Stepped : Signature → List (List ℕ) → List ℕ → ℕ → ℕ → Result (ℕ × ℕ) LoadError → List ℕ → Type 0
+Stepped sig wss ws n m (Err NoRoom) rows = TooSmall n m
+Stepped sig wss ws n m (Err Unsound) rows = goes_with sig wss ws ≡ false
+Stepped sig wss ws n m (Ok (used, total)) rows = (goes_with sig wss ws ≡ true) × (total ≡ weight sig ws + weights sig wss) × (used ≡ length (lists_for sig (wss ++ (ws ∷ [])))) × ((rest : List ℕ) × (rows ≡ lists_for sig (wss ++ (ws ∷ [])) ++ rest)) × (used ≤ lists_room total (length (wss ++ (ws ∷ []))))

@@ -1,5 +1,5 @@
 -- 3: a sound table, and the rows of its rules.
-use Rattle.std.specs.Prelude.{◌≡◌, List, ◌++◌, map, ℕ, ◌≤◌, length}
+use Rattle.std.specs.Prelude.{◌≡◌, List, Result, Ok, Err, ◌++◌, map, ℕ, ◌≤◌, length}
 use Rattle.std.proofs.Math.Option.{none, some}
 use Rattle.signature.specs.Decoded.{Known}
 use Rattle.signature.specs.Signature.{Signature}
@@ -8,8 +8,8 @@ use Rattle.table.specs.Rule.{Rule, total_weight}
 use Rattle.table.specs.Sound.{sound}
 use Rattle.loading.specs.Add.{lists_room}
 use Rattle.loading.specs.Lists.{lists_for}
-use Rattle.loading.specs.declared.load.Loaded.{Loaded}
-use Rattle.loading.specs.declared.load.Loaded.TheVariants.{Sound, Unsound, NoRoom}
+use Rattle.loading.specs.declared.add.LoadError.{LoadError}
+use Rattle.loading.specs.declared.add.LoadError.TheVariants.{Unsound, NoRoom}
 
 pub record GivenLoad (t table : List ℕ) : Type 0 where
   pub known : Known t
@@ -35,7 +35,7 @@ pub record InForce (t table : List ℕ) (used total : ℕ) (rows : List ℕ) : T
   pub ready : Ready known.sig rs used total rows
 
 -- whether the table is sound, with the lists of its rules' rows; no room tells P, and nothing of the table
-abbrev pub LoadedAs : Type 0 → Signature → List ℕ → Loaded → List ℕ → Type 0
-LoadedAs P sig table NoRoom rows = P
-LoadedAs P sig table Unsound rows = sound limits sig table ≡ none
-LoadedAs P sig table (Sound used total) rows = (rs : List Rule) × (sound limits sig table ≡ some rs) × Ready sig rs used total rows
+abbrev pub LoadedAs : Type 0 → Signature → List ℕ → Result (ℕ × ℕ) LoadError → List ℕ → Type 0
+LoadedAs P sig table (Err NoRoom) rows = P
+LoadedAs P sig table (Err Unsound) rows = sound limits sig table ≡ none
+LoadedAs P sig table (Ok (used, total)) rows = (rs : List Rule) × (sound limits sig table ≡ some rs) × Ready sig rs used total rows

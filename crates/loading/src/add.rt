@@ -3,7 +3,7 @@ ghost use Rattle.std.specs.Prelude.{◌≡◌, ◌≤◌, length};
 ghost use Rattle.table.specs.Limits.{limits};
 ghost use Rattle.loading.specs.Add.{lists_room, has_room, GivenPlace, ListPlaced, GivenAdd, Stepped};
 
-use admission::admit::{Admission, admit};
+use admission::admit::admit;
 use builder::build::{ROOM_UNIT, ROW_ROOM, build, words_room};
 use cell::cell::CELL;
 use pattern::limits::PATTERN_WORDS;
@@ -23,10 +23,9 @@ pub const SMALL_ROWS: usize = 4096;
 
 pub const SMALL_WORK: usize = ROOM_UNIT * 8 + 1;
 
-// The words used and the weight, with the rule; or that no sound table has it; or that the slices are too small.
-#[derive(Clone, Copy)]
-pub enum Addition {
-    Added(usize, u16),
+// Why rows are not loaded: no sound table has the rules, or the slices are too small for them.
+#[derive(Clone, Copy, PartialEq, Eq)]
+pub enum LoadError {
     Unsound,
     NoRoom,
 }
@@ -57,6 +56,7 @@ pub fn place(t: &[u16], p: &[u16], used: usize, rows: &mut [u64], work: &mut [u6
     at + k + 1
 }
 
+// The words used and the weight, with the rule.
 pub(crate) fn add(
     t: &[u16],
     p: &[u16],
@@ -64,20 +64,20 @@ pub(crate) fn add(
     weight: u16,
     rows: &mut [u64],
     work: &mut [u64],
-) -> Addition
+) -> Result<(usize, u16), LoadError>
     requires { GivenAdd t.now used weight rows.old }
     ensures { (g : GivenAdd t.now used weight rows.old) → Stepped g.known.sig g.wss p.now (length rows.old) (length work.old) result rows.new }
 {
     if !has_room(p.len(), used, rows.len(), work.len()) {
-        return Addition::NoRoom;
+        return Err(LoadError::NoRoom);
     }
-    let Admission::Passed(w) = admit(t, p, &mut rows[used..], work) else {
-        return Addition::Unsound;
+    let Ok(w) = admit(t, p, &mut rows[used..], work) else {
+        return Err(LoadError::Unsound);
     };
     let total = weight + w;
     if WEIGHT < total {
-        return Addition::Unsound;
+        return Err(LoadError::Unsound);
     }
     let end = place(t, p, used, rows, work);
-    Addition::Added(end, total)
+    Ok((end, total))
 }

@@ -11,11 +11,17 @@ const WORDS: usize = 65536;
 
 // What the call gives, as a line: the number, the total, and each rule that has a count.
 fn show_tally(rt: &impl Print, log: &[u16]) -> io::Result<()> {
-    let t = tally(log);
-    print::number(rt, size(t.number))?;
-    print::spaced(rt, size(t.total))?;
-    let counts = t.counts;
-    print::pairs(rt, &counts, 0)?;
+    match tally(log) {
+        Ok(t) => {
+            print::number(rt, 0)?;
+            print::spaced(rt, size(t.total))?;
+            print::pairs(rt, &t.counts, 0)?;
+        }
+        Err(r) => {
+            print::number(rt, size(u16::from(r)))?;
+            print::spaced(rt, 0)?;
+        }
+    }
     print::end(rt)
 }
 

@@ -100,8 +100,6 @@ fn bind_all(t: &[u16], p: &[u16], b: &[u16], at: u16, n: u16, out: &mut [u16])
     let j = booking::walk::span(t, b);
     if all_fit(t, &p[i..], &b[j..], n - 1) {
         bind(t, p, b, at, out);
-        bind_all(t, &p[i..], &b[j..], at + j as u16, n - 1, out);
-        return;
     }
     bind_all(t, &p[i..], &b[j..], at + j as u16, n - 1, out);
 }

@@ -138,10 +138,10 @@ all_chosen f s x w l h = chosen_of f (member s) (member x) (words_end (or_test f
 
 -- cells
 
-pub tags_differ : (c d : Cell) → ¬ (c.tag ≡ d.tag) → false ≡ same_cell c d
-tags_differ c d n = sym (ap (λ (b : Bool). b && eqb (number_of c.allowed) (number_of d.allowed)) (eqb_no c.tag d.tag n))
+pub tags_differ : (c d : Cell) → ¬ (c.tag ≡ d.tag) → eqb c.tag d.tag ≡ same_cell c d
+tags_differ c d n = eqb_no c.tag d.tag n ∙ sym (ap (λ (b : Bool). b && eqb (number_of c.allowed) (number_of d.allowed)) (eqb_no c.tag d.tag n))
 
-pub lows_differ : (c d : Cell) → c.allowed.low < 2 ^ 64 → d.allowed.low < 2 ^ 64 → ¬ (c.allowed.low ≡ d.allowed.low) → false ≡ same_cell c d
+lows_differ : (c d : Cell) → c.allowed.low < 2 ^ 64 → d.allowed.low < 2 ^ 64 → ¬ (c.allowed.low ≡ d.allowed.low) → false ≡ same_cell c d
 lows_differ c d l m n =
     sym (ap (λ (b : Bool). eqb c.tag d.tag && b) (eqb_no (number_of c.allowed) (number_of d.allowed) (λ e. n (omega arith))) ∙ go (eqb c.tag d.tag))
   where
@@ -149,9 +149,16 @@ lows_differ c d l m n =
     go true = refl
     go false = refl
 
-pub highs_tell : (c d : Cell) → c.tag ≡ d.tag → c.allowed.low ≡ d.allowed.low → eqb c.allowed.high d.allowed.high ≡ same_cell c d
+highs_tell : (c d : Cell) → c.tag ≡ d.tag → c.allowed.low ≡ d.allowed.low → eqb c.allowed.high d.allowed.high ≡ same_cell c d
 highs_tell c d e f = go (eqb c.allowed.high d.allowed.high) refl ∙ sym (ap (λ (b : Bool). b && eqb (number_of c.allowed) (number_of d.allowed)) (ap (λ (n : ℕ). eqb n d.tag) e ∙ eqb_self d.tag))
   where
     go : (b : Bool) → eqb c.allowed.high d.allowed.high ≡ b → b ≡ eqb (number_of c.allowed) (number_of d.allowed)
     go true h = let i : number_of c.allowed ≡ number_of d.allowed = omega (arith, eqb_eq c.allowed.high d.allowed.high h) in sym (ap (λ (n : ℕ). eqb n (number_of d.allowed)) i ∙ eqb_self (number_of d.allowed))
     go false h = sym (eqb_no (number_of c.allowed) (number_of d.allowed) (λ i. eqb_ne c.allowed.high d.allowed.high h (omega arith)))
+
+pub heads_tell : (c d : Cell) → c.allowed.low < 2 ^ 64 → d.allowed.low < 2 ^ 64 → c.tag ≡ d.tag → (eqb c.allowed.low d.allowed.low && eqb c.allowed.high d.allowed.high) ≡ same_cell c d
+heads_tell c d l m e = go (eqb c.allowed.low d.allowed.low) refl
+  where
+    go : (b : Bool) → eqb c.allowed.low d.allowed.low ≡ b → (b && eqb c.allowed.high d.allowed.high) ≡ same_cell c d
+    go true f = highs_tell c d e (eqb_eq c.allowed.low d.allowed.low f)
+    go false f = lows_differ c d l m (eqb_ne c.allowed.low d.allowed.low f)

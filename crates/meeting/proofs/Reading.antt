@@ -8,8 +8,8 @@ use Prim.Native.Nat.{ℕ, ◌+◌, ◌-◌, ◌*◌, ◌/◌, ◌%◌, ◌≤◌
 use native.Mathlib.Nat.{suc-add}
 use native.Mathlib.Omega.{arith}
 use lib.Dec.{eqb, ltb}
-use lib.ListN.{length, get_or, get_elem?, set}
-use lib.Seq.{get_or-set_same, get_or-set_other}
+use lib.ListN.{length, get_or, get_elem?, take, drop}
+use lib.Seq.{get_or-take, get_or-drop}
 use Rattle.signature.specs.Lists.{is_some, is_empty, somes, any}
 use Rattle.signature.proofs.Heads.{any_at, any_there}
 use Rattle.signature.proofs.KnownFacts.{at_some, at_below}
@@ -24,19 +24,12 @@ use Rattle.meeting.specs.Matrix.{meets}
 use Rattle.meeting.specs.Rows.{Matrix, FirstMet, SomeMet}
 use Rattle.meeting.proofs.Notes.{meets_is}
 
--- the first w words of row i are copied
-abbrev pub Copied : List ℕ → ℕ → List ℕ → ℕ → Type 0
-Copied m i r w = (v : ℕ) → v < w → get_or r v 0 ≡ get_or m (4 * i + v) 0
-
-pub copied_next : (m r : List ℕ) (i w : ℕ) → w < length r → Copied m i r w → Copied m i (set r w (get_or m (4 * i + w) 0)) (w + 1)
-copied_next m r i w l h v k = go (ltb v w) refl
+-- the words of row i
+pub part_is : (m r : List ℕ) (i : ℕ) → r ≡ take (4 * i + 4 - 4 * i) (drop (4 * i) m) → (j : ℕ) → j < row_limit → member r j ≡ meets m i j
+part_is m r i e j l = sym (member_is r j) ∙ ap (λ (w : ℕ). eqb (bit w (j % 64)) 1) (word (j / 64) (omega arith)) ∙ meets_is m i j
   where
-    go : (b : Bool) → ltb v w ≡ b → get_or (set r w (get_or m (4 * i + w) 0)) v 0 ≡ get_or m (4 * i + v) 0
-    go true e = get_or-set_other r w v (get_or m (4 * i + w) 0) 0 (λ z. omega (arith, z, ltb-true v w e)) ∙ h v (ltb-true v w e)
-    go false e = let z : v ≡ w = omega (arith, k, ltb-false v w e) in rw z (get_or-set_same r w (get_or m (4 * i + w) 0) 0 l)
-
-pub copied_all : (m r : List ℕ) (i : ℕ) → Copied m i r 4 → (j : ℕ) → j < row_limit → member r j ≡ meets m i j
-copied_all m r i h j l = sym (member_is r j) ∙ ap (λ (w : ℕ). eqb (bit w (j % 64)) 1) (h (j / 64) (omega arith)) ∙ meets_is m i j
+    word : (v : ℕ) → v < 4 → get_or r v 0 ≡ get_or m (4 * i + v) 0
+    word v k = ap (λ (x : List ℕ). get_or x v 0) e ∙ get_or-take (4 * i + 4 - 4 * i) (drop (4 * i) m) v 0 (omega (arith, k)) ∙ get_or-drop (4 * i) m v 0
 
 pub first_of_row : (m r : List ℕ) (i q : ℕ) → ((j : ℕ) → j < row_limit → member r j ≡ meets m i j) → FirstIn r row_limit q → FirstMet m i q
 first_of_row m r i q e f = record { most = f.most; before = λ j l. sym (e j (omega (arith, l, f.most))) ∙ f.before j l; there = λ l. sym (e q l) ∙ f.there l }

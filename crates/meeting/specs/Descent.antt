@@ -1,5 +1,5 @@
 -- Rows that stand at one place: what is given of them, and what a visit of that place leaves.
-use Rattle.std.specs.Prelude.{◌≡◌, List, Bool, true, not, cond, ◌&&◌, ◌||◌, ℕ, ◌+◌, ◌-◌, ◌*◌, ◌^◌, ◌≤◌, ◌<◌, length, get_or}
+use Rattle.std.specs.Prelude.{◌≡◌, List, Bool, true, not, cond, ◌&&◌, ◌||◌, ℕ, ◌+◌, ◌*◌, ◌^◌, ◌≤◌, ◌<◌, length, get_or}
 use Rattle.signature.specs.Lists.{is_some}
 use Rattle.cell.specs.Cell.{Kinds, cell_width, all_words}
 use Rattle.cell.specs.Coded.{row_code, all_cells}

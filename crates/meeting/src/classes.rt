@@ -12,33 +12,18 @@ use rowset::set::{ROWS, SET_WORDS, WORD};
 use sets::heads::is_empty;
 use sets::set::{lowest, rest, with};
 
-// Rows of one word of a set.
+// Rows with one and the same cell, and rows whose cells have no head in common with it: of one word of a set, or of all.
 #[derive(Clone, Copy)]
-pub struct WordSorts {
-    pub same: u64,
-    pub clash: u64,
-}
-
-// Rows with one and the same cell, and rows whose cells have no head in common with it.
-#[derive(Clone, Copy)]
-pub struct Sorts {
-    pub same: [u64; SET_WORDS],
-    pub clash: [u64; SET_WORDS],
+pub struct Sorts<S> {
+    pub same: S,
+    pub clash: S,
 }
 
 // Whether two cells allow the same, whatever they bind.
 fn is_same(c: Cell, d: Cell) -> bool
     ensures { result ≡ same_cell c d }
 {
-    if c.tag != d.tag {
-        return false;
-    }
-    let x = c.allowed;
-    let y = d.allowed;
-    if x.low != y.low {
-        return false;
-    }
-    x.high == y.high
+    c.tag == d.tag && c.allowed == d.allowed
 }
 
 fn is_apart(c: Cell, d: Cell) -> bool
@@ -60,7 +45,7 @@ fn with_if(s: u64, i: u32, yes: bool) -> u64
 }
 
 // Of the rows of a word, counted from `base` on: those at this very cell, and those at one without a head in common with it.
-fn sort_word(a: &[u64], cur: &[u64; ROWS], base: usize, word: u64, c: Cell) -> WordSorts
+fn sort_word(a: &[u64], cur: &[u64; ROWS], base: usize, word: u64, c: Cell) -> Sorts<u64>
     requires { (base + set_limit ≤ row_limit) × Cells (in_word base word) a.now cur.now }
     ensures word_chosen { WordChosen (λ q. same_cell c (cell_of_row a.now cur.now q)) base word result.same }
     ensures word_chosen_2 { WordChosen (λ q. apart_cell c (cell_of_row a.now cur.now q)) base word result.clash }
@@ -75,23 +60,21 @@ fn sort_word(a: &[u64], cur: &[u64; ROWS], base: usize, word: u64, c: Cell) -> W
         clash = with_if(clash, b, is_apart(c, d));
         left = rest(left);
     }
-    WordSorts { same, clash }
+    Sorts { same, clash }
 }
 
 // The same of all rows of a set.
-pub fn sort(a: &[u64], cur: &[u64; ROWS], s: &[u64; SET_WORDS], c: Cell) -> Sorts
+pub fn sort(a: &[u64], cur: &[u64; ROWS], s: &[u64; SET_WORDS], c: Cell) -> Sorts<[u64; SET_WORDS]>
     requires { Cells (member s.now) a.now cur.now }
     ensures chosen { Chosen (λ q. same_cell c (cell_of_row a.now cur.now q)) s.now result.same }
     ensures chosen_2 { Chosen (λ q. apart_cell c (cell_of_row a.now cur.now q)) s.now result.clash }
 {
     let mut same = [0u64; SET_WORDS];
     let mut clash = [0u64; SET_WORDS];
-    let mut w = 0;
-    while w < SET_WORDS {
+    for w in 0..SET_WORDS {
         let x = sort_word(a, cur, WORD * w, s[w], c);
         same[w] = x.same;
         clash[w] = x.clash;
-        w += 1;
     }
     Sorts { same, clash }
 }
@@ -104,7 +87,7 @@ fn pass(cur: &mut [u64], base: usize, word: u64)
     let mut left = word;
     while left > 0 {
         let b = lowest(left);
-        cur[base + b as usize] = cur[base + b as usize] + CELL as u64;
+        cur[base + b as usize] += CELL as u64;
         left = rest(left);
     }
 }
@@ -114,9 +97,7 @@ pub fn pass_all(cur: &mut [u64; ROWS], s: &[u64; SET_WORDS])
     requires { Passable (member s.now) cur.old }
     ensures { Moved (member s.now) (λ q. cell_width) cur.old cur.new }
 {
-    let mut w = 0;
-    while w < SET_WORDS {
+    for w in 0..SET_WORDS {
         pass(cur, WORD * w, s[w]);
-        w += 1;
     }
 }

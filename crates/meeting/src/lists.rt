@@ -17,11 +17,9 @@ pub fn gather_lists(t: &[u16], a: &[u64], n: u16, cur: &mut [u64]) -> usize
 {
     let mut at = 0;
     let mut q = 0;
-    let mut j = 0;
-    while j < n {
+    for _j in 0..n {
         q = gather(a, at + 1, q, cur);
         at = at + 1 + a[at] as usize;
-        j += 1;
     }
     q
 }
@@ -33,8 +31,7 @@ fn apart_by(t: &[u16], a: &[u64], n: u16, m: &[u64]) -> bool
 {
     let mut at = 0;
     let mut low = 0;
-    let mut j = 0;
-    while j < n {
+    for _j in 0..n {
         let from = at + 1;
         let high = low + count(&a[from..]);
         if some_met(m, low, high) {
@@ -42,7 +39,6 @@ fn apart_by(t: &[u16], a: &[u64], n: u16, m: &[u64]) -> bool
         }
         at = from + a[at] as usize;
         low = high;
-        j += 1;
     }
     true
 }

@@ -14,10 +14,8 @@ fn clear_row(m: &mut [u64], i: usize, off: &[u64; SET_WORDS])
     requires { (i < row_limit) × (set_words * i + set_words ≤ length m.old) }
     ensures { Noted (λ q. eqb q i) (member off.now) m.old m.new }
 {
-    let mut w = 0;
-    while w < SET_WORDS {
+    for w in 0..SET_WORDS {
         m[SET_WORDS * i + w] = minus(m[SET_WORDS * i + w], off[w]);
-        w += 1;
     }
 }
 
@@ -39,10 +37,8 @@ fn note(m: &mut [u64], s: &[u64; SET_WORDS], off: &[u64; SET_WORDS])
     requires { Roomy (member s.now) (length m.old) }
     ensures { Noted (member s.now) (member off.now) m.old m.new }
 {
-    let mut w = 0;
-    while w < SET_WORDS {
+    for w in 0..SET_WORDS {
         note_word(m, WORD * w, s[w], off);
-        w += 1;
     }
 }
 
@@ -63,10 +59,8 @@ fn set_row(m: &mut [u64], i: usize, s: &[u64; SET_WORDS])
     requires { (i < row_limit) × (set_words * i + set_words ≤ length m.old) }
     ensures { (q j : ℕ) → q < row_limit → j < row_limit → meets m.new q j ≡ cond (eqb q i) (member s.now j) (meets m.old q j) }
 {
-    let mut w = 0;
-    while w < SET_WORDS {
+    for w in 0..SET_WORDS {
         m[SET_WORDS * i + w] = s[w];
-        w += 1;
     }
 }
 
@@ -75,10 +69,8 @@ pub fn set_rows(m: &mut [u64], n: usize, s: &[u64; SET_WORDS])
     requires { (n ≤ row_limit) × (set_words * n ≤ length m.old) }
     ensures { (i j : ℕ) → i < n → j < row_limit → meets m.new i j ≡ member s.now j }
 {
-    let mut i = 0;
-    while i < n {
+    for i in 0..n {
         set_row(m, i, s);
-        i += 1;
     }
 }
 
@@ -88,10 +80,6 @@ pub fn row_of(m: &[u64], i: usize) -> [u64; SET_WORDS]
     ensures { (j : ℕ) → j < row_limit → member result j ≡ meets m.now i j }
 {
     let mut r = [0u64; SET_WORDS];
-    let mut w = 0;
-    while w < SET_WORDS {
-        r[w] = m[SET_WORDS * i + w];
-        w += 1;
-    }
+    r.copy_from_slice(&m[SET_WORDS * i..SET_WORDS * i + SET_WORDS]);
     r
 }

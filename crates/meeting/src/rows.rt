@@ -53,12 +53,10 @@ pub fn some_met(m: &[u64], low: usize, high: usize) -> bool
     requires { (low ≤ high) × (high ≤ row_limit) × (set_words * high ≤ length m.now) }
     ensures { SomeMet m.now low high result }
 {
-    let mut i = low;
-    while i < high {
+    for i in low..high {
         if first_met(m, i) < low {
             return true;
         }
-        i += 1;
     }
     false
 }

@@ -33,10 +33,8 @@ fn arguments(
     requires { StandingArgs t.now a.now (member s.now) n deep cur.old × Roomy (member s.now) (length m.old) × (length t.now ≡ decoded_length) }
     ensures { (g : StandingArgs t.now a.now (member s.now) n deep cur.old) → ArgsVisited g cur.new m.old m.new }
 {
-    let mut j = 0;
-    while j < n {
+    for _j in 0..n {
         visit(t, a, s, deep, cur, m);
-        j += 1;
     }
 }
 

@@ -3,13 +3,16 @@ use mathlib.Core.Path.{◌≡◌, refl, sym, ap, ◌∙◌}
 use mathlib.Core.List.{List, [], ◌∷◌}
 use mathlib.Core.Bool.{Bool, true, false, ◌&&◌, cond}
 use Prim.Native.Nat.{ℕ, suc, ◌+◌, ◌-◌, ◌≤◌, ◌<◌}
+use native.Mathlib.Decide.{dec_le}
 use native.Mathlib.Numerals.{add-one}
 use native.Mathlib.Omega.{arith}
-use lib.Dec.{eqb, leb}
+use lib.Dec.{eqb, leb, ltb}
+use Rattle.std.specs.Prelude.{Option as Answer, Some, None, unwrap_or, position}
+use Rattle.std.specs.List.{position_or_len}
 use lib.ListN.{length, drop, get_or, length-drop}
 use lib.Seq.{drop-cons}
 use Rattle.signature.proofs.Booleans.{and_false}
-use Rattle.signature.proofs.Tests.{eqb_eq, leb_yes, leb_no, le_of}
+use Rattle.signature.proofs.Tests.{eqb_eq, leb_yes, leb_no, ltb_yes, ltb_no, le_of}
 use Rattle.tree.specs.Run.{rise_to, place_of}
 
 -- no end behind the last
@@ -81,27 +84,17 @@ place_most v (e ∷ es) = go (leb v e) (place_most v es)
     go true h = omega arith
     go false h = omega arith
 
-module _ (v : ℕ) (es : List ℕ) where
-  abbrev pub Before : ℕ → Type 0
-  Before i = place_of v es ≡ i + place_of v (drop i es)
+place_len : (v : ℕ) (es : List ℕ) → position_or_len (λ e. leb v e) es ≡ place_of v es
+place_len v [] = refl
+place_len v (e ∷ es) = go (leb v e) refl (place_len v es)
+  where
+    go : (b : Bool) → leb v e ≡ b → position_or_len (λ d. leb v d) es ≡ place_of v es → position_or_len (λ d. leb v d) (e ∷ es) ≡ place_of v (e ∷ es)
+    go true q h = rw q
+    go false q h = rw (q, h) (omega arith)
 
-  pub before_first : Before 0
-  before_first = omega arith
-
-  module _ (i : ℕ) (h : Before i) where
-    module _ (l : i < length es) where
-      next_place : place_of v es ≡ i + cond (leb v (get_or es i 0)) 0 (suc (place_of v (drop (suc i) es)))
-      next_place = h ∙ ap (λ ds. i + place_of v ds) (drop-cons es i 0 l)
-
-      pub here : v ≤ get_or es i 0 → i ≡ place_of v es
-      here q = let z = rw (leb_yes v (get_or es i 0) q) at next_place in omega arith
-
-      pub before_next : get_or es i 0 < v → Before (i + 1)
-      before_next q = rw (add-one i) (let z = rw (leb_no v (get_or es i 0) q) at next_place in omega arith)
-
-    pub at_end : length es ≤ i → i ≤ length es → i ≡ place_of v es
-    at_end l m = sym (h ∙ go (drop i es) (length-drop i es))
-      where
-        go : (ds : List ℕ) → length ds ≡ length es - i → i + place_of v ds ≡ i
-        go [] q = omega arith
-        go (x ∷ ds) q = absurd (omega arith)
+pub place_found : (v : ℕ) (es : List ℕ) (place : Answer ℕ) (n : ℕ) → place ≡ position (λ e. leb v e) es → n ≡ unwrap_or place (length es) → n ≡ place_of v es
+place_found v es place n p q = q ∙ ap (λ o. unwrap_or o (length es)) p ∙ ap (λ k. unwrap_or (cond (ltb k (length es)) (Some k) None) (length es)) (place_len v es) ∙ go (dec_le (length es) (place_of v es))
+  where
+    go : Dec (length es ≤ place_of v es) → unwrap_or (cond (ltb (place_of v es) (length es)) (Some (place_of v es)) None) (length es) ≡ place_of v es
+    go (yes h) = rw (ltb_no (place_of v es) (length es) h) (omega (arith, place_most v es))
+    go (no h) = rw (ltb_yes (place_of v es) (length es) (omega arith))

@@ -6,21 +6,22 @@ use mathlib.Core.Option.{none, some}
 use mathlib.Core.Bool.{Bool, true, false, ◌&&◌}
 use Prim.Native.Nat.{ℕ, suc, ◌+◌, ◌-◌, ◌≤◌, ◌<◌}
 use native.Mathlib.Omega.{arith}
-use lib.Dec.{eqb, leb, ltb}
+use lib.Dec.{eqb}
 use lib.ListN.{length, drop, take, get_or, get_elem?, length-drop}
+use Rattle.std.specs.Prelude.{Some, None}
 use Rattle.signature.specs.Decoded.{Known, kind_of, first_of, count_of, constructors_of, unkinded}
 use Rattle.signature.specs.Limits.{kind_limit, level_base, last_level}
 use Rattle.signature.specs.Lists.{◌>>=◌, require, first, memb, split}
-use Rattle.signature.specs.Signature.{Signature, Constructor, heads, arguments_at, is_level, level_of, is_number_kind}
+use Rattle.signature.specs.Signature.{Constructor, heads, arguments_at, is_level, level_of, is_number_kind}
 use Rattle.signature.proofs.Heads.{Consecutive, consecutive_nil, consecutive_cons, consecutive_of, has_kind, constructor_of, constructor_arguments, level_is}
 use Rattle.signature.proofs.KnownFacts.{at_some, words_of, constructors, few_constructors, head_is, plain_kind}
 use Rattle.signature.proofs.LawfulFacts.{kinds_kind}
 use Rattle.signature.proofs.ListFacts.{at_getD, at_out, split_some, split_none}
 use Rattle.signature.proofs.SignatureBack.{is_kinds}
-use Rattle.signature.proofs.Tests.{bind_some, require_some, some_inj, le_of, same_some, true≢false, eqb_self, eqb_eq, eqb_no, leb_yes, leb_no, ltb_yes, ltb_no}
+use Rattle.signature.proofs.Tests.{same_some, true≢false, eqb_self, eqb_eq, eqb_no, leb_yes, leb_no, ltb_yes, ltb_no}
 use Rattle.tree.specs.Run.{rise_to, place_of}
 use Rattle.nodes.specs.Parts.{HeadByTable}
-use Rattle.nodes.specs.Step.{link_at, link_to, split_to, or_0}
+use Rattle.nodes.specs.Step.{link_at, link_to, split_to, leads}
 
 same_kinds : {table : List ℕ} (g : Known table) → g.decoded.n ≡ (words_of g).n
 same_kinds g = same_some g.decoded.n (words_of g).n _ g.decoded.kinds_are (is_kinds (words_of g).rises)
@@ -82,18 +83,18 @@ head_of {table} g c b h =
 
 -- the link at an index
 module _ (t : List ℕ) (i j : ℕ) where
-  pub no_link : length t ≤ j → 0 ≡ or_0 (link_at t i j)
+  pub no_link : length t ≤ j → None ≡ leads (link_at t i j)
   no_link m = rw (at_out t j m)
 
   module _ (m : j < length t) where
-    pub link_low : get_or t j 0 ≤ i → 0 ≡ or_0 (link_at t i j)
+    pub link_low : get_or t j 0 ≤ i → None ≡ leads (link_at t i j)
     link_low q = rw (at_getD t j m, ltb_no i (get_or t j 0) q)
 
     module _ (q : i < get_or t j 0) where
-      pub link_far : length t < get_or t j 0 - i → 0 ≡ or_0 (link_at t i j)
+      pub link_far : length t < get_or t j 0 - i → None ≡ leads (link_at t i j)
       link_far o = rw (at_getD t j m, ltb_yes i (get_or t j 0) q, leb_no (get_or t j 0 - i) (length t) o)
 
-      pub link_on : get_or t j 0 - i ≤ length t → get_or t j 0 - i ≡ or_0 (link_at t i j)
+      pub link_on : get_or t j 0 - i ≤ length t → Some (get_or t j 0 - i) ≡ leads (link_at t i j)
       link_on o = rw (at_getD t j m, ltb_yes i (get_or t j 0) q, leb_yes (get_or t j 0 - i) (length t) o)
 
 -- a node 2
@@ -101,7 +102,7 @@ level_out : {table : List ℕ} (g : Known table) (c : ℕ) → level_base ≤ c 
 level_out g c l = at_out g.sig c (omega (arith, few_constructors g))
 
 module _ {table : List ℕ} (g : Known table) (t : List ℕ) (i c : ℕ) where
-  pub at_level : level_base ≤ c → 0 ≡ or_0 (link_to g.sig t i c)
+  pub at_level : level_base ≤ c → None ≡ leads (link_to g.sig t i c)
   at_level l = rw (level_out g c l)
 
   module _ (l : c < level_base) (s : HeadByTable table c) where
@@ -111,7 +112,7 @@ module _ {table : List ℕ} (g : Known table) (t : List ℕ) (i c : ℕ) where
     no_words d (x ∷ (y ∷ [])) e h = rw e
     no_words d (x ∷ (y ∷ (z ∷ ws))) e h = absurd (omega arith)
 
-    pub link_short : length t < 3 → 0 ≡ or_0 (link_to g.sig t i c)
+    pub link_short : length t < 3 → None ≡ leads (link_to g.sig t i c)
     link_short h = let o = head_of g c l s in rw (no_words o.head t o.there h)
 
     module _ (h : 3 ≤ length t) where
@@ -125,14 +126,14 @@ module _ {table : List ℕ} (g : Known table) (t : List ℕ) (i c : ℕ) where
         pub first_low : f ≤ c
         first_low = omega (arith, ef ∙ ap (first_of table) ek, (head_of g c l s).low)
 
-        pub wrong_first : (get_or t 1 0 ≡ f → ⊥) → 0 ≡ or_0 (link_to g.sig t i c)
+        pub wrong_first : (get_or t 1 0 ≡ f → ⊥) → None ≡ leads (link_to g.sig t i c)
         wrong_first e = let o = head_of g c l s in rw (compared o.head o.there, f_is o, eqb_no (get_or t 1 0) f e)
 
         module _ (a : get_or t 1 0 ≡ f) (n : ℕ) (en : n ≡ count_of table k) where
           n_is : (o : Head g c) → length (heads g.sig o.head.kind) ≡ n
           n_is o = sym (en ∙ ap (count_of table) ek ∙ o.count_is)
 
-          pub wrong_count : (get_or t 2 0 ≡ n → ⊥) → 0 ≡ or_0 (link_to g.sig t i c)
+          pub wrong_count : (get_or t 2 0 ≡ n → ⊥) → None ≡ leads (link_to g.sig t i c)
           wrong_count e = let o = head_of g c l s in rw (compared o.head o.there, f_is o, a, eqb_self f, n_is o, eqb_no (get_or t 2 0) n e)
 
           pub linked : get_or t 2 0 ≡ n → link_to g.sig t i c ≡ link_at t i (3 + (c - f))
@@ -143,16 +144,16 @@ pub ends_part : (t : List ℕ) (k : ℕ) → take (2 + k - 2) (drop 2 t) ≡ tak
 ends_part t k = let q : 2 + k - 2 ≡ k = omega arith in rw q
 
 module _ (t : List ℕ) (i c : ℕ) where
-  pub below_level : c < level_base → 0 ≡ or_0 (split_to t i c)
+  pub below_level : c < level_base → None ≡ leads (split_to t i c)
   below_level l = rw (leb_no level_base c l)
 
   module _ (low : level_base ≤ c) where
-    pub above_level : level_base + last_level < c → 0 ≡ or_0 (split_to t i c)
+    pub above_level : level_base + last_level < c → None ≡ leads (split_to t i c)
     above_level l = rw (leb_yes level_base c low, leb_no c (level_base + last_level) l)
 
     module _ (high : c ≤ level_base + last_level) where
-      pub split_short : length t < 2 → 0 ≡ or_0 (split_to t i c)
-      split_short l = rw (leb_yes level_base c low, leb_yes c (level_base + last_level) high) (ap or_0 (sym (go t l)))
+      pub split_short : length t < 2 → None ≡ leads (split_to t i c)
+      split_short l = rw (leb_yes level_base c low, leb_yes c (level_base + last_level) high) (ap leads (sym (go t l)))
         where
           go : (t : List ℕ) → length t < 2 → (get_elem? t 1 >>= λ n. split n (drop 2 t) >>= λ r. require (rise_to last_level 0 r.0) >>= λ u. link_at t i (2 + n + place_of (level_of c) r.0)) ≡ none
           go [] h = refl
@@ -163,39 +164,15 @@ module _ (t : List ℕ) (i c : ℕ) where
         ends_at : split_to t i c ≡ (split k (drop 2 t) >>= λ r. require (rise_to last_level 0 r.0) >>= λ u. link_at t i (2 + k + place_of (level_of c) r.0))
         ends_at = rw (leb_yes level_base c low, leb_yes c (level_base + last_level) high, at_getD t 1 (omega arith), ← ek)
 
-        pub ends_short : length t - 2 < k → 0 ≡ or_0 (split_to t i c)
+        pub ends_short : length t - 2 < k → None ≡ leads (split_to t i c)
         ends_short l = rw (ends_at, split_none k (drop 2 t) (simp length-drop (omega arith)))
 
         module _ (room : k ≤ length t - 2) (es : List ℕ) (are : es ≡ take k (drop 2 t)) where
           ends_are : split_to t i c ≡ (require (rise_to last_level 0 es) >>= λ u. link_at t i (2 + k + place_of (level_of c) es))
           ends_are = rw (ends_at, split_some k (drop 2 t) (simp length-drop (omega arith)), ← are)
 
-          pub ends_wrong : rise_to last_level 0 es ≡ false → 0 ≡ or_0 (split_to t i c)
+          pub ends_wrong : rise_to last_level 0 es ≡ false → None ≡ leads (split_to t i c)
           ends_wrong q = rw (ends_are, q)
 
           pub ends_right : rise_to last_level 0 es ≡ true → split_to t i c ≡ link_at t i (2 + k + place_of (level_of c) es)
           ends_right q = rw (ends_are, q)
-
--- a link leads on
-link_at_above : (t : List ℕ) (i j d : ℕ) → link_at t i j ≡ some d → 0 < d
-link_at_above t i j d e =
-    let (link, p₁, e₁) = bind_some (get_elem? t j) _ d e in
-    let (x₂, p₂, e₂) = bind_some (require (ltb i link)) _ d e₁ in
-    let (x₃, p₃, e₃) = bind_some (require (leb (link - i) (length t))) _ d e₂ in
-    omega (arith, le_of (suc i) link (require_some (ltb i link) x₂ p₂), some_inj (link - i) d e₃)
-
-pub link_above : (sig : Signature) (t : List ℕ) (i c d : ℕ) → link_to sig t i c ≡ some d → 0 < d
-link_above sig t i c d e =
-    let (x₁, p₁, e₁) = bind_some (get_elem? sig c) _ d e in
-    let (x₂, p₂, e₂) = bind_some (get_elem? t 1) _ d e₁ in
-    let (x₃, p₃, e₃) = bind_some (get_elem? t 2) _ d e₂ in
-    let (x₄, p₄, e₄) = bind_some (require (eqb x₂ (first (heads sig x₁.kind)) && eqb x₃ (length (heads sig x₁.kind)))) _ d e₃ in
-    link_at_above t i (3 + (c - x₂)) d e₄
-
-pub split_above : (t : List ℕ) (i c d : ℕ) → split_to t i c ≡ some d → 0 < d
-split_above t i c d e =
-    let (x₁, p₁, e₁) = bind_some (require (is_level c)) _ d e in
-    let (n, p₂, e₂) = bind_some (get_elem? t 1) _ d e₁ in
-    let (r, p₃, e₃) = bind_some (split n (drop 2 t)) _ d e₂ in
-    let (x₄, p₄, e₄) = bind_some (require (rise_to last_level 0 r.0)) _ d e₃ in
-    link_at_above t i (2 + n + place_of (level_of c) r.0) d e₄

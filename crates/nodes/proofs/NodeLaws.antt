@@ -3,10 +3,11 @@ use mathlib.Core.Path.{◌≡◌, refl, ap}
 use mathlib.Core.List.{List, ◌∷◌, ◌++◌}
 use mathlib.Core.Option.{Option, none, some}
 use mathlib.Core.Bool.{Bool, true, false, cond}
-use Prim.Native.Nat.{ℕ, ◌+◌, ◌≤◌, ◌<◌}
+use Prim.Native.Nat.{ℕ, ◌≤◌, ◌<◌}
 use native.Mathlib.Omega.{arith}
 use lib.Dec.{eqb}
 use lib.ListN.{length, get_or, get_elem?}
+use Rattle.std.specs.Prelude.{Option as Answer}
 use Rattle.signature.specs.Decoded.{Starts}
 use Rattle.signature.specs.Lawful.{OfKind, of_kind, OfKinds, of_kinds_nil, of_kinds_cons}
 use Rattle.signature.specs.Signature.{arguments_at}
@@ -14,9 +15,9 @@ use Rattle.signature.specs.Value.{Values, vnil, vcons, con, size, codes}
 use Rattle.signature.proofs.ListFacts.{at_getD, at_out}
 use Rattle.signature.proofs.Tests.{eqb_no}
 use Rattle.nodes.specs.Parts.{Parts, HeadByTable}
-use Rattle.nodes.specs.Step.{default_step, link_to, split_to, or_0, link_step, step_on, step_at}
+use Rattle.nodes.specs.Step.{default_step, link_to, split_to, leads, link_step, step_on, step_at}
 use Rattle.nodes.specs.declared.node.Step.TheVariants.{Default, Hit, On, Broken}
-use Rattle.nodes.proofs.LinkLaws.{stands, link_above, split_above}
+use Rattle.nodes.proofs.LinkLaws.{stands}
 
 -- a default leaf
 pub default_cut : (t : List ℕ) → length t < 2 → Broken ≡ default_step (get_elem? t 1)
@@ -25,10 +26,10 @@ default_cut t h = rw (at_out t 1 (omega arith))
 pub default_whole : (t : List ℕ) → 2 ≤ length t → Default (get_or t 1 0) ≡ default_step (get_elem? t 1)
 default_whole t h = rw (at_getD t 1 (omega arith))
 
--- a link that is followed leads on
-step_same : (d : ℕ) (o : Option ℕ) → ((x : ℕ) → o ≡ some x → 0 < x) → d ≡ or_0 o → step_on d ≡ link_step o
-step_same d none f q = rw q
-step_same d (some x) f q = let z : ¬ (x ≡ 0) = λ y. omega (arith, f x refl) in rw (q, eqb_no x 0 z)
+-- a link that is followed
+step_same : (d : Answer ℕ) (o : Option ℕ) → d ≡ leads o → step_on d ≡ link_step o
+step_same d none q = rw q
+step_same d (some x) q = rw q
 
 -- the first part left
 pub record Front {table b : List ℕ} (p : Parts table b) : Type 0 where
@@ -83,11 +84,11 @@ module _ {table b : List ℕ} (p : Parts table b) where
       pub node_hit : get_or t 0 0 ≡ 1 → length b ≤ 0 → Hit ≡ step_at p.known.sig t i p.values
       node_hit e l = rw (word, e, none_left l)
 
-      pub node_test : get_or t 0 0 ≡ 2 → 0 < length b → (d : ℕ) → d ≡ or_0 (link_to p.known.sig t i (get_or b 0 0)) → step_on d ≡ step_at p.known.sig t i p.values
-      node_test e l d q = rw (word, e, (front l).values_are) (step_same d (link_to p.known.sig t i (front l).head) (link_above p.known.sig t i (front l).head) (rw (head_is l) at q))
+      pub node_test : get_or t 0 0 ≡ 2 → 0 < length b → (d : Answer ℕ) → d ≡ leads (link_to p.known.sig t i (get_or b 0 0)) → step_on d ≡ step_at p.known.sig t i p.values
+      node_test e l d q = rw (word, e, (front l).values_are) (step_same d (link_to p.known.sig t i (front l).head) (rw (head_is l) at q))
 
-      pub node_split : get_or t 0 0 ≡ 4 → 0 < length b → (d : ℕ) → d ≡ or_0 (split_to t i (get_or b 0 0)) → step_on d ≡ step_at p.known.sig t i p.values
-      node_split e l d q = rw (word, e, (front l).values_are) (step_same d (split_to t i (front l).head) (split_above t i (front l).head) (rw (head_is l) at q))
+      pub node_split : get_or t 0 0 ≡ 4 → 0 < length b → (d : Answer ℕ) → d ≡ leads (split_to t i (get_or b 0 0)) → step_on d ≡ step_at p.known.sig t i p.values
+      node_split e l d q = rw (word, e, (front l).values_are) (step_same d (split_to t i (front l).head) (rw (head_is l) at q))
 
       pub node_skip : get_or t 0 0 ≡ 3 → (l : 0 < length b) → (m : ℕ) → m ≡ size (con (front l).head (front l).under) → On 1 m ≡ step_at p.known.sig t i p.values
       node_skip e l m q = rw (word, e, (front l).values_are) (ap (On 1) q)

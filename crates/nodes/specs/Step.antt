@@ -1,5 +1,5 @@
 -- 01, Tree: what one node asks for, by the words of the tree from the node on.
-use Rattle.std.specs.Prelude.{List, ◌&&◌, cond, ℕ, ◌+◌, ◌-◌, leb, eqb, ltb, length, drop}
+use Rattle.std.specs.Prelude.{List, ◌&&◌, cond, ℕ, ◌+◌, ◌-◌, leb, eqb, ltb, length, drop, Option as Answer, Some, None}
 use Rattle.std.proofs.Math.Option.{Option, some, none}
 use Rattle.std.proofs.Math.ListN.{get_elem?}
 use Rattle.signature.specs.Limits.{last_level}
@@ -36,17 +36,19 @@ split_to t i c = do
   _ ← require (rise_to last_level 0 r.0)
   link_at t i (2 + n + place_of (level_of c) r.0)
 
-abbrev pub or_0 : Option ℕ → ℕ
-or_0 none = 0
-or_0 (some d) = d
+-- how far a link leads on, or that there is none to follow
+abbrev pub leads : Option ℕ → Answer ℕ
+leads none = None
+leads (some d) = Some d
 
 abbrev pub link_step : Option ℕ → Step
 link_step none = Broken
 link_step (some d) = On d 1
 
--- the same, with 0 for none
-abbrev pub step_on : ℕ → Step
-step_on d = cond (eqb d 0) Broken (On d 1)
+-- the same by what the code found
+abbrev pub step_on : Answer ℕ → Step
+step_on None = Broken
+step_on (Some d) = On d 1
 
 -- the default leaf answers with its plan, where that lies in the slice
 abbrev pub default_step : Option ℕ → Step

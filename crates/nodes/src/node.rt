@@ -5,7 +5,7 @@ ghost use Rattle.signature.specs.Decoded.{Known};
 ghost use Rattle.signature.specs.Limits.{last_level};
 ghost use Rattle.tree.specs.Run.{place_of, rise_to};
 ghost use Rattle.nodes.specs.Parts.{Parts, HeadByTable};
-ghost use Rattle.nodes.specs.Step.{default_step, link_at, link_to, or_0, split_to, step_at, step_on};
+ghost use Rattle.nodes.specs.Step.{default_step, link_at, link_to, leads, split_to, step_at, step_on};
 
 use booking::walk;
 use signature::decoded;
@@ -21,43 +21,43 @@ pub enum Step {
     Broken,
 }
 
-// How far the link at index j leads on from its node; 0 where there is none to follow.
-fn link(t: &[u16], node: usize, j: usize) -> usize
-    ensures { result ≡ or_0 (link_at t.now node j) }
+// How far the link at index j leads on from its node; None where there is none to follow.
+fn link(t: &[u16], node: usize, j: usize) -> Option<usize>
+    ensures { result ≡ leads (link_at t.now node j) }
 {
     if t.len() <= j {
-        return 0;
+        return None;
     }
     let to = t[j] as usize;
     if to <= node {
-        return 0;
+        return None;
     }
     let d = to - node;
     if t.len() < d {
-        return 0;
+        return None;
     }
-    d
+    Some(d)
 }
 
-// How far the link for the constructor c leads on from its node; 0 where there is none to follow, as at a level.
-fn follow(table: &[u16], t: &[u16], node: usize, c: u16) -> usize
+// How far the link for the constructor c leads on from its node; None where there is none to follow, as at a level.
+fn follow(table: &[u16], t: &[u16], node: usize, c: u16) -> Option<usize>
     requires known { Known table.now }
     requires head_by_table { HeadByTable table.now c }
-    ensures { (g : Known table.now) → result ≡ or_0 (link_to g.sig t.now node c) }
+    ensures { (g : Known table.now) → result ≡ leads (link_to g.sig t.now node c) }
 {
     if c >= LEVEL_BASE {
-        return 0;
+        return None;
     }
     if t.len() < TEST_WORDS {
-        return 0;
+        return None;
     }
     let k = decoded::kind_of(table, c as usize) as usize;
     let first = decoded::first_of(table, k);
     if t[1] != first {
-        return 0;
+        return None;
     }
     if t[2] != decoded::count_of(table, k) {
-        return 0;
+        return None;
     }
     link(t, node, TEST_WORDS + (c - first) as usize)
 }
@@ -70,18 +70,15 @@ fn rises(es: &[u16]) -> bool
         return false;
     }
     let last = es.len() - 1;
-    let mut i = 0;
     let mut least = 0;
-    while i < last {
-        let e = es[i];
-        if e < least {
+    for e in &es[..last] {
+        if *e < least {
             return false;
         }
-        if e >= LAST_LEVEL {
+        if *e >= LAST_LEVEL {
             return false;
         }
-        least = e + 1;
-        i += 1;
+        least = *e + 1;
     }
     es[last] == LAST_LEVEL
 }
@@ -90,36 +87,29 @@ fn rises(es: &[u16]) -> bool
 fn place(es: &[u16], v: u16) -> usize
     ensures { result ≡ place_of v es.now }
 {
-    let mut i = 0;
-    while i < es.len() {
-        if v <= es[i] {
-            return i;
-        }
-        i += 1;
-    }
-    i
+    es.iter().position(|e| v <= *e).unwrap_or(es.len())
 }
 
-// How far the link for the level c leads on from its node; 0 where there is none to follow, as at a constructor.
-fn split(t: &[u16], node: usize, c: u16) -> usize
-    ensures { result ≡ or_0 (split_to t.now node c) }
+// How far the link for the level c leads on from its node; None where there is none to follow, as at a constructor.
+fn split(t: &[u16], node: usize, c: u16) -> Option<usize>
+    ensures { result ≡ leads (split_to t.now node c) }
 {
     if c < LEVEL_BASE {
-        return 0;
+        return None;
     }
     if c > LEVEL_BASE + LAST_LEVEL {
-        return 0;
+        return None;
     }
     if t.len() < SPLIT_WORDS {
-        return 0;
+        return None;
     }
     let k = t[1] as usize;
     if t.len() - SPLIT_WORDS < k {
-        return 0;
+        return None;
     }
     let es = &t[SPLIT_WORDS..SPLIT_WORDS + k];
     if !rises(es) {
-        return 0;
+        return None;
     }
     link(t, node, SPLIT_WORDS + k + place(es, c - LEVEL_BASE))
 }
@@ -135,13 +125,13 @@ fn default_at(t: &[u16]) -> Step
 }
 
 // One word on in the booking and so many in the tree, where there is a link to follow.
-fn step_on(d: usize) -> Step
+fn step_on(d: Option<usize>) -> Step
     ensures { result ≡ step_on d }
 {
-    if d == 0 {
-        return Step::Broken;
+    match d {
+        Some(tree) => Step::On { tree, book: 1 },
+        None => Step::Broken,
     }
-    Step::On { tree: d, book: 1 }
 }
 
 pub fn at_node(table: &[u16], t: &[u16], node: usize, b: &[u16]) -> Step

@@ -9,21 +9,21 @@ use native.Mathlib.Omega.{arith}
 use lib.Dec.{leb}
 use lib.ListN.{length, drop, take, set, length-append, length-set, take-append-drop}
 use lib.Seq.{take_all, take-suc-set, drop-set-lt, drop-drop, length-take-le}
+use Rattle.std.specs.Prelude.{Some, None}
 use Rattle.signature.specs.Lists.{◌>>=◌, require}
 use Rattle.signature.proofs.Tests.{leb_yes, leb_no, some_inj, none≢some}
 use Rattle.text.specs.Format.{fields, number, numbers, list_within}
 use Rattle.numbers.specs.Bytes.{bytes_before}
 use Rattle.numbers.specs.Lists.{count_of, Filled}
-use Rattle.numbers.specs.declared.list.Count.TheVariants.{Is, Broken}
 use Rattle.numbers.proofs.Spans.{fields_more, fields_last, before_most, to_end}
 
 -- what an answer says of the list
-pub count_none : (o : Option (List ℕ)) → count_of o ≡ Broken → o ≡ none
+pub count_none : (o : Option (List ℕ)) → count_of o ≡ None → o ≡ none
 count_none none e = refl
-count_none (some ns) e = absurd (let z : ◌≡◌ {A = ℕ} 0 1 = cc in omega arith)
+count_none (some ns) e = absurd cc
 
-pub count_some : (o : Option (List ℕ)) (n : ℕ) → count_of o ≡ Is n → (ns : List ℕ) × (o ≡ some ns) × (length ns ≡ n)
-count_some none n e = absurd (let z : ◌≡◌ {A = ℕ} 0 1 = cc in omega arith)
+pub count_some : (o : Option (List ℕ)) (n : ℕ) → count_of o ≡ Some n → (ns : List ℕ) × (o ≡ some ns) × (length ns ≡ n)
+count_some none n e = absurd cc
 count_some (some ns) n e = (ns, refl, cc)
 
 -- the list with these numbers before it
@@ -58,7 +58,7 @@ pub record Reading (limit : ℕ) (s t out₀ out : List ℕ) (n : ℕ) : Type 0 
   pub goes : list_within limit s ≡ list_from limit (take n out) t
 
 -- a list that is broken
-pub no_list : (o : Option (List ℕ)) (entry exit : List ℕ) → o ≡ none → (Broken ≡ count_of o) × Filled o entry exit
+pub no_list : (o : Option (List ℕ)) (entry exit : List ℕ) → o ≡ none → (None ≡ count_of o) × Filled o entry exit
 no_list o entry exit e = (sym (ap count_of e), λ ns f. none≢some (sym e ∙ f))
 
 pub reading_start : (limit : ℕ) (s out : List ℕ) → Reading limit s s out out 0
@@ -114,7 +114,7 @@ module _ {limit : ℕ} {s t out₀ out : List ℕ} {n : ℕ} (r : Reading limit 
           ∙ ap (λ ns. list_with limit ns (some [])) (sym one_more)
           ∙ rw (append-nil, leb_yes (length (take (n + 1) (set out n v))) limit (omega (arith, length-take-le (n + 1) (set out n v) (simp length-set (omega arith)))))
 
-      pub list_read : e ≡ length t → (Is (n + 1) ≡ count_of (list_within limit s)) × Filled (list_within limit s) out₀ (set out n v)
+      pub list_read : e ≡ length t → (Some (n + 1) ≡ count_of (list_within limit s)) × Filled (list_within limit s) out₀ (set out n v)
       list_read l =
           let long : length (take (n + 1) (set out n v)) ≡ n + 1 = length-take-le (n + 1) (set out n v) (simp length-set (omega arith)) in
-          (ap Is (sym long) ∙ ap count_of (sym (list_is l)), λ ns f. let w : take (n + 1) (set out n v) ≡ ns = some_inj (take (n + 1) (set out n v)) ns (sym (list_is l) ∙ f) in rw (← w, long, ← still) (sym (take-append-drop (n + 1) (set out n v))))
+          (ap Some (sym long) ∙ ap count_of (sym (list_is l)), λ ns f. let w : take (n + 1) (set out n v) ≡ ns = some_inj (take (n + 1) (set out n v)) ns (sym (list_is l) ∙ f) in rw (← w, long, ← still) (sym (take-append-drop (n + 1) (set out n v))))

@@ -1,13 +1,11 @@
 -- Lists of numbers that were read, and where they stand.
-use Rattle.std.specs.Prelude.{◌≡◌, List, ◌++◌, ℕ, length, drop}
+use Rattle.std.specs.Prelude.{◌≡◌, List, ◌++◌, ℕ, length, drop, Option as Answer, Some, None}
 use Rattle.std.proofs.Math.Option.{Option, none, some}
-use Rattle.numbers.specs.declared.list.Count.{Count}
-use Rattle.numbers.specs.declared.list.Count.TheVariants.{Is, Broken}
 
 -- how many numbers were read, or that the format is broken
-abbrev pub count_of : Option (List ℕ) → Count
-count_of none = Broken
-count_of (some ns) = Is (length ns)
+abbrev pub count_of : Option (List ℕ) → Answer ℕ
+count_of none = None
+count_of (some ns) = Some (length ns)
 
 -- the numbers that were read stand first, and the rest is untouched
 abbrev pub Filled : Option (List ℕ) → List ℕ → List ℕ → Type 0

@@ -12,29 +12,12 @@ pub const SPACE: u8 = 32;
 pub fn span(s: &[u8], c: u8) -> usize
     ensures { result ≡ bytes_before c s.now }
 {
-    let mut i = 0;
-    while i < s.len() {
-        if s[i] == c {
-            return i;
-        }
-        i += 1;
-    }
-    i
+    s.iter().position(|b| *b == c).unwrap_or(s.len())
 }
 
 // Whether the bytes begin with the key.
 pub fn starts(s: &[u8], key: &[u8]) -> bool
     ensures { result ≡ is_some (after_key key.now s.now) }
 {
-    let mut i = 0;
-    while i < key.len() {
-        if s.len() <= i {
-            return false;
-        }
-        if s[i] != key[i] {
-            return false;
-        }
-        i += 1;
-    }
-    true
+    s.starts_with(key)
 }

@@ -4,18 +4,10 @@ ghost use Rattle.text.specs.Format.{list_within};
 ghost use Rattle.numbers.specs.Lists.{count_of, Filled};
 
 use crate::bytes::SPACE;
-use crate::number::Word;
 use crate::{bytes, number};
 
-// How many numbers.
-#[derive(Clone, Copy)]
-pub enum Count {
-    Is(usize),
-    Broken,
-}
-
-// The numbers stand first in out, the rest is untouched; of a list that is broken, out has any words.
-pub fn list(s: &[u8], limit: usize, out: &mut [u16]) -> Count
+// How many numbers, None where the list is broken. They stand first in out, the rest is untouched; of a broken list, out has any words.
+pub fn list(s: &[u8], limit: usize, out: &mut [u16]) -> Option<usize>
     requires { limit ≤ length out.old }
     ensures { (result ≡ count_of (list_within limit s.now)) × Filled (list_within limit s.now) out.old out.new }
 {
@@ -23,16 +15,14 @@ pub fn list(s: &[u8], limit: usize, out: &mut [u16]) -> Count
     let mut n = 0;
     loop {
         if n == limit {
-            return Count::Broken;
+            return None;
         }
         let e = bytes::span(t, SPACE);
-        let Word::Is(v) = number::number(&t[..e]) else {
-            return Count::Broken;
-        };
+        let v = number::number(&t[..e])?;
         out[n] = v;
         n += 1;
         if e == t.len() {
-            return Count::Is(n);
+            return Some(n);
         }
         let from = e + 1;
         t = &t[from..];

@@ -2,6 +2,8 @@
 use mathlib.Core.Path.{◌≡◌, refl, sym, ap, subst, ◌∙◌}
 use mathlib.Core.List.{List}
 use mathlib.Core.Option.{none, some}
+use Rattle.builder.specs.Build.{row_room}
+use Rattle.loading.specs.Add.{rows_room}
 use mathlib.Core.Bool.{Bool, true, false}
 use Prim.Native.Nat.{ℕ, ◌≤◌}
 use native.Mathlib.Omega.{arith}
@@ -16,9 +18,10 @@ use Rattle.table.specs.Calls.{start, on_signature, on_sound, long_table}
 use Rattle.table.specs.Rule.{Rule}
 use Rattle.table.specs.Sound.{sound}
 use Rattle.loading.specs.Load.{GivenLoad, Ready, LoadedAs}
-use Rattle.loading.specs.declared.load.Loaded.{Loaded}
-use Rattle.loading.specs.declared.load.Loaded.TheVariants.{Sound, Unsound, NoRoom}
-use Rattle.opening.specs.Open.{Lawful, BeginsAs, OpenedAs}
+use Rattle.std.specs.Prelude.{Option, Some, None, IsSome, Result, Ok, Err}
+use Rattle.loading.specs.declared.add.LoadError.{LoadError}
+use Rattle.loading.specs.declared.add.LoadError.TheVariants.{Unsound, NoRoom}
+use Rattle.opening.specs.Open.{Lawful, BeginsAs, OpenedAs, SoundAs}
 
 -- a refusal's number is not 0
 other : (n : ℕ) → 1 ≤ n → {A : Type 0} → n ≡ 0 → A
@@ -39,29 +42,33 @@ pub goes_on : {ss t : List ℕ} (o : Lawful ss t) (long : Bool) (table : List �
 goes_on o long table e = rw (o.read, e)
 
 -- what a load tells
-pub loosely : (P : Type 0) (sig : Signature) (table : List ℕ) (r : Loaded) (rows : List ℕ) → LoadedAs P sig table r rows → LoadedAs (Unit {0}) sig table r rows
-loosely P sig table NoRoom rows h = tt
-loosely P sig table Unsound rows h = h
-loosely P sig table (Sound used total) rows h = h
-
-module _ (P : Type 0) (sig : Signature) (table : List ℕ) (r : Loaded) (rows : List ℕ) (h : LoadedAs P sig table r rows) where
-  said_of : (z : Loaded) → r ≡ z → LoadedAs P sig table z rows
+module _ (P : Type 0) (sig : Signature) (table : List ℕ) (r : Result (ℕ × ℕ) LoadError) (rows : List ℕ) (h : LoadedAs P sig table r rows) where
+  said_of : (z : Result (ℕ × ℕ) LoadError) → r ≡ z → LoadedAs P sig table z rows
   said_of z e = subst (λ z. LoadedAs P sig table z rows) e h
 
-  pub loaded_sound : (used total : ℕ) → r ≡ Sound used total → (rs : List Rule) × (sound limits sig table ≡ some rs) × Ready sig rs used total rows
-  loaded_sound used total e = said_of (Sound used total) e
+  pub loaded_sound : (x : ℕ × ℕ) → r ≡ Ok x → (rs : List Rule) × (sound limits sig table ≡ some rs) × Ready sig rs x.0 x.1 rows
+  loaded_sound x e = said_of (Ok x) e
 
-  pub loaded_unsound : r ≡ Unsound → sound limits sig table ≡ none
-  loaded_unsound e = said_of Unsound e
+  pub loaded_unsound : r ≡ Err Unsound → sound limits sig table ≡ none
+  loaded_unsound e = said_of (Err Unsound) e
 
-  pub loaded_none : r ≡ NoRoom → P
-  loaded_none e = said_of NoRoom e
+  pub loaded_none : r ≡ Err NoRoom → P
+  loaded_none e = said_of (Err NoRoom) e
 
-  pub told_sound : (used total : ℕ) → r ≡ Sound used total → true ≡ is_some (sound limits sig table)
-  told_sound used total e = sym (ap is_some (loaded_sound used total e).1)
+  pub told_sound : (x : ℕ × ℕ) → r ≡ Ok x → true ≡ is_some (sound limits sig table)
+  told_sound x e = sym (ap is_some (loaded_sound x e).1)
 
-  pub told_unsound : r ≡ Unsound → false ≡ is_some (sound limits sig table)
+  pub told_unsound : r ≡ Err Unsound → false ≡ is_some (sound limits sig table)
   told_unsound e = sym (ap is_some (loaded_unsound e))
+
+-- the answer with arrays of any size, and that there is one where they are the largest
+module _ (sig : Signature) (table : List ℕ) where
+  pub sound_so : (n m : ℕ) (r : Option Bool) → SoundAs n m sig table r → (b : Bool) → r ≡ Some b → b ≡ is_some (sound limits sig table)
+  sound_so n m r h b e = subst (SoundAs n m sig table) e h
+
+  pub always : (r : Option Bool) → SoundAs rows_room row_room sig table r → IsSome r
+  always None h = absurd (h (omega arith) (omega arith))
+  always (Some b) h = refl
 
 module _ (ss table t : List ℕ) (r : ℕ) (b : BeginsAs ss (long_table limits table) r t) where
   pub refused_early : (r ≡ 0 → ⊥) → OpenedAs ss table r t

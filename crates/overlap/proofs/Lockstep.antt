@@ -1,5 +1,5 @@
 -- Two rows in lockstep, of which nothing is written.
-use mathlib.Core.Path.{◌≡◌, refl, ap, sym}
+use mathlib.Core.Path.{◌≡◌, refl}
 use mathlib.Core.List.{List}
 use mathlib.Core.Option.{Option, none, some}
 use mathlib.Core.Bool.{true, false}
@@ -9,8 +9,7 @@ use lib.ListN.{length, replicate, length-replicate, length-append}
 use Rattle.signature.specs.Lists.{is_some}
 use Rattle.cell.specs.declared.cell.Cell.{Cell}
 use Rattle.cell.specs.declared.cell.Cursor.{Cursor}
-use Rattle.cell.specs.declared.cell.Out.{Out}
-use Rattle.cell.specs.declared.cell.Out.TheVariants.{Dropped, Kept}
+use Rattle.std.specs.Prelude.{None, Some}
 use Rattle.sets.specs.Heads.{number_of}
 use Rattle.cell.specs.Cell.{kind_tag, Kinds}
 use Rattle.cell.specs.Coded.{row_code, row_code_of}
@@ -18,6 +17,7 @@ use Rattle.signature.specs.Decoded.{decoded_length}
 use Rattle.cell.specs.Cursor.{put_cell, next_of, look_at, join_of, opens_of}
 use Rattle.cell.specs.Lockstep.{GivenRows, Result}
 use Rattle.row.specs.Row.{Row, combine}
+use Rattle.cell.proofs.RowListFacts.{not_both}
 use Rattle.cell.proofs.LockstepFacts.{Given, as_cells, of_rows}
 use Rattle.cell.proofs.Turns as Turns
 use Rattle.cell.proofs.Turns.{Turned, Front, start, finish, front, known_of, turned, out_of, again, less}
@@ -52,20 +52,13 @@ pub begin : {ar a b : List ℕ} (g : TwoRows ar a b) → Now g Turns.zero_cursor
 begin g = (0, spare g, start (given g))
 
 -- the answer
-apart : (n : ℕ) → Kept n ≡ Dropped → ⊥
-apart n e = omega (arith, ap kept e)
-  where
-    kept : Out → ℕ
-    kept (Kept n) = 1
-    kept Dropped = 0
-
-kept_some : (K : Kinds) (k n : ℕ) (m : Option Row) (o o' : List ℕ) → Result (row_code_of K k m) (Kept n) o o' → true ≡ is_some m
-kept_some K k n none o o' h = absurd (apart n h)
+kept_some : (K : Kinds) (k n : ℕ) (m : Option Row) (o o' : List ℕ) → Result (row_code_of K k m) (Some n) o o' → true ≡ is_some m
+kept_some K k n none o o' h = absurd (not_both {res = Some n} refl h)
 kept_some K k n (some t) o o' h = refl
 
-dropped_none : (K : Kinds) (k : ℕ) (m : Option Row) (o o' : List ℕ) → Result (row_code_of K k m) Dropped o o' → false ≡ is_some m
+dropped_none : (K : Kinds) (k : ℕ) (m : Option Row) (o o' : List ℕ) → Result (row_code_of K k m) None o o' → false ≡ is_some m
 dropped_none K k none o o' h = refl
-dropped_none K k (some t) o o' h = absurd (apart _ (sym h.0))
+dropped_none K k (some t) o o' h = absurd (not_both h.0 refl)
 
 spare_length : {ar a b : List ℕ} (g : TwoRows ar a b) → length (spare g) ≤ length a + length b
 spare_length g = rw (length-replicate, g.code_a, g.code_b) (simp length-append (omega arith))

@@ -15,12 +15,10 @@ pub fn with_least(t: &[u16], c: u16, out: &mut [u16]) -> usize
 {
     let n = head_arity(t, c) as usize;
     let mut at = 1;
-    let mut j = 0;
-    while j < n {
+    for j in 0..n {
         let k = argument_of(t, c as usize, j) as usize;
         let h = least_head_of(t, k);
         at += with_least(t, h, &mut out[at..]);
-        j += 1;
     }
     out[0] = c;
     at

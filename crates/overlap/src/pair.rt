@@ -4,7 +4,7 @@ ghost use Rattle.signature.specs.Lists.{is_some};
 ghost use Rattle.row.specs.Row.{combine};
 ghost use Rattle.overlap.specs.Pair.{TwoRows};
 
-use cell::cell::{Cursor, join, look, next, opens};
+use cell::cell::{START, join, look, next, opens};
 use sets::heads::is_empty;
 
 // Whether the two rows at the front of a and b are one row.
@@ -12,14 +12,8 @@ pub fn rows_meet(t: &[u16], a: &[u64], b: &[u64]) -> bool
     requires { TwoRows t.now a.now b.now }
     ensures { (g : TwoRows t.now a.now b.now) → result ≡ is_some (combine g.r g.s) }
 {
-    let mut x = Cursor {
-        at: 0,
-        wildcards: 0,
-    };
-    let mut y = Cursor {
-        at: 0,
-        wildcards: 0,
-    };
+    let mut x = START;
+    let mut y = START;
     let mut left = 1;
     while left > 0 {
         let p = look(a, x);

@@ -7,6 +7,7 @@ use Prim.Native.Nat.{ℕ, ◌+◌, ◌-◌, ◌≤◌}
 use native.Mathlib.Omega.{arith}
 use lib.ListN.{length, take, drop, set, length-append, length-drop}
 use lib.Seq.{take_at}
+use Rattle.std.specs.Prelude.{Option, Some, None}
 use Rattle.signature.specs.Decoded.{Known}
 use Rattle.signature.specs.Lists.{All, none_left, also, is_some}
 use Rattle.booking.proofs.PartLaws.{there}
@@ -20,8 +21,6 @@ use Rattle.pattern.specs.WellFormed.{PatternWords}
 use Rattle.pattern.proofs.PatternBack.{pattern_words}
 use Rattle.reading.specs.Ranges.{Readable}
 use Rattle.weighing.specs.Weighing.{weighed}
-use Rattle.weighing.specs.declared.weight.Weighed.{Weighed}
-use Rattle.weighing.specs.declared.weight.Weighed.TheVariants.{Light, Heavy}
 use Rattle.row.specs.Row.{Row, rows_plus}
 use Rattle.row.specs.RowFits.{place_count}
 use Rattle.row.proofs.Places.{plus_places}
@@ -39,14 +38,14 @@ use Rattle.meeting.specs.Rows.{Proper}
 use Rattle.pairs.specs.Held.{Holding, rows_room}
 
 -- what the weighing says of a pattern
-abbrev Says : Pattern → Weighed → Type 0
-Says p (Light w) = (light_plus p ≡ true) × (w ≡ weight_plus p)
-Says p Heavy = Unit {0}
+abbrev Says : Pattern → Option ℕ → Type 0
+Says p (Some w) = (light_plus p ≡ true) × (w ≡ weight_plus p)
+Says p None = Unit {0}
 
 says : (p : Pattern) → Says p (weighed p)
 says p = go (light_plus p) refl
   where
-    go : (b : Bool) → light_plus p ≡ b → Says p (cond b (Light (weight_plus p)) Heavy)
+    go : (b : Bool) → light_plus p ≡ b → Says p (cond b (Some (weight_plus p)) None)
     go true e = (e, refl)
     go false e = tt
 
@@ -60,7 +59,7 @@ module _ {t : List ℕ} (g : Known t) (ws : List ℕ) (b : Bool) (is : (k : Know
   pub readable : Readable ws
   readable = record { sig = g.sig; pattern = the_pattern.0; read = the_pattern.1 }
 
-  module _ (u : Bool) (u_is : (q : Readable ws) → u ≡ ranged q.pattern) (v : u ≡ true) (r : Weighed) (r_is : (q : Patterned t ws) → r ≡ weighed q.pattern) (w : ℕ) (light : r ≡ Light w) where
+  module _ (u : Bool) (u_is : (q : Readable ws) → u ≡ ranged q.pattern) (v : u ≡ true) (r : Option ℕ) (r_is : (q : Patterned t ws) → r ≡ weighed q.pattern) (w : ℕ) (light : r ≡ Some w) where
     ranged_so : ranged the_pattern.0 ≡ true
     unfolding readable
     ranged_so = sym (u_is readable) ∙ v

@@ -11,7 +11,7 @@ use reading::ranges::ranged;
 use reading::read::well_formed;
 use rowset::set::ROWS;
 use shown::file::size;
-use weighing::weight::{Weighed, weigh};
+use weighing::weight::weigh;
 
 // Room for as many rows as a set can have, and for those of one pattern.
 pub const ROOM: usize = ROWS * (1 + CELL * PATTERN_WORDS) + ROW_ROOM;
@@ -34,7 +34,7 @@ fn hold(t: &[u16], p: &[u16], s: Held, rows: &mut [u64], work: &mut [u64]) -> He
     if !ranged(p) {
         return s;
     }
-    let Weighed::Light(w) = weigh(t, p) else {
+    let Some(w) = weigh(t, p) else {
         return s;
     };
     let weight = s.weight + w as usize;

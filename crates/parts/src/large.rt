@@ -9,12 +9,10 @@ fn plain(out: &mut [u16], count: u16, each: u16)
     requires { (count < 1000) × (1 + 2 * count ≤ length out.old) × (1 ≤ each) }
 {
     out[0] = count;
-    let mut c: u16 = 0;
-    while c < count {
+    for c in 0..count {
         let row = 1 + 2 * (c as usize);
         out[row] = c / each;
         out[row + 1] = 0;
-        c += 1;
     }
 }
 
@@ -41,16 +39,6 @@ pub fn counts(rt: &impl Print) -> io::Result<()> {
     counted(rt, 56, 33, 1, 0)
 }
 
-fn fill(out: &mut [u16], from: usize, to: usize, w: u16)
-    requires { (from ≤ to) × (to ≤ length out.old) }
-{
-    let mut i = from;
-    while i < to {
-        out[i] = w;
-        i += 1;
-    }
-}
-
 // So many of the constructor w, one in the other, and behind them so many ones.
 fn nested(
     rt: &impl Print,
@@ -64,7 +52,7 @@ fn nested(
     requires { many + ones < 1026 }
 {
     let mut b = [1u16; 1025];
-    fill(&mut b, 0, many, w);
+    b[..many].fill(w);
     case(rt, n, s, front(&b, many + ones), place)
 }
 
@@ -87,10 +75,8 @@ fn run(i: usize) -> u16 {
 }
 
 fn runs(out: &mut [u16]) {
-    let mut i = 0;
-    while i < out.len() {
-        out[i] = run(i);
-        i += 1;
+    for (i, w) in out.iter_mut().enumerate() {
+        *w = run(i);
     }
 }
 
@@ -98,10 +84,9 @@ fn runs(out: &mut [u16]) {
 pub fn long(rt: &impl Print, n: usize, s: &[u16], twos: usize, place: usize) -> io::Result<()>
     requires { twos < 5 }
 {
-    let mut b = [0u16; 4097];
-    runs(&mut b);
+    let mut b = [2u16; 4097];
+    runs(&mut b[..4092]);
     let last = 4092 + twos;
-    fill(&mut b, 4092, last, 2);
-    fill(&mut b, last, last + 1, 1);
+    b[last] = 1;
     case(rt, n, s, front(&b, last + 1), place)
 }

@@ -5,38 +5,35 @@
 mod large;
 mod show;
 
-ghost use Rattle.std.specs.Prelude.{◌≤◌, length, IfOk};
+ghost use Rattle.std.specs.Prelude.{◌≤◌, ◌<◌, length, IfOk, IfSome};
 
 use shown::file::{read_words, size};
 use std::io;
 
 const WORDS: usize = 2048;
 
-// The first case of these words; how many words it has, 0 where there is none.
-fn first(rt: &impl Print, w: &[u16]) -> io::Result<usize>
-    ensures { IfOk result (λ n. n ≤ length w.now) }
+// The first case of these words; how many words it has, None where there is none.
+fn first(rt: &impl Print, w: &[u16]) -> io::Result<Option<usize>>
+    ensures { IfOk result (λ r. IfSome r (λ n. (0 < n) × (n ≤ length w.now))) }
 {
     if w.len() < 4 {
-        return Ok(0);
+        return Ok(None);
     }
     let s = 4 + size(w[2]);
     let e = s + size(w[3]);
     if w.len() < e {
-        return Ok(0);
+        return Ok(None);
     }
     show::case(rt, size(w[0]), &w[4..s], &w[s..e], size(w[1]))?;
-    Ok(e)
+    Ok(Some(e))
 }
 
 fn cases(rt: &impl Print, all: &[u16]) -> io::Result<()> {
     let mut w = all;
-    loop {
-        let n = first(rt, w)?;
-        if n == 0 {
-            return Ok(());
-        }
+    while let Some(n) = first(rt, w)? {
         w = &w[n..];
     }
+    Ok(())
 }
 
 fn main(rt: HostRuntime) -> io::Result<()> {

@@ -1,6 +1,6 @@
 -- What the code's word of a pattern is, and how many patterns follow it.
 use Rattle.std.specs.Prelude.{List, ℕ, ◌<◌}
-use Rattle.signature.specs.Decoded.{arity_of}
+use Rattle.signature.specs.Decoded.{arity_of, argument_of}
 use Rattle.signature.specs.Limits.{constructor_limit}
 use Rattle.pattern.specs.Limits.{variable_count}
 use Rattle.pattern.specs.Read.{Form, is_head, is_var, is_and, is_or, is_wild, is_absurd, is_not, is_range, is_other}
@@ -41,6 +41,18 @@ part_count t is_absurd = 0
 part_count t is_not = 1
 part_count t is_range = 0
 part_count t is_other = 0
+
+-- the kind of the j-th pattern behind a word that begins a pattern of kind k
+abbrev pub kind_behind : List ℕ → Form → ℕ → ℕ → ℕ
+kind_behind t (is_head c) k j = argument_of t c j
+kind_behind t (is_var x) k j = k
+kind_behind t is_and k j = k
+kind_behind t is_or k j = k
+kind_behind t is_wild k j = k
+kind_behind t is_absurd k j = k
+kind_behind t is_not k j = k
+kind_behind t is_range k j = k
+kind_behind t is_other k j = k
 
 -- a constructor's number is one that a table has a row for
 abbrev pub head_small : Form → Type 0

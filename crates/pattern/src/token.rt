@@ -1,9 +1,10 @@
 // What a word of a pattern is, and how many patterns follow it.
-ghost use Rattle.std.specs.Prelude.{◌≡◌, length};
+ghost use Rattle.std.specs.Prelude.{◌≡◌, ◌<◌, length};
 ghost use Rattle.signature.specs.Decoded.{decoded_length};
+ghost use Rattle.signature.specs.Limits.{argument_limit};
 ghost use Rattle.pattern.specs.Linearity.{side_of, behind};
 ghost use Rattle.pattern.specs.Read.{form};
-ghost use Rattle.pattern.specs.Word.{form_of, own_words, part_count, head_small};
+ghost use Rattle.pattern.specs.Word.{form_of, own_words, part_count, kind_behind, head_small};
 
 pub const LAST_HEAD: u16 = 255;
 
@@ -49,14 +50,20 @@ pub fn parts(t: &[u16], w: Word) -> u16
 {
     match w {
         Word::Head(c) => signature::decoded::arity_of(t, c as usize),
-        Word::And => 2,
-        Word::Or => 2,
-        Word::Wild => 0,
-        Word::Absurd => 0,
+        Word::And | Word::Or => 2,
         Word::Not => 1,
-        Word::Var(_x) => 0,
-        Word::Range => 0,
-        Word::Other => 0,
+        _ => 0,
+    }
+}
+
+// The kind of the `j`-th pattern behind a word that begins a pattern of kind `k`.
+pub fn part_kind(t: &[u16], w: Word, k: u16, j: usize) -> u16
+    requires { (length t.now ≡ decoded_length) × head_small (form_of w) × (j < argument_limit) }
+    ensures { result ≡ kind_behind t.now (form_of w) k j }
+{
+    match w {
+        Word::Head(c) => signature::decoded::argument_of(t, c as usize, j),
+        _ => k,
     }
 }
 
@@ -65,15 +72,8 @@ pub fn own_words(w: Word) -> usize
     ensures { result ≡ own_words (form_of w) }
 {
     match w {
-        Word::Head(_c) => 1,
-        Word::And => 1,
-        Word::Or => 1,
-        Word::Wild => 1,
-        Word::Absurd => 1,
-        Word::Not => 1,
-        Word::Var(_x) => 1,
         Word::Range => 3,
-        Word::Other => 1,
+        _ => 1,
     }
 }
 
@@ -82,14 +82,7 @@ pub fn side_behind(w: Word, plus: bool) -> bool
     ensures { side_of result ≡ behind (form_of w) (side_of plus) }
 {
     match w {
-        Word::Head(_c) => plus,
-        Word::And => plus,
-        Word::Or => plus,
-        Word::Wild => plus,
-        Word::Absurd => plus,
         Word::Not => !plus,
-        Word::Var(_x) => plus,
-        Word::Range => plus,
-        Word::Other => plus,
+        _ => plus,
     }
 }

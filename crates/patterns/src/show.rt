@@ -5,7 +5,6 @@ use matching::places::places;
 use matching::takes::takes;
 use shown::print;
 use std::io;
-use weighing::weight::Weighed;
 
 // The refusal of a pattern by itself: 7, 18, 8, 9, or 0 for none.
 fn refusal(t: &[u16], p: &[u16]) -> usize
@@ -20,9 +19,9 @@ fn refusal(t: &[u16], p: &[u16]) -> usize
     if !linearity::linear::linear(t, p) {
         return 8;
     }
-    let Weighed::Light(_n) = weighing::weight::weigh(t, p) else {
+    if weighing::weight::weigh(t, p).is_none() {
         return 9;
-    };
+    }
     0
 }
 

@@ -6,9 +6,9 @@ use Prim.Native.Nat.{ℕ, zero, suc, ◌+◌, ◌-◌, ◌%◌, ◌≤◌, ◌<�
 use native.Mathlib.Nat.{add-zero, zero-add, suc-add}
 use native.Mathlib.Omega.{arith}
 use lib.Dec.{eqb}
-use lib.ListN.{length, get_or, drop, take, set, replicate, length-append, length-replicate, length-drop, drop_of_length-le}
+use lib.ListN.{length, get_or, drop, take, replicate, length-replicate, length-drop, drop_of_length-le}
 use lib.Seq.{take_at, drop_at, take_all, drop-drop}
-use Rattle.signature.specs.Limits.{kind_limit}
+use Rattle.std.specs.Prelude.{None}
 use Rattle.sets.proofs.SetLaws.{bit_zero}
 use Rattle.signature.proofs.Tests.{eqb_no, true≢false}
 use Rattle.tree.proofs.RunFacts.{some_word}
@@ -50,18 +50,6 @@ wrote_skipped T b base u o ys l w =
           ∙ ap₂ (λ (x y : List ℕ). x ++ y) (sym (skipped_layout b T base)) (drop-drop (words T) b o ∙ ap (λ (z : ℕ). drop z o) (sym n));
     }
 
--- the words are written one by one
-skip_more : (i : ℕ) (o : List ℕ) → i < length o → set (replicate i 3 ++ drop i o) i 3 ≡ replicate (i + 1) 3 ++ drop (i + 1) o
-skip_more i [] l = absurd (omega arith)
-skip_more zero (x ∷ o) l = refl
-skip_more (suc i) (x ∷ o) l = let e : suc i + 1 ≡ suc (i + 1) = omega arith in rw e (ap (λ (z : List ℕ). 3 ∷ z) (skip_more i o (omega arith)))
-
-pub skip_long : (i : ℕ) (o : List ℕ) → i ≤ length o → length (replicate i 3 ++ drop i o) ≡ length o
-skip_long i o l = simp (length-append, length-replicate, length-drop) (omega arith)
-
-pub skipped_set : (i : ℕ) (o o1 : List ℕ) → i < length o → o1 ≡ replicate i 3 ++ drop i o → set o1 i 3 ≡ replicate (i + 1) 3 ++ drop (i + 1) o
-skipped_set i o o1 l e = ap (λ (z : List ℕ). set z i 3) e ∙ skip_more i o l
-
 -- the tree
 
 no_row : (r : ℕ) → member [] r ≡ false
@@ -76,8 +64,8 @@ module _ {t a rows : List ℕ} {n : ℕ} {s cur vis : List ℕ} {ncols vn base l
       go true e = sym (eqb_no (own_of rows r (get_or cur r 0)) ncols (λ i. absurd (omega (arith, w.virt r l e, i))))
       go false e = refl
 
-  plain : (k : ℕ) → Column g.known.sig a rows n [] cur k kind_limit
-  plain k = record { plain = λ e r l i. true≢false (sym i ∙ no_row r); kind = λ f. absurd (f refl); row = λ f. absurd (f refl) }
+  plain : (k : ℕ) → Column g.known.sig a rows n [] cur k None
+  plain k = record { plain = λ e r l i. true≢false (sym i ∙ no_row r); kind = λ x f. absurd cc; row = λ x f. absurd cc }
 
   stays : Raised n (member []) vn cur vis cur vis
   stays = record { cursor = λ r l. rw (no_row r) (sym (add-zero (get_or cur r 0))); beyond = λ r l. refl; visit = λ r l i. true≢false (sym i ∙ no_row r); others = λ r q l m. refl }
@@ -86,14 +74,14 @@ module _ {t a rows : List ℕ} {n : ℕ} {s cur vis : List ℕ} {ncols vn base l
   some_columns = omega (arith, w.most)
 
   next_given : (len2 : ℕ) → len2 < len → Given t a rows n s cur vis (ncols - 1) (vn + 1) (base + 1) len2
-  next_given len2 l = let k = cols g some_columns in skip_given g [] cur vis k.k kind_limit k.rest k.is k.there none_real (plain k.k) refl stays refl refl len2 l
+  next_given len2 l = let k = cols g some_columns in skip_given g [] cur vis k.k None k.rest k.is k.there none_real (plain k.k) refl stays refl refl len2 l
 
   next_tree : (len2 : ℕ) (l : len2 < len) (dft fuel : ℕ) → tree_of g dft (suc fuel) ≡ skip (tree_of (next_given len2 l) dft fuel)
   unfolding next_given
   next_tree len2 l dft fuel =
       let k = cols g some_columns in
       let f = w.some (omega arith) in
-      tree_skip g [] cur vis k.k kind_limit k.rest k.is k.there none_real (plain k.k) refl stays refl refl len2 l dft fuel f.0 f.1 f.2
+      tree_skip g [] cur vis k.k None k.rest k.is k.there none_real (plain k.k) refl stays refl refl len2 l dft fuel f.0 f.1 f.2
 
   next_blank : Blank rows n s cur (ncols - 1) b
   next_blank = record { most = omega (arith, w.most); virt = λ r l e. omega (arith, w.virt r l e); some = λ l. w.some (omega arith) }

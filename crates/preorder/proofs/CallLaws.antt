@@ -8,7 +8,7 @@ use borrow.Author.Tests.{ltb-true, ltb-false}
 use lib.Dec.{ltb}
 use lib.ListN.{length, get_or, drop, take, set, length-append, length-drop, drop_of_length-le}
 use lib.Seq.{take_all}
-use Rattle.signature.specs.Limits.{kind_limit}
+use Rattle.std.specs.Prelude.{Option as Answer, Some, None}
 use Rattle.signature.specs.Lists.{All, also}
 use Rattle.signature.proofs.ListFacts.{same_lists}
 use Rattle.tree.specs.Tree.{Tree, default, hit}
@@ -79,7 +79,7 @@ back_one : (o ys : List ℕ) → 0 < length o → take 1 (set o 0 3) ++ (ys ++ d
 back_one [] ys h = absurd (omega arith)
 back_one (x ∷ o) ys h = ap (λ (z : List ℕ). 3 ∷ (ys ++ z)) (drop_of_length-le o {i = length (3 ∷ o) - 1} (omega arith)) ∙ ap (λ (z : List ℕ). 3 ∷ z) (append-nil ys)
 
-module _ {t a rows : List ℕ} {n : ℕ} {s cur vis : List ℕ} {ncols vn base : ℕ} (re cur2 vis2 o ys : List ℕ) (res u r : ℕ)
+module _ {t a rows : List ℕ} {n : ℕ} {s cur vis : List ℕ} {ncols vn base : ℕ} (re cur2 vis2 o ys : List ℕ) (res : Answer ℕ) (u r : ℕ)
     (h : (i : ℕ) → i < n → member re i ≡ real_of rows (member s) cur ncols i)
     (col : (lk : Looking t a rows n re cur) → Column lk.known.sig a rows n re cur lk.k res)
     (w : Raised n (member re) vn cur vis cur2 vis2) (lc : length cur2 ≡ length cur) (lv : length vis2 ≡ length vis) (pos : 0 < ncols) where
@@ -87,10 +87,10 @@ module _ {t a rows : List ℕ} {n : ℕ} {s cur vis : List ℕ} {ncols vn base :
   unfolding looking
   column_of g = let k = cols g pos in col (looking g re k.k k.rest k.is k.there h)
 
-  pub skip_child : (g : Given t a rows n s cur vis ncols vn base (length o)) → res ≡ kind_limit → (len2 : ℕ) → len2 < length o → Given t a rows n s cur2 vis2 (ncols - 1) (vn + 1) (base + 1) len2
+  pub skip_child : (g : Given t a rows n s cur vis ncols vn base (length o)) → res ≡ None → (len2 : ℕ) → len2 < length o → Given t a rows n s cur2 vis2 (ncols - 1) (vn + 1) (base + 1) len2
   skip_child g z len2 l = let k = cols g pos in skip_given g re cur2 vis2 k.k res k.rest k.is k.there h (column_of g) z w lc lv len2 l
 
-  pub skip_result : (g : Given t a rows n s cur vis ncols vn base (length o)) (fuel : ℕ) → res ≡ kind_limit → r < n → FirstIn s n r → 0 < length o → length o < fuel
+  pub skip_result : (g : Given t a rows n s cur vis ncols vn base (length o)) (fuel : ℕ) → res ≡ None → r < n → FirstIn s n r → 0 < length o → length o < fuel
       → ((g2 : Given t a rows n s cur2 vis2 (ncols - 1) (vn + 1) (base + 1) (length (take (length (set o 0 3) - 1) (drop 1 (set o 0 3))))) (f2 : ℕ) → length (take (length (set o 0 3) - 1) (drop 1 (set o 0 3))) < f2
       → Wrote (tree_of g2 (default_in rows) f2) (base + 1) u (take (length (set o 0 3) - 1) (drop 1 (set o 0 3))) ys)
       → Wrote (tree_of g (default_in rows) fuel) base (u + 1) o (take 1 (set o 0 3) ++ (ys ++ drop (length (set o 0 3) - 1) (drop 1 (set o 0 3))))
@@ -105,7 +105,7 @@ module _ {t a rows : List ℕ} {n : ℕ} {s cur vis : List ℕ} {ncols vn base :
       let v : Wrote (tree_of g2 (default_in rows) fuel) (suc base) u (drop 1 o) ys = subst (λ (y : ℕ). Wrote (tree_of g2 (default_in rows) fuel) y u (drop 1 o) ys) q (subst (λ (y : List ℕ). Wrote (tree_of g2 (default_in rows) fuel) (base + 1) u y ys) p (call g2 fuel (omega arith))) in
       rw (e, back_one o ys l) (wrote_skip (tree_of g2 (default_in rows) fuel) base u o ys l v)
 
-  pub skip_fits : (g : Given t a rows n s cur vis ncols vn base (length o)) → res ≡ kind_limit → 0 < length o
+  pub skip_fits : (g : Given t a rows n s cur vis ncols vn base (length o)) → res ≡ None → 0 < length o
       → ((g2 : Given t a rows n s cur2 vis2 (ncols - 1) (vn + 1) (base + 1) (length (take (length (set o 0 3) - 1) (drop 1 (set o 0 3))))) (f2 : ℕ) → length (take (length (set o 0 3) - 1) (drop 1 (set o 0 3))) < f2
       → Wrote (tree_of g2 (default_in rows) f2) (base + 1) u (take (length (set o 0 3) - 1) (drop 1 (set o 0 3))) ys)
       → u ≤ length o
@@ -115,20 +115,20 @@ module _ {t a rows : List ℕ} {n : ℕ} {s cur vis : List ℕ} {ncols vn base :
       let v = call (skip_child g z (length (take (length (set o 0 3) - 1) (drop 1 (set o 0 3)))) less) (length o) less in
       omega (arith, v.much)
 
-  pub branch_child : (g : Given t a rows n s cur vis ncols vn base (length o)) → ¬ (res ≡ kind_limit) → Branching t a rows n s re cur2 vis2 ncols vn base (length o) res
-  branch_child g z = let k = cols g pos in let e : res ≡ k.k = (column_of g).kind z in branch_given g re cur2 vis2 res k.rest (k.is ∙ ap (λ (y : ℕ). y ∷ k.rest) (sym e)) h w lc lv
+  pub branch_child : (g : Given t a rows n s cur vis ncols vn base (length o)) (y : ℕ) → res ≡ Some y → Branching t a rows n s re cur2 vis2 ncols vn base (length o) y
+  branch_child g y z = let k = cols g pos in let e : y ≡ k.k = (column_of g).kind y z in branch_given g re cur2 vis2 y k.rest (k.is ∙ ap (λ (x : ℕ). x ∷ k.rest) (sym e)) h w lc lv
 
-  pub branch_result : (g : Given t a rows n s cur vis ncols vn base (length o)) (fuel : ℕ) → ¬ (res ≡ kind_limit) → r < n → FirstIn s n r → length o < fuel
-      → ((b : Branching t a rows n s re cur2 vis2 ncols vn base (length o) res) (f2 : ℕ) → length o ≤ f2 → Wrote (branch_of b (default_in rows) f2) base u o ys)
+  pub branch_result : (g : Given t a rows n s cur vis ncols vn base (length o)) (fuel y : ℕ) → res ≡ Some y → r < n → FirstIn s n r → length o < fuel
+      → ((b : Branching t a rows n s re cur2 vis2 ncols vn base (length o) y) (f2 : ℕ) → length o ≤ f2 → Wrote (branch_of b (default_in rows) f2) base u o ys)
       → Wrote (tree_of g (default_in rows) fuel) base u o ys
-  branch_result g zero z i x f call = absurd (omega arith)
-  branch_result g (suc fuel) z i x f call =
+  branch_result g zero y z i x f call = absurd (omega arith)
+  branch_result g (suc fuel) y z i x f call =
       let k = cols g pos in
-      let e : res ≡ k.k = (column_of g).kind z in
-      let ks : g.ks ≡ res ∷ k.rest = k.is ∙ ap (λ (y : ℕ). y ∷ k.rest) (sym e) in
-      let small : res < g.known.decoded.n = omega (arith, k.there) in
-      let c : Column g.known.sig a rows n re cur res res = subst (λ (y : ℕ). Column g.known.sig a rows n re cur y res) (sym e) (column_of g) in
-      rw (tree_branch g re cur2 vis2 res res k.rest ks small h c z w lc lv (default_in rows) fuel r i x) (call (branch_given g re cur2 vis2 res k.rest ks h w lc lv) fuel (omega arith))
+      let e : y ≡ k.k = (column_of g).kind y z in
+      let ks : g.ks ≡ y ∷ k.rest = k.is ∙ ap (λ (q : ℕ). q ∷ k.rest) (sym e) in
+      let small : y < g.known.decoded.n = omega (arith, k.there) in
+      let c : Column g.known.sig a rows n re cur y res = subst (λ (q : ℕ). Column g.known.sig a rows n re cur q res) (sym e) (column_of g) in
+      rw (tree_branch g re cur2 vis2 y res k.rest ks small h c y z w lc lv (default_in rows) fuel r i x) (call (branch_given g re cur2 vis2 y k.rest ks h w lc lv) fuel (omega arith))
 
 pub at_most : (T : Tree) (base u : ℕ) (o o2 : List ℕ) → Wrote T base u o o2 → u ≤ suc (length o)
 at_most T base u o o2 w = omega (arith, w.much)

@@ -6,9 +6,9 @@ use mathlib.Core.Option.{Option, none, some}
 use mathlib.Core.Bool.{Bool, true, false, ◌&&◌, cond}
 use Prim.Native.Nat.{ℕ, zero, suc, ◌+◌, ◌-◌, ◌≤◌, ◌<◌}
 use native.Mathlib.Omega.{arith}
-use lib.ListN.{length, get_or, drop, set}
+use lib.ListN.{length, get_or, drop}
 use Rattle.cell.specs.Cell.{kind_tag}
-use Rattle.signature.specs.Limits.{kind_limit}
+use Rattle.std.specs.Prelude.{Option as Answer, Some, None}
 use Rattle.signature.specs.Lists.{◌>>=◌, All, memb, somes, any}
 use Rattle.signature.specs.Signature.{Signature, heads, arguments}
 use Rattle.signature.proofs.Booleans.{and_left, and_right}
@@ -116,18 +116,18 @@ module _ {t a rows : List ℕ} {n : ℕ} {s cur vis : List ℕ} {ncols vn base l
       row_refined g.known.sig t a rows n vis r (get_or cur r 0) k ks (sized_kind g.known k u) (member s r) (g.f r) _ l (st r i) x refl
       ∙ ap (λ (b : Bool). b && refined_cell g.known.sig k (tag_of a (cell_of rows r (get_or cur r 0))) (allowed_of a (cell_of rows r (get_or cur r 0)))) (real_same re k ks e h r i)
 
-  pub none_refined : (re : List ℕ) (k res : ℕ) (ks : List ℕ) → g.ks ≡ k ∷ ks → k < g.known.decoded.n → ((r : ℕ) → r < n → member re r ≡ real_of rows (member s) cur ncols r)
-      → Column g.known.sig a rows n re cur k res → res ≡ kind_limit → (r : ℕ) (l : Line) → r < n → g.f r ≡ some l → refined g.known.sig k l.cells ≡ false
+  pub none_refined : (re : List ℕ) (k : ℕ) (res : Answer ℕ) (ks : List ℕ) → g.ks ≡ k ∷ ks → k < g.known.decoded.n → ((r : ℕ) → r < n → member re r ≡ real_of rows (member s) cur ncols r)
+      → Column g.known.sig a rows n re cur k res → res ≡ None → (r : ℕ) (l : Line) → r < n → g.f r ≡ some l → refined g.known.sig k l.cells ≡ false
   none_refined re k res ks e u h c z r l i x = refined_is re k ks e u h r l i x ∙ go (member re r) refl
     where
       go : (b : Bool) → member re r ≡ b → (b && refined_cell g.known.sig k (tag_of a (cell_of rows r (get_or cur r 0))) (allowed_of a (cell_of rows r (get_or cur r 0)))) ≡ false
       go true q = c.plain z r i q
       go false q = refl
 
-  pub some_refined : (re : List ℕ) (k res : ℕ) (ks : List ℕ) → g.ks ≡ k ∷ ks → k < g.known.decoded.n → ((r : ℕ) → r < n → member re r ≡ real_of rows (member s) cur ncols r)
-      → Column g.known.sig a rows n re cur k res → ¬ (res ≡ kind_limit) → any (λ m. refined g.known.sig k m.cells) (lines g) ≡ true
-  some_refined re k res ks e u h c z =
-      let w = c.row z in
+  pub some_refined : (re : List ℕ) (k : ℕ) (res : Answer ℕ) (ks : List ℕ) → g.ks ≡ k ∷ ks → k < g.known.decoded.n → ((r : ℕ) → r < n → member re r ≡ real_of rows (member s) cur ncols r)
+      → Column g.known.sig a rows n re cur k res → (y : ℕ) → res ≡ Some y → any (λ m. refined g.known.sig k m.cells) (lines g) ≡ true
+  some_refined re k res ks e u h c y z =
+      let w = c.row y z in
       let b : member s w.0 ≡ true = and_left (member s w.0) _ (sym (h w.0 w.1) ∙ w.2) in
       let v = row_alive g.known.sig t a rows n (member s w.0) (g.f w.0) vis w.0 (get_or cur w.0 0) g.ks (g.state w.0 w.1) b in
       any_yes (λ m. refined g.known.sig k m.cells) g.f 0 n w.0 v.line (omega arith) (omega (arith, w.1)) v.is (refined_is re k ks e u h w.0 v.line w.1 v.is ∙ ap₂ ◌&&◌ w.2 w.3)
@@ -165,8 +165,8 @@ module _ {t a rows : List ℕ} {n : ℕ} {s cur vis : List ℕ} {ncols vn base l
       go false q = omega (arith, w.cursor r l, ap one_if q, g.low r l)
 
   -- 3: the child's lines
-  pub skip_given : (re cur2 vis2 : List ℕ) (k res : ℕ) (ks : List ℕ) → g.ks ≡ k ∷ ks → k < g.known.decoded.n → ((r : ℕ) → r < n → member re r ≡ real_of rows (member s) cur ncols r)
-      → Column g.known.sig a rows n re cur k res → res ≡ kind_limit → Raised n (member re) vn cur vis cur2 vis2 → length cur2 ≡ length cur → length vis2 ≡ length vis → (len2 : ℕ) → len2 < len
+  pub skip_given : (re cur2 vis2 : List ℕ) (k : ℕ) (res : Answer ℕ) (ks : List ℕ) → g.ks ≡ k ∷ ks → k < g.known.decoded.n → ((r : ℕ) → r < n → member re r ≡ real_of rows (member s) cur ncols r)
+      → Column g.known.sig a rows n re cur k res → res ≡ None → Raised n (member re) vn cur vis cur2 vis2 → length cur2 ≡ length cur → length vis2 ≡ length vis → (len2 : ℕ) → len2 < len
       → Given t a rows n s cur2 vis2 (ncols - 1) (vn + 1) (base + 1) len2
   skip_given re cur2 vis2 k res ks e u h c z w lc lv len2 l = record {
     known = g.known;
@@ -186,8 +186,8 @@ module _ {t a rows : List ℕ} {n : ℕ} {s cur vis : List ℕ} {ncols vn base l
     links_fit = omega (arith, g.links_fit);
   }
 
-  pub tree_skip : (re cur2 vis2 : List ℕ) (k res : ℕ) (ks : List ℕ) (e : g.ks ≡ k ∷ ks) (u : k < g.known.decoded.n) (h : (r : ℕ) → r < n → member re r ≡ real_of rows (member s) cur ncols r)
-      (c : Column g.known.sig a rows n re cur k res) (z : res ≡ kind_limit) (w : Raised n (member re) vn cur vis cur2 vis2) (lc : length cur2 ≡ length cur) (lv : length vis2 ≡ length vis) (len2 : ℕ) (l : len2 < len)
+  pub tree_skip : (re cur2 vis2 : List ℕ) (k : ℕ) (res : Answer ℕ) (ks : List ℕ) (e : g.ks ≡ k ∷ ks) (u : k < g.known.decoded.n) (h : (r : ℕ) → r < n → member re r ≡ real_of rows (member s) cur ncols r)
+      (c : Column g.known.sig a rows n re cur k res) (z : res ≡ None) (w : Raised n (member re) vn cur vis cur2 vis2) (lc : length cur2 ≡ length cur) (lv : length vis2 ≡ length vis) (len2 : ℕ) (l : len2 < len)
       (dft fuel r : ℕ) → r < n → FirstIn s n r → tree_of g dft (suc fuel) ≡ skip (tree_of (skip_given re cur2 vis2 k res ks e u h c z w lc lv len2 l) dft fuel)
   unfolding skip_given
   tree_skip re cur2 vis2 k res ks e u h c z w lc lv len2 l dft fuel r i x =
@@ -202,11 +202,11 @@ module _ {t a rows : List ℕ} {n : ℕ} {s cur vis : List ℕ} {ncols vn base l
       → Raised n (member re) vn cur vis cur2 vis2 → length cur2 ≡ length cur → length vis2 ≡ length vis → Branching t a rows n s re cur2 vis2 ncols vn base len k
   branch_given re cur2 vis2 k ks e h w lc lv = record { cur0 = cur; vis0 = vis; given = g; ks = ks; ks_are = e; real = h; raised = w; cursors = omega (arith, g.cursors); visits = omega (arith, g.visits) }
 
-  pub tree_branch : (re cur2 vis2 : List ℕ) (k res : ℕ) (ks : List ℕ) (e : g.ks ≡ k ∷ ks) (u : k < g.known.decoded.n) (h : (r : ℕ) → r < n → member re r ≡ real_of rows (member s) cur ncols r)
-      (c : Column g.known.sig a rows n re cur k res) (z : ¬ (res ≡ kind_limit)) (w : Raised n (member re) vn cur vis cur2 vis2) (lc : length cur2 ≡ length cur) (lv : length vis2 ≡ length vis)
+  pub tree_branch : (re cur2 vis2 : List ℕ) (k : ℕ) (res : Answer ℕ) (ks : List ℕ) (e : g.ks ≡ k ∷ ks) (u : k < g.known.decoded.n) (h : (r : ℕ) → r < n → member re r ≡ real_of rows (member s) cur ncols r)
+      (c : Column g.known.sig a rows n re cur k res) (y : ℕ) (z : res ≡ Some y) (w : Raised n (member re) vn cur vis cur2 vis2) (lc : length cur2 ≡ length cur) (lv : length vis2 ≡ length vis)
       (dft fuel r : ℕ) → r < n → FirstIn s n r → tree_of g dft (suc fuel) ≡ branch_of (branch_given re cur2 vis2 k ks e h w lc lv) dft fuel
   unfolding branch_given
-  tree_branch re cur2 vis2 k res ks e u h c z w lc lv dft fuel r i x =
+  tree_branch re cur2 vis2 k res ks e u h c y z w lc lv dft fuel r i x =
       let v = first_line r i x in
       ap (λ (y : List ℕ). compile dft (suc fuel) g.known.sig y (lines g) vn) e
-      ∙ compile_step dft fuel k ks (lines g) v.0 v.1.rest true v.1.is (some_refined re k res ks e u h c z)
+      ∙ compile_step dft fuel k ks (lines g) v.0 v.1.rest true v.1.is (some_refined re k res ks e u h c y z)

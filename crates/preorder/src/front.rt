@@ -14,13 +14,11 @@ fn put_members(out: &mut [u16], s: Heads, m: usize)
     ensures { out.new ≡ members (number_of s) ++ drop m out.old }
 {
     let mut left = s;
-    let mut i = 0;
-    while i < m {
+    for i in 0..m {
         let h = lowest(left);
         out[i] = h as u16;
         let next = without(left, h);
         left = next;
-        i += 1;
     }
 }
 

@@ -6,7 +6,7 @@ pub mod front;
 ghost use Rattle.std.specs.Prelude.{◌≡◌, ◌++◌, ◌≤◌, length, replicate, drop};
 ghost use Rattle.preorder.specs.Node.{Given, Branching, NodeWrote, BranchWrote};
 
-use column::{NO_KIND, column, heads, keep};
+use column::{column, heads, keep};
 use front::{front as put_front, front_words};
 use leaf::{default_leaf, leaf};
 use path::rows::{CURSORS, INDEX_ROOM, VISITS};
@@ -21,11 +21,7 @@ fn skips(out: &mut [u16], b: usize)
     requires { b ≤ length out.old }
     ensures { out.new ≡ replicate b 3 ++ drop b out.old }
 {
-    let mut i = 0;
-    while i < b {
-        out[i] = SKIP;
-        i += 1;
-    }
+    out[..b].fill(SKIP);
 }
 
 // Writes the tree of the rows alive, whose index is base, first in out: its length, or one more than there is room.
@@ -98,9 +94,9 @@ fn visit(
     }
     let mut re = [0; SET_WORDS];
     real(rows, n, s, cur, ncols, &mut re);
-    let k = column(t, a, rows, n, &re, cur);
+    let kind = column(t, a, rows, n, &re, cur);
     raise(cur, vis, n, &re, v);
-    if k == NO_KIND {
+    let Some(k) = kind else {
         out[0] = SKIP;
         let u = node(
             t,
@@ -117,7 +113,7 @@ fn visit(
         );
         lower(cur, n, &re);
         return u + 1;
-    }
+    };
     let u = branch(t, a, rows, n, s, &re, cur, vis, ncols, v, base, out, k);
     lower(cur, n, &re);
     u

@@ -5,8 +5,8 @@ use Prim.Native.Nat.{ℕ, suc, ◌+◌, ◌≤◌, ◌<◌}
 use native.Mathlib.Nat.{add-zero}
 use native.Mathlib.Numerals.{add-one}
 use native.Mathlib.Omega.{arith}
-use lib.ListN.{length, set, take, drop, get_or, length-append, length-drop, take-append-drop}
-use lib.Seq.{take_at, drop-append-add, drop-drop, length-take-le, set_split, paste, paste-zero, paste-suc, take-length, append_snoc}
+use lib.ListN.{length, set, take, drop, length-append, length-drop, take-append-drop}
+use lib.Seq.{take_at, drop-append-add, drop-drop, length-take-le, set_split, append_snoc}
 use Rattle.printing.specs.Put.{put_at, Put}
 
 module _ (at : ℕ) (s o : List ℕ) (room : at + length s ≤ length o) where
@@ -33,18 +33,6 @@ put_none at o = sym (take-append-drop at o) ∙ rw (append-nil, add-zero)
 
 pub put_one : (at : ℕ) (o : List ℕ) (b : ℕ) → at < length o → set o at b ≡ put_at at (b ∷ []) o
 put_one at o b l = set_split o at b l ∙ sym (append_snoc (take at o) b (drop (suc at) o)) ∙ rw (add-one at)
-
--- the loop that copies
-pub copy_start : (at : ℕ) (s o : List ℕ) → o ≡ paste o at s 0
-copy_start at s o = paste-zero o at s
-
-pub copy_step : (at : ℕ) (s o x : List ℕ) (i : ℕ) → x ≡ paste o at s i → at + length s ≤ length o → i < length s → set x (at + i) (get_or s i 0) ≡ paste o at s (i + 1)
-copy_step at s o x i e l h = ap (λ y. set y (at + i) (get_or s i 0)) e ∙ paste-suc o at s i 0 (omega arith) h ∙ rw (add-one i)
-
-pub copy_end : (at : ℕ) (s o x : List ℕ) (i : ℕ) → x ≡ paste o at s i → i ≤ length s → length s ≤ i → Put s at (at + i) o x
-copy_end at s o x i e l h =
-    let n : i ≡ length s = omega arith in
-    record { behind = omega arith; put = e ∙ ap (λ j. paste o at s j) n ∙ rw (take-length s) }
 
 -- bytes, then bytes behind them
 pub both : {s t : List ℕ} {at m r : ℕ} {o x y : List ℕ} → Put s at m o x → Put t m r x y → at + length (s ++ t) ≤ length o → Put (s ++ t) at r o y

@@ -37,10 +37,8 @@ pub fn put_pairs(out: &mut [u8], from: usize, places: &[u16]) -> usize
     ensures { Put (pairs_bytes places.now) from result out.old out.new }
 {
     let mut at = from;
-    let mut x = 0;
-    while x < places.len() {
-        at = put_pair(out, from, at, x as u16, places[x]);
-        x += 1;
+    for (x, place) in places.iter().enumerate() {
+        at = put_pair(out, from, at, x as u16, *place);
     }
     at
 }

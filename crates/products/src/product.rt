@@ -4,14 +4,14 @@ ghost use Rattle.cell.specs.RowList.{GivenOne, WrittenFirst, one_entry, entries}
 ghost use Rattle.cell.specs.RowList.{from};
 ghost use Rattle.rowlist.specs.Product.{GivenEach, each_entry, GivenProduct, Product, products};
 
-use cell::cell::{Out, combine};
+use cell::cell::combine;
 
 // The two rows at the front of x and y as one row of a list, first in out; 0 words where it is dropped.
 fn entry(t: &[u16], x: &[u64], y: &[u64], out: &mut [u64]) -> usize
     requires { GivenOne t.now x.now y.now out.old }
     ensures { (g : GivenOne t.now x.now y.now out.old) → WrittenFirst (one_entry g) result out.new }
 {
-    let Out::Kept(n) = combine(t, x, y, &mut out[1..]) else {
+    let Some(n) = combine(t, x, y, &mut out[1..]) else {
         return 0;
     };
     out[0] = n as u64;

@@ -1,4 +1,5 @@
 -- Reading by what is left behind a pattern, and the kinds that are due behind a word.
+use Rattle.std.specs.Prelude.{None, Some}
 use mathlib.Core.Path.{◌≡◌, refl, sym, ap, ◌∙◌}
 use mathlib.Core.List.{List, [], ◌∷◌}
 use mathlib.Core.Option.{Option, some, none}
@@ -14,7 +15,6 @@ use Rattle.reading.specs.End.{end_of}
 use Rattle.pattern.specs.Pattern.{Pattern, pcons, head, and, or, neg, pattern_code}
 use Rattle.pattern.specs.Read.{Form, is_head, is_var, is_and, is_or, is_wild, is_absurd, is_not, is_range, is_other, read_one, read_each, read_two, read_range, read_by_form}
 use Rattle.pattern.specs.Word.{own_words}
-use Rattle.reading.specs.declared.read.End.TheVariants.{At, Bad}
 use Rattle.pattern.proofs.PatternBack.{pattern_was}
 
 abbrev pub rest_of : {A : Type 0} → Option (A × List ℕ) → Option (List ℕ)
@@ -113,10 +113,10 @@ abbrev pub part_skips : Signature → ℕ → ℕ → List ℕ → Option (List 
 part_skips sig d j us = rest_of (read_one sig d j us)
 
 -- the end and what is left behind it
-pub ended : (sig : Signature) (d k m : ℕ) (ws : List ℕ) → At m ≡ end_of ws (read_one sig d k ws) → (part_skips sig d k ws ≡ some (drop m ws)) × (m ≤ length ws)
+pub ended : (sig : Signature) (d k m : ℕ) (ws : List ℕ) → Some m ≡ end_of ws (read_one sig d k ws) → (part_skips sig d k ws ≡ some (drop m ws)) × (m ≤ length ws)
 ended sig d k m ws e = go (read_one sig d k ws) refl e
   where
-    go : (o : Option (Pattern × List ℕ)) → read_one sig d k ws ≡ o → At m ≡ end_of ws o → (rest_of o ≡ some (drop m ws)) × (m ≤ length ws)
+    go : (o : Option (Pattern × List ℕ)) → read_one sig d k ws ≡ o → Some m ≡ end_of ws o → (rest_of o ≡ some (drop m ws)) × (m ≤ length ws)
     go none f e = absurd (let z : ◌≡◌ {A = ℕ} 0 1 = cc in omega arith)
     go (some r) f e =
         let w = pattern_was sig d k ws r f in
@@ -124,17 +124,17 @@ ended sig d k m ws e = go (read_one sig d k ws) refl e
         let l : length (pattern_code r.0) + length r.1 ≡ length ws = sym (length-append (pattern_code r.0) r.1) ∙ ap length w.2 in
         (rw (← w.2) (ap some (sym (drop_at (pattern_code r.0) r.1 m (omega arith)))), omega arith)
 
-pub bad_ended : (sig : Signature) (d k : ℕ) (ws : List ℕ) → Bad ≡ end_of ws (read_one sig d k ws) → part_skips sig d k ws ≡ none
+pub bad_ended : (sig : Signature) (d k : ℕ) (ws : List ℕ) → None ≡ end_of ws (read_one sig d k ws) → part_skips sig d k ws ≡ none
 bad_ended sig d k ws e = go (read_one sig d k ws) e
   where
-    go : (o : Option (Pattern × List ℕ)) → Bad ≡ end_of ws o → rest_of o ≡ none
+    go : (o : Option (Pattern × List ℕ)) → None ≡ end_of ws o → rest_of o ≡ none
     go none e = refl
     go (some r) e = absurd (let z : ◌≡◌ {A = ℕ} 0 1 = cc in omega arith)
 
-pub ends : (m : ℕ) (ws : List ℕ) (o : Option (Pattern × List ℕ)) → rest_of o ≡ some (drop m ws) → m ≤ length ws → At m ≡ end_of ws o
+pub ends : (m : ℕ) (ws : List ℕ) (o : Option (Pattern × List ℕ)) → rest_of o ≡ some (drop m ws) → m ≤ length ws → Some m ≡ end_of ws o
 ends m ws none e l = none≢some e
-ends m ws (some r) e l = ap At (omega (arith, ap length (some_inj r.1 (drop m ws) e), length-drop m ws))
+ends m ws (some r) e l = ap Some (omega (arith, ap length (some_inj r.1 (drop m ws) e), length-drop m ws))
 
-pub ends_bad : (ws : List ℕ) (o : Option (Pattern × List ℕ)) → rest_of o ≡ none → Bad ≡ end_of ws o
+pub ends_bad : (ws : List ℕ) (o : Option (Pattern × List ℕ)) → rest_of o ≡ none → None ≡ end_of ws o
 ends_bad ws none e = refl
 ends_bad ws (some r) e = none≢some (sym e)

@@ -1,4 +1,7 @@
 -- What the reader's steps show: the kinds that are due, one more pattern, the end.
+use Rattle.std.specs.Prelude.{None, Some}
+use Rattle.std.specs.Prelude as prelude
+use Rattle.std.specs.Option.{option_eq}
 use mathlib.Core.Path.{◌≡◌, refl, sym, ap, subst, ◌∙◌}
 use mathlib.Core.List.{List, [], ◌∷◌}
 use mathlib.Core.Option.{Option, some, none}
@@ -19,14 +22,12 @@ use Rattle.signature.proofs.Booleans.{and_left, and_right}
 use Rattle.signature.proofs.KnownFacts.{arity_is, few_arguments, few_kinds, argument_is, arguments_below, right_kind, wrong_kind, no_constructor, number_first}
 use Rattle.signature.proofs.LawfulFacts.{kinds_above}
 use Rattle.signature.proofs.ListFacts.{all_at, at_getD}
-use Rattle.signature.proofs.Tests.{none≢some, some_inj, eqb_eq, eqb_no, eqb_self, leb_yes, leb_no, ltb_no, ltb_yes, true≢false}
-use Rattle.reading.specs.End.{end_of, may_begin, kind_behind}
+use Rattle.signature.proofs.Tests.{none≢some, some_inj, eqb_eq, eqb_no, eqb_self, leb_yes, leb_no, true≢false}
+use Rattle.reading.specs.End.{end_of, may_begin}
 use Rattle.pattern.specs.Limits.{pattern_limit}
 use Rattle.pattern.specs.Pattern.{Pattern}
 use Rattle.pattern.specs.Read.{Form, is_head, is_var, is_and, is_or, is_wild, is_absurd, is_not, is_range, is_other, form, read_one, read_by_form, read_pattern}
-use Rattle.pattern.specs.Word.{own_words, part_count, head_small}
-use Rattle.reading.specs.declared.read.End.{End}
-use Rattle.reading.specs.declared.read.End.TheVariants.{At, Bad}
+use Rattle.pattern.specs.Word.{own_words, part_count, kind_behind, head_small}
 use Rattle.pattern.proofs.ReadSteps.{part, to_end, small}
 use Rattle.reading.proofs.Skip.{rest_of, skip_each, due, part_skips, form_skips, form_cut, ended, bad_ended, ends, ends_bad}
 
@@ -119,21 +120,15 @@ module _ (t : List ℕ) (g : Known t) where
   kind_there is_range k j l h m = l
   kind_there is_other k j l h m = l
 
-pub begins_yes : (t : List ℕ) (c k n r : ℕ) → n ≡ constructors_of t → c < n → r ≡ kind_of t c → eqb r k ≡ may_begin t (is_head c) k
-begins_yes t c k n r e l q = rw (ltb_yes c (constructors_of t) (omega (arith, e)), q)
-
-pub begins_no : (t : List ℕ) (c k n : ℕ) → n ≡ constructors_of t → n ≤ c → false ≡ may_begin t (is_head c) k
-begins_no t c k n e l = rw (ltb_no c (constructors_of t) (omega (arith, e)))
-
 -- what the call on a part, or on the whole, gave: at any depth that is enough
-abbrev pub Gave : List ℕ → ℕ → List ℕ → End → Type 0
+abbrev pub Gave : List ℕ → ℕ → List ℕ → prelude.Option ℕ → Type 0
 Gave t k ws r = (g : Known t) (d : ℕ) → length ws ≤ d → r ≡ end_of ws (read_one g.sig d k ws)
 
 -- behind `at` words and j parts: what is left behind the whole is what is left behind the parts that are still due
 abbrev pub Left : List ℕ → ℕ → Form → List ℕ → ℕ → ℕ → Type 0
 Left t k f ws i j = (g : Known t) (u : Due t g.sig f k) (d : ℕ) → length ws ≤ suc d → part_skips g.sig (suc d) k ws ≡ skip_each (part_skips g.sig d) (drop j u.kinds) (drop i ws)
 
-pub empty : (t : List ℕ) (k : ℕ) (ws : List ℕ) → length ws ≡ 0 → Gave t k ws Bad
+pub empty : (t : List ℕ) (k : ℕ) (ws : List ℕ) → length ws ≡ 0 → Gave t k ws None
 empty t k ws h g zero l = refl
 empty t k [] h g (suc d) l = refl
 empty t k (w ∷ ws) h g (suc d) l = absurd (omega arith)
@@ -146,15 +141,15 @@ first_cut : (sig : Signature) (d k : ℕ) (ws : List ℕ) (f : Form) → 0 < len
 first_cut sig d k [] f l e o = absurd (omega arith)
 first_cut sig d k (w ∷ ws) f l e o = form_cut (λ j us. read_one sig d j us) sig (form w) k ws (subst (λ (x : Form). suc (length ws) < own_words x) e o)
 
-pub refused : (t : List ℕ) (k : ℕ) (ws : List ℕ) (f : Form) → k < kinds_of t → 0 < length ws → f ≡ form (get_or ws 0 0) → may_begin t f k ≡ false → Gave t k ws Bad
+pub refused : (t : List ℕ) (k : ℕ) (ws : List ℕ) (f : Form) → k < kinds_of t → 0 < length ws → f ≡ form (get_or ws 0 0) → may_begin t f k ≡ false → Gave t k ws None
 refused t k ws f kl l e h g zero m = absurd (omega arith)
 refused t k ws f kl l e h g (suc d) m = go (dec_le (own_words f) (length ws))
   where
-    go : Dec (own_words f ≤ length ws) → Bad ≡ end_of ws (read_one g.sig (suc d) k ws)
+    go : Dec (own_words f ≤ length ws) → None ≡ end_of ws (read_one g.sig (suc d) k ws)
     go (yes o) = ends_bad ws (read_one g.sig (suc d) k ws) (first_skips g.sig d k ws f l e o ∙ (rw (none_due t g f k kl (small (get_or ws 0 0) f e) h)))
     go (no o) = ends_bad ws (read_one g.sig (suc d) k ws) (first_cut g.sig d k ws f l e (omega arith))
 
-pub cut_short : (t : List ℕ) (k : ℕ) (ws : List ℕ) (f : Form) → 0 < length ws → f ≡ form (get_or ws 0 0) → length ws < own_words f → Gave t k ws Bad
+pub cut_short : (t : List ℕ) (k : ℕ) (ws : List ℕ) (f : Form) → 0 < length ws → f ≡ form (get_or ws 0 0) → length ws < own_words f → Gave t k ws None
 cut_short t k ws f l e o g zero m = absurd (omega arith)
 cut_short t k ws f l e o g (suc d) m = ends_bad ws (read_one g.sig (suc d) k ws) (first_cut g.sig d k ws f l e o)
 
@@ -171,27 +166,27 @@ none_left one [] ws (suc j) l = refl
 none_left one (k ∷ ks) ws (suc j) l = none_left one ks ws j (omega arith)
 
 module _ (t : List ℕ) (k : ℕ) (f : Form) (ws : List ℕ) (i j n : ℕ) (n_is : n ≡ part_count t f) where
-  pub end_le : (m kj : ℕ) (r : End) → i ≤ length ws → Known t → Gave t kj (part ws i) r → r ≡ At m → i + m ≤ length ws
-  end_le m kj r l g h e =
-      let x = ended g.sig (length ws) kj m (part ws i) (sym e ∙ h g (length ws) (simp (to_end, length-drop) (omega arith))) in
+  pub end_le : (m kj : ℕ) → i ≤ length ws → Known t → Gave t kj (part ws i) (Some m) → i + m ≤ length ws
+  end_le m kj l g h =
+      let x = ended g.sig (length ws) kj m (part ws i) (h g (length ws) (simp (to_end, length-drop) (omega arith))) in
       omega (arith, x.1, ap length (to_end ws i), length-drop i ws)
 
-  pub next : (m kj : ℕ) (r : End) → j < n → 1 ≤ i → i ≤ length ws → kj ≡ kind_behind t f k j → Gave t kj (part ws i) r → r ≡ At m → Left t k f ws i j → Left t k f ws (i + m) (j + 1)
-  next m kj r lj li l q h e left g u d ld =
+  pub next : (m kj : ℕ) → j < n → 1 ≤ i → i ≤ length ws → kj ≡ kind_behind t f k j → Gave t kj (part ws i) (Some m) → Left t k f ws i j → Left t k f ws (i + m) (j + 1)
+  next m kj lj li l q h left g u d ld =
       let b : j < length u.kinds = omega (arith, u.long) in
-      let x = ended g.sig d kj m (part ws i) (sym e ∙ h g d (simp (to_end, length-drop) (omega arith))) in
+      let x = ended g.sig d kj m (part ws i) (h g d (simp (to_end, length-drop) (omega arith))) in
       let y : part_skips g.sig d kj (drop i ws) ≡ some (drop (i + m) ws) = rw (to_end ws i, drop-drop m i ws) at x.0 in
       left g u d ld ∙ one_due (part_skips g.sig d) u.kinds (drop i ws) j kj b (u.each j b ∙ sym q) ∙ (rw y)
 
-  pub next_bad : (kj : ℕ) (r : End) → j < n → 0 < length ws → 1 ≤ i → i ≤ length ws → kj ≡ kind_behind t f k j → Gave t kj (part ws i) r → r ≡ Bad → Left t k f ws i j → k < kinds_of t → may_begin t f k ≡ true → Gave t k ws Bad
-  next_bad kj r lj lw li l q h e left kl s g zero ld = absurd (omega arith)
-  next_bad kj r lj lw li l q h e left kl s g (suc d) ld =
+  pub next_bad : (kj : ℕ) → j < n → 0 < length ws → 1 ≤ i → i ≤ length ws → kj ≡ kind_behind t f k j → Gave t kj (part ws i) None → Left t k f ws i j → k < kinds_of t → may_begin t f k ≡ true → Gave t k ws None
+  next_bad kj lj lw li l q h left kl s g zero ld = absurd (omega arith)
+  next_bad kj lj lw li l q h left kl s g (suc d) ld =
       let u = due_of t g f k kl s in
       let b : j < length u.kinds = omega (arith, u.long) in
-      let x : part_skips g.sig d kj (drop i ws) ≡ none = rw (to_end ws i) at (bad_ended g.sig d kj (part ws i) (sym e ∙ h g d (simp (to_end, length-drop) (omega arith)))) in
+      let x : part_skips g.sig d kj (drop i ws) ≡ none = rw (to_end ws i) at (bad_ended g.sig d kj (part ws i) (h g d (simp (to_end, length-drop) (omega arith)))) in
       ends_bad ws (read_one g.sig (suc d) k ws) (left g u d ld ∙ one_due (part_skips g.sig d) u.kinds (drop i ws) j kj b (u.each j b ∙ sym q) ∙ (rw x))
 
-  pub turns_end : n ≤ j → 0 < length ws → i ≤ length ws → Left t k f ws i j → k < kinds_of t → may_begin t f k ≡ true → Gave t k ws (At i)
+  pub turns_end : n ≤ j → 0 < length ws → i ≤ length ws → Left t k f ws i j → k < kinds_of t → may_begin t f k ≡ true → Gave t k ws (Some i)
   turns_end lj lw l left kl s g zero ld = absurd (omega arith)
   turns_end lj lw l left kl s g (suc d) ld =
       let u = due_of t g f k kl s in
@@ -210,17 +205,18 @@ whole_ended ws n (some r) e l = go r.1 (some_inj r.1 (drop n ws) e)
     go (w ∷ us) e = sym (eqb_no n (length ws) (λ q. omega (arith, ap length e, length-drop n ws)))
 
 module _ (t ws : List ℕ) (g : Known t) where
-  pub too_long : pattern_limit < length ws → false ≡ is_some (read_pattern g.sig ws)
-  too_long l = rw (leb_no (length ws) pattern_limit l)
-
-  pub whole_at : (n : ℕ) (r : End) → length ws ≤ pattern_limit → Gave t 0 ws r → r ≡ At n → eqb n (length ws) ≡ is_some (read_pattern g.sig ws)
-  whole_at n r l h e =
-      let x = ended g.sig pattern_limit 0 n ws (sym e ∙ h g pattern_limit l) in
+  whole_at : (n : ℕ) → length ws ≤ pattern_limit → Gave t 0 ws (Some n) → eqb n (length ws) ≡ is_some (read_pattern g.sig ws)
+  whole_at n l h =
+      let x = ended g.sig pattern_limit 0 n ws (h g pattern_limit l) in
       rw (leb_yes (length ws) pattern_limit l) (sym (whole_ended ws n (read_one g.sig pattern_limit 0 ws) x.0 x.1))
 
-  pub whole_bad : (r : End) → length ws ≤ pattern_limit → Gave t 0 ws r → r ≡ Bad → false ≡ is_some (read_pattern g.sig ws)
-  whole_bad r l h e = rw (leb_yes (length ws) pattern_limit l) (go (read_one g.sig pattern_limit 0 ws) (bad_ended g.sig pattern_limit 0 ws (sym e ∙ h g pattern_limit l)))
+  whole_bad : length ws ≤ pattern_limit → Gave t 0 ws None → false ≡ is_some (read_pattern g.sig ws)
+  whole_bad l h = rw (leb_yes (length ws) pattern_limit l) (go (read_one g.sig pattern_limit 0 ws) (bad_ended g.sig pattern_limit 0 ws (h g pattern_limit l)))
     where
       go : (o : Option (Pattern × List ℕ)) → rest_of o ≡ none → false ≡ is_some (o >>= whole)
       go none e = refl
       go (some r) e = none≢some (sym e)
+
+  pub whole_told : (r : prelude.Option ℕ) → length ws ≤ pattern_limit → Gave t 0 ws r → option_eq eqb r (Some (length ws)) ≡ is_some (read_pattern g.sig ws)
+  whole_told (Some n) l h = whole_at n l h
+  whole_told None l h = whole_bad l h

@@ -23,15 +23,8 @@ fn right_front(w: Word, p: &[u16]) -> bool
     ensures { result ≡ right_front (form_of w) p.now }
 {
     match w {
-        Word::Head(_c) => true,
-        Word::And => true,
-        Word::Or => true,
-        Word::Wild => true,
-        Word::Absurd => true,
-        Word::Not => true,
-        Word::Var(_x) => true,
         Word::Range => right_range(p[1], p[2]),
-        Word::Other => true,
+        _ => true,
     }
 }
 

@@ -2,12 +2,11 @@
 use mathlib.Core.Path.{◌≡◌, refl, sym, ap, ap₂, subst, ◌∙◌}
 use mathlib.Core.List.{List, [], ◌∷◌, ◌++◌, map, append-nil}
 use mathlib.Core.Bool.{cond}
-use Prim.Native.Nat.{ℕ, ◌+◌, ◌*◌, ◌-◌, ◌≤◌, ◌<◌}
+use Prim.Native.Nat.{ℕ, ◌+◌, ◌*◌, ◌-◌, min, ◌≤◌, ◌<◌}
 use native.Mathlib.Omega.{arith}
 use lib.Dec.{eqb}
 use lib.ListN.{length, get_or, take, drop, set, length-append, length-map, length-set}
-use lib.Seq.{append_snoc, set_at}
-use borrow.Author.Rules.{part_to_end}
+use lib.Seq.{append_snoc, set_at, take_at, drop_at}
 use Rattle.signature.specs.Lists.{All, none_left, also}
 use Rattle.signature.specs.Read.{read_booking}
 use Rattle.signature.specs.Signature.{Signature}
@@ -17,7 +16,7 @@ use Rattle.tree.specs.RunCall.{run_booking}
 use Rattle.charges.specs.Charge.{Charge, record_words, list_words, Recordable, ChargeWords}
 use Rattle.charges.specs.Limits.{charge_limit, record_length, booking_at, booking_room}
 use Rattle.charges.specs.Replan.{new_answer, first_refused, answered}
-use Rattle.charges.proofs.Words.{length_word, booking_words, behind_record, whole_record}
+use Rattle.charges.proofs.Words.{length_word, booking_words, behind_record, whole_record, record_long}
 use Rattle.replanning.specs.Parts.{answer_words, answers_room, Answers}
 
 -- two words that follow on each other are written behind p
@@ -62,15 +61,15 @@ module _ (sig : Signature) (tree : List ℕ) where
   mapped_more [] c = refl
   mapped_more (d ∷ cs) c = ap (λ l. answered sig tree d ∷ l) (mapped_more cs c)
 
-  -- so far none is refused, and what was found stands in front
-  pub record Going (cs : List Charge) (left : List ℕ) (i : ℕ) (found : List ℕ) : Type 0 where
+  -- so far none of n records is refused, and what was found stands in front
+  pub record Going (cs : List Charge) (left : List ℕ) (n : ℕ) (found : List ℕ) : Type 0 where
     pub done : List Charge
     pub todo : List Charge
     pub parts : cs ≡ done ++ todo
     pub few : length cs ≤ charge_limit
     pub recordable : All Recordable todo
     pub left_is : left ≡ list_words todo
-    pub at_is : i ≡ 2 * length done
+    pub at_is : n ≡ length done
     pub room : length found ≡ answers_room
     pub so_far : Answers (map (answered sig tree) done) found
     pub not_refused : first_refused sig tree cs ≡ first_refused sig tree todo
@@ -78,66 +77,73 @@ module _ (sig : Signature) (tree : List ℕ) where
   pub going_start : (cs : List Charge) (ws found : List ℕ) → ChargeWords ws cs → length found ≡ answers_room → Going cs ws 0 found
   going_start cs ws found h room = record { done = []; todo = cs; parts = refl; few = h.few; recordable = h.recordable; left_is = h.words_are; at_is = refl; room = room; so_far = record { behind = found; words_are = refl }; not_refused = refl }
 
-  module _ {cs : List Charge} {left : List ℕ} {i : ℕ} {found : List ℕ} (g : Going cs left i found) where
+  module _ {cs : List Charge} {left : List ℕ} {n : ℕ} {found : List ℕ} (g : Going cs left n found) where
     pub all_found : length left ≤ 0 → (0 ≡ first_refused sig tree cs) × Answers (map (answered sig tree) cs) found
     all_found l =
         let e : g.todo ≡ [] = at_end left g.recordable g.left_is l in
         let f : g.done ≡ cs = sym (g.parts ∙ ap (λ x. g.done ++ x) e ∙ append-nil g.done) in
         (sym (g.not_refused ∙ ap (first_refused sig tree) e), subst (λ x. Answers (map (answered sig tree) x) found) f g.so_far)
 
-    module _ (more : 0 < length left) where
+    -- the first record of what is left, and what stands behind it
+    module _ (more : 0 < length left) (first rest : List ℕ) (cut : left ≡ first ++ rest) (long : length first ≡ min record_length (length left)) where
       abbrev here : First left g.todo
       here = first_of left g.recordable g.left_is more
 
-      pub whole : record_length ≤ length left
-      whole = whole_record here.charge here.recordable left (list_words here.later) here.words_are
+      pub whole : length first ≡ record_length
+      whole = omega (arith, long, whole_record here.charge here.recordable left (list_words here.later) here.words_are)
 
-      words_is : get_or left 2 0 ≡ length here.charge.booking
-      words_is = length_word here.charge here.recordable left (list_words here.later) here.words_are
+      first_is : first ≡ record_words here.charge ++ []
+      first_is = sym (take_at first rest record_length whole) ∙ ap (take record_length) (sym cut ∙ here.words_are) ∙ take_at (record_words here.charge) (list_words here.later) record_length (record_long here.charge here.recordable) ∙ sym (append-nil (record_words here.charge))
 
-      pub short : get_or left 2 0 ≤ booking_room
+      rest_is : rest ≡ list_words here.later
+      rest_is = sym (drop_at first rest record_length whole) ∙ ap (drop record_length) (sym cut) ∙ behind_record here.charge here.recordable left (list_words here.later) here.words_are
+
+      words_is : get_or first 2 0 ≡ length here.charge.booking
+      words_is = length_word here.charge here.recordable first [] first_is
+
+      pub short : get_or first 2 0 ≤ booking_room
       short = omega (arith, words_is, here.recordable.1)
 
-      pub at_room : i + 2 ≤ answers_room
+      pub at_room : 2 * n + 2 ≤ answers_room
       at_room = omega (arith, g.at_is, g.few, ap length g.parts, length-append g.done g.todo, ap length here.are)
 
-      booking_is : take (booking_at + get_or left 2 0 - booking_at) (drop booking_at left) ≡ here.charge.booking
+      booking_is : take (booking_at + get_or first 2 0 - booking_at) (drop booking_at first) ≡ here.charge.booking
       booking_is =
-          let z : booking_at + get_or left 2 0 - booking_at ≡ length here.charge.booking = omega (arith, words_is) in
-          ap (λ n. take n (drop booking_at left)) z ∙ booking_words here.charge here.recordable left (list_words here.later) here.words_are
+          let z : booking_at + get_or first 2 0 - booking_at ≡ length here.charge.booking = omega (arith, words_is) in
+          ap (λ m. take m (drop booking_at first)) z ∙ booking_words here.charge here.recordable first [] first_is
 
-      pub few_words : length (take (booking_at + get_or left 2 0 - booking_at) (drop booking_at left)) ≤ booking_room
+      pub few_words : length (take (booking_at + get_or first 2 0 - booking_at) (drop booking_at first)) ≤ booking_room
       few_words = omega (arith, ap length booking_is, here.recordable.1)
 
-      module _ (number : ℕ) (a : Answer) (ran : (number, a) ≡ run_booking sig tree (read_booking sig (take (booking_at + get_or left 2 0 - booking_at) (drop booking_at left)))) where
+      module _ (number : ℕ) (a : Answer) (ran : (number, a) ≡ run_booking sig tree (read_booking sig (take (booking_at + get_or first 2 0 - booking_at) (drop booking_at first)))) where
         answer_is : (number, a) ≡ new_answer sig tree here.charge
         answer_is = ran ∙ ap (λ b. run_booking sig tree (read_booking sig b)) booking_is
 
         first_here : first_refused sig tree cs ≡ cond (eqb number 0) (first_refused sig tree here.later) number
         first_here = g.not_refused ∙ ap (first_refused sig tree) here.are ∙ ap (λ r. cond (eqb r.0 0) (first_refused sig tree here.later) r.0) (sym answer_is)
 
-        pub refused_here : 0 < number → (number ≡ first_refused sig tree cs) × (number ≡ 0 → Answers (map (answered sig tree) cs) found)
-        refused_here l = (sym (first_here ∙ rw (eqb_no number 0 (λ e. omega arith))), λ e. absurd (omega arith))
+        pub refused_here : (number ≡ 0 → ⊥) → (number ≡ first_refused sig tree cs) × (number ≡ 0 → Answers (map (answered sig tree) cs) found)
+        refused_here l = (sym (first_here ∙ rw (eqb_no number 0 l)), λ e. absurd (l e))
 
-        pub going_next : number ≤ 0 → Going cs (take (length left - record_length) (drop record_length left)) (i + 2) (set (set found i a.rule) (i + 1) a.plan)
+        pub going_next : number ≡ 0 → Going cs rest (n + 1) (set (set found (2 * n) a.rule) (2 * n + 1) a.plan)
         going_next l =
             let c : Charge = here.charge in
             let new : List Charge = map (answered sig tree) g.done in
-            let i_is : length (answer_words new) ≡ i = omega (arith, answers_length new, length-map g.done (answered sig tree), g.at_is) in
+            let i_is : length (answer_words new) ≡ 2 * n = omega (arith, answers_length new, length-map g.done (answered sig tree), g.at_is) in
             let (x, y, us, e) = two_words g.so_far.behind (omega (arith, at_room, g.room, ap length g.so_far.words_are, length-append (answer_words new) g.so_far.behind)) in
-            let put : set (set found i a.rule) (i + 1) a.plan ≡ answer_words new ++ (a.rule ∷ (a.plan ∷ us)) = ap (λ ws. set (set ws i a.rule) (i + 1) a.plan) (g.so_far.words_are ∙ ap (λ ws. answer_words new ++ ws) e) ∙ pair_set (answer_words new) x y us a.rule a.plan i i_is in
+            let put : set (set found (2 * n) a.rule) (2 * n + 1) a.plan ≡ answer_words new ++ (a.rule ∷ (a.plan ∷ us)) = ap (λ ws. set (set ws (2 * n) a.rule) (2 * n + 1) a.plan) (g.so_far.words_are ∙ ap (λ ws. answer_words new ++ ws) e) ∙ pair_set (answer_words new) x y us a.rule a.plan (2 * n) i_is in
             record {
               done = g.done ++ (c ∷ []);
               todo = here.later;
               parts = g.parts ∙ ap (λ x. g.done ++ x) here.are ∙ sym (append_snoc g.done c here.later);
               few = g.few;
               recordable = here.later_recordable;
-              left_is = part_to_end left record_length ∙ behind_record c here.recordable left (list_words here.later) here.words_are;
+              left_is = rest_is;
               at_is = omega (arith, g.at_is, length-append g.done (c ∷ []));
               room = simp length-set g.room;
               so_far = record {
                 behind = us;
                 words_are = put ∙ ap₂ (λ r p. answer_words new ++ (r ∷ (p ∷ us))) (ap (λ z. z.1.rule) answer_is) (ap (λ z. z.1.plan) answer_is) ∙ sym (answers_behind new (answered sig tree c ∷ []) us) ∙ ap (λ ds. answer_words ds ++ us) (sym (mapped_more g.done c));
               };
-              not_refused = let z : number ≡ 0 = omega arith in first_here ∙ rw z;
+              not_refused = first_here ∙ rw l;
             }

@@ -38,20 +38,16 @@ fn is_record(w: &[u16]) -> bool
 pub fn well_formed(charges: &[u16]) -> bool
     ensures { result ≡ is_some (read_charges charges.now) }
 {
-    let mut left = charges;
-    let mut n = 0;
-    while left.len() > 0 {
-        if n == CHARGES {
+    if CHARGES * RECORD < charges.len() {
+        return false;
+    }
+    for record in charges.chunks(RECORD) {
+        if record.len() < RECORD {
             return false;
         }
-        if left.len() < RECORD {
+        if !is_record(record) {
             return false;
         }
-        if !is_record(&left[..RECORD]) {
-            return false;
-        }
-        left = &left[RECORD..];
-        n += 1;
     }
     true
 }

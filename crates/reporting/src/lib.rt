@@ -29,10 +29,8 @@ fn put_rules(out: &mut [u8], counts: &[u16]) -> usize
     ensures { Put (lines_from 0 counts.now) 0 result out.old out.new }
 {
     let mut at = 0;
-    let mut n = 0;
-    while n < counts.len() {
-        at = put_rule(out, at, n as u16, counts[n]);
-        n += 1;
+    for (n, count) in counts.iter().enumerate() {
+        at = put_rule(out, at, n as u16, *count);
     }
     at
 }

@@ -9,11 +9,7 @@ pub fn copy(x: &[u64], n: usize, out: &mut [u64], at: usize)
     requires { (n ≤ length x.now) × (at + n ≤ length out.old) }
     ensures { take (at + n) out.new ≡ take at out.old ++ take n x.now }
 {
-    let mut i = 0;
-    while i < n {
-        out[at + i] = x[i];
-        i += 1;
-    }
+    out[at..at + n].copy_from_slice(&x[..n]);
 }
 
 // The row of n words at the front of x and that of m words at the front of y as one row of a list.

@@ -133,17 +133,6 @@ below_none q l = sym (member_is (0 ∷ 0 ∷ 0 ∷ 0 ∷ []) q) ∙ ap (λ (w : 
     zero_at (suc (suc (suc zero))) = refl
     zero_at (suc (suc (suc (suc i)))) = refl
 
-pub below_next : (s x : List ℕ) (r : ℕ) → Below s r → ((q : ℕ) → q < row_limit → member x q ≡ cond (eqb q r) true (member s q)) → Below x (r + 1)
-below_next s x r h g q l = g q l ∙ go (eqb q r) refl
-  where
-    go : (z : Bool) → eqb q r ≡ z → cond z true (member s q) ≡ ltb q (r + 1)
-    go true e = sym (lt-ltb q (r + 1) (omega (arith, eqb_eq q r e)))
-    go false e = h q l ∙ same (ltb q r) refl (eqb_ne q r e)
-      where
-        same : (b : Bool) → ltb q r ≡ b → ¬ (q ≡ r) → b ≡ ltb q (r + 1)
-        same true f n = sym (lt-ltb q (r + 1) (omega (arith, ltb-true q r f)))
-        same false f n = sym (le-ltb q (r + 1) (omega (arith, ltb-false q r f, n)))
-
 -- the rows of the first w words are those of s
 abbrev pub Copied : List ℕ → List ℕ → ℕ → Type 0
 Copied s x w = (q : ℕ) → q < 64 * w → member x q ≡ member s q
@@ -230,8 +219,15 @@ module _ (s one r : List ℕ) (i : ℕ) (h : (q : ℕ) → q < row_limit → mem
       both : (member s f && not (member one f)) ≡ true
       both = sym (g f l) ∙ e
 
-  pub only_none : (f : ℕ) → FirstIn r row_limit f → row_limit ≤ f → OnlyIn s i true
+  only_none : (f : ℕ) → FirstIn r row_limit f → row_limit ≤ f → OnlyIn s i true
   only_none f x k = record { alone = λ e. none_but f x k; other = λ e. true≢false e }
 
-  pub only_other : (f : ℕ) → FirstIn r row_limit f → f < row_limit → OnlyIn s i false
+  only_other : (f : ℕ) → FirstIn r row_limit f → f < row_limit → OnlyIn s i false
   only_other f x l = record { alone = λ e. true≢false (sym e); other = λ e. let m = one_more f l (x.there l) in (f, l, m.0, m.1) }
+
+  pub only_told : (f : ℕ) → FirstIn r row_limit f → OnlyIn s i (eqb f row_limit)
+  only_told f x = go (eqb f row_limit) refl
+    where
+      go : (b : Bool) → eqb f row_limit ≡ b → OnlyIn s i b
+      go true e = only_none f x (omega (arith, eqb_eq f row_limit e))
+      go false e = only_other f x (omega (arith, x.most, eqb_ne f row_limit e))

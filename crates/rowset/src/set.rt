@@ -1,5 +1,5 @@
 // A set of rows, 64 to a word.
-ghost use Rattle.std.specs.Prelude.{◌≡◌, true, cond, not, ◌&&◌, ℕ, ◌*◌, ◌≤◌, ◌<◌, min, eqb, ltb, length};
+ghost use Rattle.std.specs.Prelude.{◌≡◌, true, cond, not, ◌&&◌, ℕ, ◌*◌, ◌≤◌, ◌<◌, eqb, ltb, length};
 ghost use Rattle.rowset.specs.Limits.{row_limit};
 ghost use Rattle.sets.specs.Set.{set_limit};
 ghost use Rattle.rowset.specs.Member.{member, set_words, FirstIn, NextIn, OnlyIn, in_word};
@@ -34,28 +34,16 @@ pub fn put(s: &mut [u64], r: usize, b: bool)
     s[r / WORD] = without(w, i);
 }
 
-// The lesser of two.
-pub fn lesser(a: usize, b: usize) -> usize
-    ensures { result ≡ min a b }
-{
-    if a < b {
-        return a;
-    }
-    b
-}
-
 // The first row of n from word i on that is in the set, or n.
 fn first_from(s: &[u64; SET_WORDS], i: usize, n: usize) -> usize
     requires { (i ≤ set_words) × (n ≤ row_limit) }
     ensures { NextIn s.now (set_limit * i) n result }
 {
-    let mut j = i;
-    while j < SET_WORDS {
+    for j in i..SET_WORDS {
         let w = s[j];
         if w > 0 {
-            return lesser(WORD * j + lowest(w) as usize, n);
+            return (WORD * j + lowest(w) as usize).min(n);
         }
-        j += 1;
     }
     n
 }
@@ -83,7 +71,7 @@ pub fn next_in(s: &[u64; SET_WORDS], from: usize, n: usize) -> usize
     let before = full((from % WORD) as u32);
     let w = sets::set::minus(s[i], before);
     if w > 0 {
-        return lesser(WORD * i + lowest(w) as usize, n);
+        return (WORD * i + lowest(w) as usize).min(n);
     }
     first_from(s, i + 1, n)
 }
@@ -105,11 +93,7 @@ pub fn copy(s: &[u64; SET_WORDS], x: &mut [u64])
     requires { length x.old ≡ set_words }
     ensures { (q : ℕ) → q < row_limit → member x.new q ≡ member s.now q }
 {
-    let mut w = 0;
-    while w < SET_WORDS {
-        x[w] = s[w];
-        w += 1;
-    }
+    x.copy_from_slice(s);
 }
 
 // The rows of s that are not in x.
@@ -117,10 +101,8 @@ pub fn minus(s: &[u64; SET_WORDS], x: &[u64; SET_WORDS]) -> [u64; SET_WORDS]
     ensures { (q : ℕ) → q < row_limit → member result q ≡ (member s.now q && not (member x.now q)) }
 {
     let mut r = [0u64; SET_WORDS];
-    let mut w = 0;
-    while w < SET_WORDS {
+    for w in 0..SET_WORDS {
         r[w] = sets::set::minus(s[w], x[w]);
-        w += 1;
     }
     r
 }
@@ -133,10 +115,7 @@ pub fn is_only(s: &[u64; SET_WORDS], i: usize) -> bool
     let mut one = [0u64; SET_WORDS];
     put(&mut one, i, true);
     let others = minus(s, &one);
-    if first_in(&others, ROWS) < ROWS {
-        return false;
-    }
-    true
+    first_in(&others, ROWS) == ROWS
 }
 
 // The set of the first n rows.
@@ -145,10 +124,8 @@ pub fn first_rows(n: usize) -> [u64; SET_WORDS]
     ensures { (r : ℕ) → r < row_limit → member result r ≡ ltb r n }
 {
     let mut s = [0; SET_WORDS];
-    let mut r = 0;
-    while r < n {
+    for r in 0..n {
         put(&mut s, r, true);
-        r += 1;
     }
     s
 }

@@ -51,8 +51,8 @@ module _ (n m : ℕ) (ws visits places : List ℕ) (h : 0 < n) (l : 2 ≤ length
       pub no_visit : length visits ≤ get_or ws 1 0 → bound n m ws visits places ≡ none
       no_visit v = first_pair ∙ rw (leb_yes m (get_or ws 0 0) a, leb_yes (get_or ws 0 0) last_variable b, at_out visits (get_or ws 1 0) v)
 
-      pub next_pair : get_or ws 1 0 < length visits → bound n m ws visits places ≡ bound (n - 1) (get_or ws 0 0 + 1) (take (length ws - 2) (drop 2 ws)) visits (set places (get_or ws 0 0) (get_or visits (get_or ws 1 0) 0))
-      next_pair v = first_pair ∙ rw (leb_yes m (get_or ws 0 0) a, leb_yes (get_or ws 0 0) last_variable b, at_getD visits (get_or ws 1 0) v, part_to_end ws 2)
+      pub next_pair : (k : ℕ) → n - 1 ≡ k → get_or ws 1 0 < length visits → bound n m ws visits places ≡ bound k (get_or ws 0 0 + 1) (take (length ws - 2) (drop 2 ws)) visits (set places (get_or ws 0 0) (get_or visits (get_or ws 1 0) 0))
+      next_pair k e v = first_pair ∙ rw (leb_yes m (get_or ws 0 0) a, leb_yes (get_or ws 0 0) last_variable b, at_getD visits (get_or ws 1 0) v, part_to_end ws 2, e)
 
 -- what the pairs give, as the answer of a run
 pub unbound_pairs : (r p n : ℕ) (ws visits : List ℕ) → bound n 0 ws visits unbound ≡ none → refusal 15 ≡ run_at (hit_binds r p n ws visits)

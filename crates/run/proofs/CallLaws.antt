@@ -22,22 +22,25 @@ use Rattle.tree.proofs.Laws as tree_laws
 use Rattle.run.specs.Laws.{Laws}
 use Rattle.run.specs.Outcome.{ran_answer, outcome}
 use Rattle.run.specs.Parts.{Booked}
-use Rattle.run.specs.declared.Ran.{Ran}
+use Rattle.std.specs.Prelude.{Result}
+use Rattle.signature.specs.Refusal.{number_in}
+use Rattle.signature.specs.declared.refusals.Refusal.{Refusal}
+use Rattle.run.specs.declared.Answer.{Answer as Given}
 
-pub refused_1 : (ss tree bs : List ℕ) (r : Ran) → false ≡ is_some (read_signature ss) → outcome r ≡ refusal 1 → RunCall ss tree bs r.number (ran_answer r)
-refused_1 ss tree bs r e q = record { result_is = q ∙ rw (missing (read_signature ss) e) }
+pub refused_1 : (ss tree bs : List ℕ) → false ≡ is_some (read_signature ss) → RunCall ss tree bs 1 (refusal 1).1
+refused_1 ss tree bs e = record { result_is = rw (missing (read_signature ss) e) }
 
-pub decoded_run : {ss t : List ℕ} (o : Of ss t) (tree bs : List ℕ) (r : Ran) → ((g : Known t) → outcome r ≡ run_booking g.sig tree (read_booking g.sig bs)) → RunCall ss tree bs r.number (ran_answer r)
+pub decoded_run : {ss t : List ℕ} (o : Of ss t) (tree bs : List ℕ) (r : Result Given Refusal) → ((g : Known t) → outcome r ≡ run_booking g.sig tree (read_booking g.sig bs)) → RunCall ss tree bs (number_in r) (ran_answer r)
 decoded_run o tree bs r f = record { result_is = f o.known ∙ rw o.read }
 
 module _ {t : List ℕ} (g : Known t) (tree bs : List ℕ) where
-  pub refused_13 : (r : Ran) → false ≡ is_some (read_booking g.sig bs) → outcome r ≡ refusal 13 → outcome r ≡ run_booking g.sig tree (read_booking g.sig bs)
-  refused_13 r e q = q ∙ rw (missing (read_booking g.sig bs) e)
+  pub refused_13 : false ≡ is_some (read_booking g.sig bs) → refusal 13 ≡ run_booking g.sig tree (read_booking g.sig bs)
+  refused_13 e = rw (missing (read_booking g.sig bs) e)
 
   pub booked : true ≡ is_some (read_booking g.sig bs) → Booked t bs
   booked e = let (v, r) = there (read_booking g.sig bs) e in record { known = g; value = v; read = r }
 
-  pub walked : (r : Ran) (e : true ≡ is_some (read_booking g.sig bs)) → ((k : Booked t bs) → outcome r ≡ run_at (run (length tree) k.known.sig tree 0 (vcons k.value vnil) 0 [])) → outcome r ≡ run_booking g.sig tree (read_booking g.sig bs)
+  pub walked : (r : Result Given Refusal) (e : true ≡ is_some (read_booking g.sig bs)) → ((k : Booked t bs) → outcome r ≡ run_at (run (length tree) k.known.sig tree 0 (vcons k.value vnil) 0 [])) → outcome r ≡ run_booking g.sig tree (read_booking g.sig bs)
   walked r e f = go (there (read_booking g.sig bs) e)
     where
       go : (v : Value) × (read_booking g.sig bs ≡ some v) → outcome r ≡ run_booking g.sig tree (read_booking g.sig bs)

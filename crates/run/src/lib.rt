@@ -7,6 +7,7 @@ pub mod promises;
 ghost use Rattle.std.specs.Prelude.{◌≡◌, [], ◌≤◌, length};
 ghost use Rattle.signature.specs.Decoded.{Known};
 ghost use Rattle.signature.specs.Read.{read_booking};
+ghost use Rattle.signature.specs.Refusal.{number_in};
 ghost use Rattle.signature.specs.Value.{vcons, vnil};
 ghost use Rattle.tree.specs.Run.{run as run_of};
 ghost use Rattle.tree.specs.RunCall.{run_at, run_booking, RunCall};
@@ -20,22 +21,21 @@ use nodes::node;
 use nodes::node::Step;
 use pattern::limits::VARIABLES;
 use signature::decoded;
-use signature::refusals::{BOOKING_UNLAWFUL, SIGNATURE_UNLAWFUL, TREE_BROKEN};
+use signature::refusals::Refusal;
 
 // The words of a short booking.
 const SHORT: usize = 64;
 
-// The answer of a run: the refusal's number or 0, the rule, its plan, and a place for each variable.
+// The answer of a run: the rule, its plan, and a place for each variable.
 #[derive(Clone, Copy)]
-pub struct Ran {
-    pub number: u16,
+pub struct Answer {
     pub rule: u16,
     pub plan: u16,
     pub places: [u16; VARIABLES],
 }
 
 // The tree from its node on, and the booking from its current place on. A visit takes a word at least, so there are never too many.
-fn walk_in(table: &[u16], tree: &[u16], book: &[u16], visits: &mut [u16]) -> Ran
+fn walk_in(table: &[u16], tree: &[u16], book: &[u16], visits: &mut [u16]) -> Result<Answer, Refusal>
     requires { Booked table.now book.now × (length book.now ≤ length visits.old) }
     ensures { (k : Booked table.now book.now) → outcome result ≡ run_at (run_of (length tree.now) k.known.sig tree.now 0 (vcons k.value vnil) 0 []) }
 {
@@ -48,10 +48,10 @@ fn walk_in(table: &[u16], tree: &[u16], book: &[u16], visits: &mut [u16]) -> Ran
         let s = node::at_node(table, t, node, b);
         match s {
             Step::Broken => {
-                return leaf::refused(TREE_BROKEN);
+                return Err(Refusal::TreeBroken);
             }
             Step::Default { plan: p } => {
-                return leaf::no_rule(p);
+                return Ok(leaf::no_rule(p));
             }
             Step::Hit => {
                 return leaf::hit(t, &visits[..n]);
@@ -69,18 +69,23 @@ fn walk_in(table: &[u16], tree: &[u16], book: &[u16], visits: &mut [u16]) -> Ran
 }
 
 // Under a signature that is decoded already, with room for the visits of the booking: refusals 13 and 15.
-pub fn run_decoded(t: &[u16], tree: &[u16], b: &[u16], visits: &mut [u16]) -> Ran
+pub fn run_decoded(
+    t: &[u16],
+    tree: &[u16],
+    b: &[u16],
+    visits: &mut [u16],
+) -> Result<Answer, Refusal>
     requires { Known t.now × (length b.now ≤ length visits.old) }
     ensures { (g : Known t.now) → outcome result ≡ run_booking g.sig tree.now (read_booking g.sig b.now) }
 {
     if !walk::lawful(t, b) {
-        return leaf::refused(BOOKING_UNLAWFUL);
+        return Err(Refusal::BookingUnlawful);
     }
     walk_in(t, tree, b, visits)
 }
 
 // With an array for the visits of a short booking, which takes less time to clear.
-fn run_short(t: &[u16], tree: &[u16], b: &[u16]) -> Ran
+fn run_short(t: &[u16], tree: &[u16], b: &[u16]) -> Result<Answer, Refusal>
     requires { Known t.now × (length b.now ≤ short_booking) }
     ensures { (g : Known t.now) → outcome result ≡ run_booking g.sig tree.now (read_booking g.sig b.now) }
 {
@@ -89,23 +94,23 @@ fn run_short(t: &[u16], tree: &[u16], b: &[u16]) -> Ran
 }
 
 // With one for the visits of every lawful booking, which is cleared only for a lawful one.
-fn run_long(t: &[u16], tree: &[u16], b: &[u16]) -> Ran
+fn run_long(t: &[u16], tree: &[u16], b: &[u16]) -> Result<Answer, Refusal>
     requires { Known t.now }
     ensures { (g : Known t.now) → outcome result ≡ run_booking g.sig tree.now (read_booking g.sig b.now) }
 {
     if !walk::lawful(t, b) {
-        return leaf::refused(BOOKING_UNLAWFUL);
+        return Err(Refusal::BookingUnlawful);
     }
     let mut visits = [0u16; BOOKING_LIMIT];
     walk_in(t, tree, b, &mut visits)
 }
 
-pub fn run(ss: &[u16], tree: &[u16], b: &[u16]) -> Ran
-    ensures { RunCall ss.now tree.now b.now result.number (ran_answer result) }
+pub fn run(ss: &[u16], tree: &[u16], b: &[u16]) -> Result<Answer, Refusal>
+    ensures { RunCall ss.now tree.now b.now (number_in result) (ran_answer result) }
 {
     let mut t = [0u16; decoded::DECODED];
     if !decode::decode(ss, &mut t) {
-        return leaf::refused(SIGNATURE_UNLAWFUL);
+        return Err(Refusal::SignatureUnlawful);
     }
     if b.len() <= SHORT {
         return run_short(&t, tree, b);

@@ -2,46 +2,47 @@
 // booking, then their words, 16 bits each, the lower byte first. Prints the number, the rule, the plan and the bound variables.
 #![tactic(auto)]
 
-ghost use Rattle.std.specs.Prelude.{◌≤◌, length, IfOk};
+ghost use Rattle.std.specs.Prelude.{◌≤◌, ◌<◌, length, IfOk, IfSome};
 
-use run::Ran;
+use pattern::limits::VARIABLES;
+use run::Answer;
 use shown::file::{read_words, size};
 use shown::print::answer;
+use signature::refusals::Refusal;
 use std::io;
 
 const WORDS: usize = 131072;
 
-fn show(rt: &impl Print, r: Ran) -> io::Result<()> {
-    let places = r.places;
-    answer(rt, r.number, r.rule, r.plan, &places)
+fn show(rt: &impl Print, ran: Result<Answer, Refusal>) -> io::Result<()> {
+    match ran {
+        Ok(a) => answer(rt, 0, a.rule, a.plan, &a.places),
+        Err(r) => answer(rt, u16::from(r), 0, 0, &[0; VARIABLES]),
+    }
 }
 
-// The first run of these words; how many words it has, 0 where there is none.
-fn case(rt: &impl Print, w: &[u16]) -> io::Result<usize>
-    ensures { IfOk result (λ n. n ≤ length w.now) }
+// The first run of these words; how many words it has, None where there is none.
+fn case(rt: &impl Print, w: &[u16]) -> io::Result<Option<usize>>
+    ensures { IfOk result (λ r. IfSome r (λ n. (0 < n) × (n ≤ length w.now))) }
 {
     if w.len() < 3 {
-        return Ok(0);
+        return Ok(None);
     }
     let s = 3 + size(w[0]);
     let t = s + size(w[1]);
     let e = t + size(w[2]);
     if w.len() < e {
-        return Ok(0);
+        return Ok(None);
     }
     show(rt, run::run(&w[3..s], &w[s..t], &w[t..e]))?;
-    Ok(e)
+    Ok(Some(e))
 }
 
 fn cases(rt: &impl Print, all: &[u16]) -> io::Result<()> {
     let mut w = all;
-    loop {
-        let n = case(rt, w)?;
-        if n == 0 {
-            return Ok(());
-        }
+    while let Some(n) = case(rt, w)? {
         w = &w[n..];
     }
+    Ok(())
 }
 
 fn main(rt: HostRuntime) -> io::Result<()> {

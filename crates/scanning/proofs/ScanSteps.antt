@@ -8,6 +8,7 @@ use native.Mathlib.Omega.{arith}
 use lib.Dec.{eqb, leb}
 use lib.ListN.{length, drop, take, length-append, length-drop}
 use borrow.Author.Tests.{eq-eqb}
+use Rattle.std.specs.Prelude.{Option as Answer, Some, None}
 use Rattle.signature.specs.Lists.{◌>>=◌, require, is_some}
 use Rattle.signature.proofs.Tests.{bind_some, some_inj, none≢some, eqb_no, leb_yes, leb_no}
 use Rattle.text.specs.Format.{fields, number, numbers, list_within, after_key}
@@ -15,8 +16,6 @@ use Rattle.text.specs.Limits.{text_limit}
 use Rattle.text.specs.Print.{spaced}
 use Rattle.text.proofs.TextLaw.{spaced_fields}
 use Rattle.numbers.specs.Lists.{count_of, Filled}
-use Rattle.numbers.specs.declared.list.Count.{Count}
-use Rattle.numbers.specs.declared.list.Count.TheVariants.{Is, Broken}
 use Rattle.numbers.proofs.Lists.{no_list}
 use Rattle.numbers.proofs.Spans.{to_end}
 use Rattle.lines.specs.Lines.{first_line, end_of, line_end}
@@ -63,7 +62,7 @@ log_some (b ∷ bs) n = refl
 
 -- the whole text
 abbrev NotRead : List ℕ → List ℕ → List ℕ → Type 0
-NotRead t entry exit = (Broken ≡ count_of (read_log t)) × Filled (read_log t) entry exit
+NotRead t entry exit = (None ≡ count_of (read_log t)) × Filled (read_log t) entry exit
 
 pub too_long : (t entry exit : List ℕ) → text_limit < length t → NotRead t entry exit
 unfolding read_log
@@ -105,10 +104,10 @@ module _ (t : List ℕ) (short : length t ≤ text_limit) where
       fits : length rest + 1 ≤ 2 * log_room
       fits = omega (arith, line_long line_of, ap length (to_end (take e t) (length key_log)), length-drop (length key_log) (take e t))
 
-      pub empty_log : (out : List ℕ) → length rest ≡ 0 → (Is 0 ≡ count_of (read_log t)) × Filled (read_log t) out out
+      pub empty_log : (out : List ℕ) → length rest ≡ 0 → (Some 0 ≡ count_of (read_log t)) × Filled (read_log t) out out
       empty_log out z =
           let q : read_log t ≡ some [] = log_is ∙ log_none rest z in
           (sym (ap count_of q), λ ns f. let w : [] ≡ ns = some_inj [] ns (sym q ∙ f) in subst (λ x. out ≡ x ++ drop (length x) out) w refl)
 
-      pub the_log : (length rest ≡ 0 → ⊥) → (r : Count) (entry exit : List ℕ) → (r ≡ count_of (list_within log_room rest)) × Filled (list_within log_room rest) entry exit → (r ≡ count_of (read_log t)) × Filled (read_log t) entry exit
+      pub the_log : (length rest ≡ 0 → ⊥) → (r : Answer ℕ) (entry exit : List ℕ) → (r ≡ count_of (list_within log_room rest)) × Filled (list_within log_room rest) entry exit → (r ≡ count_of (read_log t)) × Filled (read_log t) entry exit
       the_log n r entry exit h = subst (λ o. (r ≡ count_of o) × Filled o entry exit) (no_limit log_room rest fits ∙ sym (log_is ∙ log_some rest n)) h

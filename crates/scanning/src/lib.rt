@@ -9,29 +9,28 @@ ghost use Rattle.scanning.specs.Room.{log_room};
 use format::whole::TEXT_LIMIT;
 use lines::line::end_of;
 use numbers::list;
-use numbers::list::Count;
 
 // As many numbers as a text has room for: behind log= and before the newline, a digit each and a space between.
 pub const LOG_ROOM: usize = (TEXT_LIMIT - 5 + 1) / 2;
 
-// The numbers stand first in out, the rest is untouched; of a text that breaks the format, out has any words.
-pub fn scan(text: &[u8], out: &mut [u16]) -> Count
+// How many numbers; None where the text breaks the format. They stand first in out, the rest is untouched; of a broken text, out has any words.
+pub fn scan(text: &[u8], out: &mut [u16]) -> Option<usize>
     requires { log_room ≤ length out.old }
     ensures { (result ≡ count_of (read_log text.now)) × Filled (read_log text.now) out.old out.new }
 {
     if TEXT_LIMIT < text.len() {
-        return Count::Broken;
+        return None;
     }
     let key = b"log=";
     let end = end_of(text, key);
     if end + 1 != text.len() {
-        return Count::Broken;
+        return None;
     }
     let line = &text[..end];
     let k = key.len();
     let rest = &line[k..];
     if rest.len() == 0 {
-        return Count::Is(0);
+        return Some(0);
     }
     list::list(rest, LOG_ROOM, out)
 }

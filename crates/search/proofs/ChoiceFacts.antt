@@ -6,6 +6,7 @@ use Prim.Native.Nat.{ℕ, ◌+◌, ◌*◌, ◌≤◌, ◌<◌}
 use native.Mathlib.Omega.{arith}
 use lib.Dec.{eqb}
 use lib.ListN.{length, drop}
+use Rattle.std.specs.Prelude.{None, Some}
 use Rattle.signature.specs.Lists.{is_some}
 use Rattle.signature.proofs.Booleans.{and_left}
 use Rattle.signature.proofs.Tests.{true≢false, eqb_eq, eqb_ne}
@@ -13,6 +14,7 @@ use Rattle.row.specs.Row.{combine}
 use Rattle.row.specs.RowFits.{row_fits}
 use Rattle.cell.specs.Coded.{kinds_of, row_code}
 use Rattle.cell.specs.RowList.{from}
+use Rattle.cell.proofs.RowListFacts.{not_both}
 use Rattle.cell.proofs.Walk.{from_is}
 use Rattle.rowset.specs.Limits.{row_limit}
 use Rattle.rowset.specs.Member.{member}
@@ -97,10 +99,10 @@ module _ {t a rows : List ℕ} {n : ℕ} {b : List ℕ} (g : GivenTaker t a rows
   }
 
   -- no row of the first i takes it
-  abbrev None : List ℕ → ℕ → Type 0
-  None s i = (p : ℕ) → p < i → member s p ≡ true → row_fits (row_at g.table.rs p) g.value ≡ false
+  abbrev NoneTakes : List ℕ → ℕ → Type 0
+  NoneTakes s i = (p : ℕ) → p < i → member s p ≡ true → row_fits (row_at g.table.rs p) g.value ≡ false
 
-  pub none_more : (s : List ℕ) (i : ℕ) (x : Bool) → None s i → x ≡ (member s i && row_fits (row_at g.table.rs i) g.value) → x ≡ false → None s (i + 1)
+  pub none_more : (s : List ℕ) (i : ℕ) (x : Bool) → NoneTakes s i → x ≡ (member s i && row_fits (row_at g.table.rs i) g.value) → x ≡ false → NoneTakes s (i + 1)
   none_more s i x h e f p l m = go (eqb p i) refl
     where
       go : (b : Bool) → eqb p i ≡ b → row_fits (row_at g.table.rs p) g.value ≡ false
@@ -110,12 +112,16 @@ module _ {t a rows : List ℕ} {n : ℕ} {b : List ℕ} (g : GivenTaker t a rows
           rw m at y
       go false z = h p (omega (arith, l, eqb_ne p i z)) m
 
-  pub taker_at : (s : List ℕ) (r : ℕ) (x : Bool) → r < n → x ≡ (member s r && row_fits (row_at g.table.rs r) g.value) → x ≡ true → Taker g s r
+  pub taker_at : (s : List ℕ) (r : ℕ) (x : Bool) → r < n → x ≡ (member s r && row_fits (row_at g.table.rs r) g.value) → x ≡ true → Taker g s (Some r)
   taker_at s r x l e f = record {
-    most = omega (arith, l);
-    one = λ k. and_left (member s r) (row_fits (row_at g.table.rs r) g.value) (sym e ∙ f);
-    none_takes = λ z. absurd (omega (arith, z, l));
+    there = λ k z. let same : r ≡ k = cc in rw (← same) l;
+    one = λ k z. let same : r ≡ k = cc in rw (← same) (and_left (member s r) (row_fits (row_at g.table.rs r) g.value) (sym e ∙ f));
+    none_takes = λ z. absurd (not_both {res = Some r} refl z);
   }
 
-  pub taker_none : (s : List ℕ) (i : ℕ) → n ≤ i → None s i → Taker g s n
-  taker_none s i l h = record { most = omega arith; one = λ k. absurd (omega (arith, k)); none_takes = λ z r k m. h r (omega (arith, l, k)) m }
+  pub taker_none : (s : List ℕ) (i : ℕ) → n ≤ i → NoneTakes s i → Taker g s None
+  taker_none s i l h = record {
+    there = λ k z. absurd (not_both z refl);
+    one = λ k z. absurd (not_both z refl);
+    none_takes = λ z r k m. h r (omega (arith, l, k)) m;
+  }

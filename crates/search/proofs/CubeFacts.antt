@@ -23,10 +23,8 @@ use Rattle.signature.proofs.ListFacts.{Kept, kept, dropped}
 use Rattle.cell.specs.Coded.{kinds_of, row_code, row_code_of}
 use Rattle.cell.specs.Lockstep.{GivenRows, Result}
 use Rattle.cell.specs.RowList.{from}
-use Rattle.cell.specs.declared.cell.Out.{Out}
-use Rattle.cell.specs.declared.cell.Out.TheVariants.{Dropped, Kept as KeptOut}
-use Rattle.cell.proofs.RowListFacts.{kept_is, kept_le}
-use Rattle.cell.proofs.Walk.{code_long}
+use Rattle.std.specs.Prelude.{Option as CodeOption, None, Some}
+use Rattle.cell.proofs.RowListFacts.{not_both, kept_is, kept_le}
 use lib.Seq.{take_at}
 use Rattle.builder.proofs.Rooms.{code_places}
 use Rattle.path.specs.State.{start_of}
@@ -42,32 +40,26 @@ unpacked : {P : Row → Type 0} {m : Option Row} → Kept P m → (x : Row) → 
 unpacked dropped x e = none≢some e
 unpacked {P} (kept y h) x e = subst P (some_inj y x e) h
 
-two_outs : (res : Out) (n : ℕ) → res ≡ KeptOut n → res ≡ Dropped → ⊥
-two_outs res n e f = let z : ◌≡◌ {A = ℕ} 0 1 = cc in omega (arith, z)
-
 -- what combine left
-kept_length : (x : List ℕ) (res : Out) (w : ℕ) (o o' : List ℕ) → Result (some x) res o o' → res ≡ KeptOut w → w ≡ length x
+kept_length : (x : List ℕ) (res : CodeOption ℕ) (w : ℕ) (o o' : List ℕ) → Result (some x) res o o' → res ≡ Some w → w ≡ length x
 kept_length x res w o o' h e = let (y, a, b, c) = kept_is (some x) res w o o' h e in b ∙ ap length (sym (some_inj x y a))
 
-kept_front : (x : List ℕ) (res : Out) (w : ℕ) (o o' : List ℕ) → Result (some x) res o o' → res ≡ KeptOut w → take w o' ≡ x
+kept_front : (x : List ℕ) (res : CodeOption ℕ) (w : ℕ) (o o' : List ℕ) → Result (some x) res o o' → res ≡ Some w → take w o' ≡ x
 kept_front x res w o o' h e =
     let (y, a, b, c) = kept_is (some x) res w o o' h e in
     ap (take w) c ∙ take_at y (drop w o) w (sym b) ∙ sym (some_inj x y a)
 
 -- the row of all values
-pub open_cube : (sig : Signature) (rs : List Row) (path q : List ℕ) (n : ℕ) → Opened sig n q → CubeOf sig rs path 0 n q
+pub open_cube : (sig : Signature) (rs : List Row) (path q : List ℕ) (n : ℕ) → Opened sig n q → Cube sig rs path 0 q n
 open_cube sig rs path q n O = record {
-  none_short = λ e. absurd (omega (arith, e, O.words_are));
-  cube = λ l. record {
-    row = open_row sig 0;
-    rest = O.rest;
-    good = O.good;
-    low = omega arith;
-    code_is = O.code_is;
-    words_are = O.words_are;
-    few = omega (arith, O.words_are);
-    just = λ v k. open_fits sig k [];
-  };
+  row = open_row sig 0;
+  rest = O.rest;
+  good = O.good;
+  low = omega arith;
+  code_is = O.code_is;
+  words_are = O.words_are;
+  few = omega (arith, O.words_are);
+  just = λ v k. open_fits sig k [];
 }
 
 module _ {t a rows : List ℕ} {n : ℕ} {path : List ℕ} {depth i words : ℕ} {q o : List ℕ} (g : GivenStep t a rows n path depth i words q o) where
@@ -112,13 +104,13 @@ module _ {t a rows : List ℕ} {n : ℕ} {path : List ℕ} {depth i words : ℕ}
   }
 
   -- no value is left
-  none_left : (q' : List ℕ) → ((v : Value) → OfKind sig 0 v → size v ≤ booking_limit → row_fits g.cube.row v ≡ true → row_fits seen v ≡ true → ⊥) → CubeOf sig rs path (suc i) 0 q'
+  none_left : (q' : List ℕ) → ((v : Value) → OfKind sig 0 v → size v ≤ booking_limit → row_fits g.cube.row v ≡ true → row_fits seen v ≡ true → ⊥) → CubeOf sig rs path (suc i) None q'
   none_left q' f = record {
     none_short = λ e v k l h. f v k l (g.cube.just v k ∙ and_left (on_path sig rs path i v) (row_fits seen v) h) (and_right (on_path sig rs path i v) (row_fits seen v) h);
-    cube = λ l. absurd (omega (arith, l));
+    cube = λ w e. absurd (not_both e refl);
   }
 
-  pub view_dropped : (q' : List ℕ) → ((v : Value) → row_fits seen v ≡ false) → CubeOf sig rs path (suc i) 0 q'
+  pub view_dropped : (q' : List ℕ) → ((v : Value) → row_fits seen v ≡ false) → CubeOf sig rs path (suc i) None q'
   view_dropped q' f = none_left q' (λ v k l h e. true≢false (sym e ∙ f v))
 
   module _ (d' rest : List ℕ) (code_is : d' ≡ row_code (kinds_of sig) seen 0 ++ rest) (good : Good sig 0 seen) where
@@ -140,40 +132,40 @@ module _ {t a rows : List ℕ} {n : ℕ} {path : List ℕ} {depth i words : ℕ}
       room = omega (arith, seen_few, g.cube.words_are, g.cube.few, g.branch.rooms.for_both);
     }
 
-    module _ (res : Out) (o' : List ℕ) (R : Result (row_code_of (kinds_of sig) 0 (combine g.cube.row seen)) res o o') where
+    module _ (res : CodeOption ℕ) (o' : List ℕ) (R : Result (row_code_of (kinds_of sig) 0 (combine g.cube.row seen)) res o o') where
       both_fit : (v : Value) → kept_fits (combine g.cube.row seen) v ≡ (row_fits g.cube.row v && row_fits seen v)
       both_fit v = combine_fits g.cube.row seen v
 
-      pub combine_dropped : (q' : List ℕ) → res ≡ Dropped → CubeOf sig rs path (suc i) 0 q'
+      pub combine_dropped : (q' : List ℕ) → res ≡ None → CubeOf sig rs path (suc i) None q'
       combine_dropped q' e = go (combine g.cube.row seen) refl R
         where
-          go : (m : Option Row) → combine g.cube.row seen ≡ m → Result (row_code_of (kinds_of sig) 0 m) res o o' → CubeOf sig rs path (suc i) 0 q'
+          go : (m : Option Row) → combine g.cube.row seen ≡ m → Result (row_code_of (kinds_of sig) 0 m) res o o' → CubeOf sig rs path (suc i) None q'
           go none c h = none_left q' (λ v k l x y. true≢false (sym (ap₂ ◌&&◌ x y) ∙ sym (both_fit v) ∙ ap (λ (z : Option Row). kept_fits z v) c))
-          go (some u) c h = absurd (two_outs res _ h.0 e)
+          go (some u) c h = absurd (not_both h.0 e)
 
-      module _ (w : ℕ) (e : res ≡ KeptOut w) where
+      module _ (w : ℕ) (e : res ≡ Some w) where
         pub both_le : w ≤ length o'
         both_le = kept_le (row_code_of (kinds_of sig) 0 (combine g.cube.row seen)) res w o o' R e
 
-        pub combine_large : (q' : List ℕ) → 12288 < w → CubeOf sig rs path (suc i) 0 q'
+        pub combine_large : (q' : List ℕ) → 12288 < w → CubeOf sig rs path (suc i) None q'
         combine_large q' l = go (combine g.cube.row seen) refl R
           where
-            go : (m : Option Row) → combine g.cube.row seen ≡ m → Result (row_code_of (kinds_of sig) 0 m) res o o' → CubeOf sig rs path (suc i) 0 q'
-            go none c h = absurd (two_outs res w e h)
+            go : (m : Option Row) → combine g.cube.row seen ≡ m → Result (row_code_of (kinds_of sig) 0 m) res o o' → CubeOf sig rs path (suc i) None q'
+            go none c h = absurd (not_both e h)
             go (some u) c h =
                 none_left q' (λ v k s x y. absurd (omega (arith, l, s, kept_length (row_code (kinds_of sig) u 0) res w o o' h e, code_places (kinds_of sig) u 0, value_laws.cells_words u v (ap (λ (z : Option Row). kept_fits z v) (sym c) ∙ both_fit v ∙ ap₂ ◌&&◌ x y))))
 
-        pub combine_kept : (q' : List ℕ) → w ≤ 12288 → take (0 + w) q' ≡ take w o' → CubeOf sig rs path (suc i) w q'
+        pub combine_kept : (q' : List ℕ) → w ≤ 12288 → take (0 + w) q' ≡ take w o' → CubeOf sig rs path (suc i) (Some w) q'
         combine_kept q' l f = go (combine g.cube.row seen) refl R
           where
             first : w ≡ 0 + w
             first = omega arith
 
-            go : (m : Option Row) → combine g.cube.row seen ≡ m → Result (row_code_of (kinds_of sig) 0 m) res o o' → CubeOf sig rs path (suc i) w q'
-            go none c h = absurd (two_outs res w e h)
+            go : (m : Option Row) → combine g.cube.row seen ≡ m → Result (row_code_of (kinds_of sig) 0 m) res o o' → CubeOf sig rs path (suc i) (Some w) q'
+            go none c h = absurd (not_both e h)
             go (some u) c h = record {
-              none_short = λ z. absurd (omega (arith, z, kept_length (row_code (kinds_of sig) u 0) res w o o' h e, code_long (kinds_of sig) 0 u));
-              cube = λ z. record {
+              none_short = λ z. absurd (not_both {res = Some w} refl z);
+              cube = λ x z. let same : w ≡ x = cc in rw (← same) record {
                 row = u;
                 rest = drop w q';
                 good = unpacked (combine_good sig g.cube.row seen g.cube.good good) u c;
@@ -203,16 +195,16 @@ module _ {t a rows : List ℕ} {n : ℕ} {path : List ℕ} {depth ql ol : ℕ} (
   }
 
   pub first_cube : (q : List ℕ) (w : ℕ) → Opened g.table.known.sig w q → Cube g.table.known.sig g.table.rs path 0 q w
-  first_cube q w O = (open_cube g.table.known.sig g.table.rs path q w O).cube (omega (arith, O.words_are))
+  first_cube q w O = open_cube g.table.known.sig g.table.rs path q w O
 
-  pub next_cube : (i w : ℕ) (q' : List ℕ) → CubeOf g.table.known.sig g.table.rs path (suc i) w q' → 1 ≤ w → Cube g.table.known.sig g.table.rs path (i + 1) q' w
-  next_cube i w q' C l = let z : i + 1 ≡ suc i = omega arith in rw z (C.cube l)
+  pub next_cube : (i w : ℕ) (q' : List ℕ) → CubeOf g.table.known.sig g.table.rs path (suc i) (Some w) q' → Cube g.table.known.sig g.table.rs path (i + 1) q' w
+  next_cube i w q' C = let z : i + 1 ≡ suc i = omega arith in rw z (C.cube w refl)
 
-  pub no_cube : (i w : ℕ) (q' q'' : List ℕ) → i < depth → CubeOf g.table.known.sig g.table.rs path (suc i) w q' → w ≡ 0 → CubeOf g.table.known.sig g.table.rs path depth 0 q''
-  no_cube i w q' q'' l C e = record {
-    none_short = λ z v k s h. C.none_short e v k s (prefix g.table.known.sig g.table.rs path (suc i) depth v l h);
-    cube = λ k. absurd (omega (arith, k));
+  pub no_cube : (i : ℕ) (q' q'' : List ℕ) → i < depth → CubeOf g.table.known.sig g.table.rs path (suc i) None q' → CubeOf g.table.known.sig g.table.rs path depth None q''
+  no_cube i q' q'' l C = record {
+    none_short = λ z v k s h. C.none_short refl v k s (prefix g.table.known.sig g.table.rs path (suc i) depth v l h);
+    cube = λ w e. absurd (not_both e refl);
   }
 
-  pub last_cube : (i w : ℕ) (q : List ℕ) → i ≤ depth → depth ≤ i → 1 ≤ w → Cube g.table.known.sig g.table.rs path i q w → CubeOf g.table.known.sig g.table.rs path depth w q
-  last_cube i w q l m k C = let z : depth ≡ i = omega (arith, l, m) in record { none_short = λ e. absurd (omega (arith, e, k)); cube = λ x. rw z C }
+  pub last_cube : (i w : ℕ) (q : List ℕ) → i ≤ depth → depth ≤ i → Cube g.table.known.sig g.table.rs path i q w → CubeOf g.table.known.sig g.table.rs path depth (Some w) q
+  last_cube i w q l m C = let z : depth ≡ i = omega (arith, l, m) in record { none_short = λ e. absurd (not_both {res = Some w} refl e); cube = λ x e. let same : w ≡ x = cc in rw (z, ← same) C }

@@ -7,6 +7,7 @@ use Prim.Native.Nat.{ℕ, suc, ◌*◌, ◌<◌}
 use native.Mathlib.Omega.{arith}
 use lib.Dec.{eqb}
 use lib.ListN.{length, get_or}
+use Rattle.std.specs.Prelude.{Option as CodeOption, None, Some}
 use Rattle.signature.specs.Signature.{Signature}
 use Rattle.signature.specs.Value.{Value}
 use Rattle.signature.proofs.Booleans.{and_left, and_right}
@@ -22,6 +23,7 @@ use Rattle.views.proofs.Opened.{one_more, none_found}
 use Rattle.search.specs.Search.{Missed}
 use Rattle.search.specs.Branch.{path_length, row_at, leaves, on_path}
 use Rattle.search.specs.Look.{GivenNode, GivenLeave, NodeFound}
+use Rattle.cell.proofs.RowListFacts.{not_both}
 use Rattle.search.proofs.Paths.{stepped, before_step, before_both, long_step, row_there, path_same, path_step}
 use Rattle.search.proofs.RowFacts.{taken_some, at_row}
 
@@ -84,14 +86,14 @@ module _ {t a rows : List ℕ} {n : ℕ} {s path₀ : List ℕ} {depth r cells q
         room = g.room;
       }
 
-      module _ (m : ℕ) (path' v : List ℕ) (F : NodeFound sig rs (stepped path depth r opened c) (suc depth) m path' v) where
+      module _ (res : CodeOption ℕ) (path' v : List ℕ) (F : NodeFound sig rs (stepped path depth r opened c) (suc depth) res path' v) where
         before_child : Before (3 * depth) path₀ path'
         before_child = before_both (3 * depth) (3 * suc depth) path₀ (stepped path depth r opened c) path' (omega arith) (before_both (3 * depth) (3 * depth) path₀ path (stepped path depth r opened c) (omega arith) I.kept (before_step path depth r opened c)) F.kept
 
-        pub branch_found : 0 < m → NodeFound sig rs path₀ depth m path' v
-        branch_found l = record { none_there = λ z. absurd (omega (arith, z, l)); one_there = F.one_there; kept = before_child }
+        pub branch_found : (m : ℕ) → res ≡ Some m → NodeFound sig rs path₀ depth (Some m) path' v
+        branch_found m l = record { none_there = λ z. absurd (not_both {res = Some m} refl z); one_there = λ k e. F.one_there k (l ∙ e); kept = before_child }
 
-        pub leave_next : (opened' : ℕ) → ((j : ℕ) → bit opened' j ≡ cond (eqb j c) 0 (bit opened j)) → m ≡ 0 → length path' ≡ path_length → Leaving path' opened'
+        pub leave_next : (opened' : ℕ) → ((j : ℕ) → bit opened' j ≡ cond (eqb j c) 0 (bit opened j)) → res ≡ None → length path' ≡ path_length → Leaving path' opened'
         leave_next opened' h z len = record {
           kept = before_child;
           long = len;
@@ -104,9 +106,9 @@ module _ {t a rows : List ℕ} {n : ℕ} {s path₀ : List ℕ} {depth r cells q
             go u k p (inr f) = sym (laws.same_kept (with_cell (kept_of opened) c) (kept_of opened') row u (λ i. sym (one_more opened opened' c h i))) ∙ f
 
   -- no cell is left: every value of the branch is taken by the row
-  pub leave_end : (path : List ℕ) (opened edges : ℕ) (v : List ℕ) → Leaving path opened → ((c : ℕ) → bit edges c ≡ cond (edge (kept_of opened) c 0 row) 1 0) → edges ≡ 0 → NodeFound sig rs path₀ depth 0 path v
+  pub leave_end : (path : List ℕ) (opened edges : ℕ) (v : List ℕ) → Leaving path opened → ((c : ℕ) → bit edges c ≡ cond (edge (kept_of opened) c 0 row) 1 0) → edges ≡ 0 → NodeFound sig rs path₀ depth None path v
   leave_end path opened edges v I f z = record {
     none_there = λ e u k p. true≢false (sym (taken_some rs r u (omega (arith, g.there, g.branch.table.many)) (laws.whole (kept_of opened) row u (none_found row opened edges z f) (I.agree u k p))) ∙ k.taken_by_none);
-    one_there = λ l. absurd (omega (arith, l));
+    one_there = λ m l. absurd (not_both l refl);
     kept = I.kept;
   }

@@ -6,6 +6,7 @@ use mathlib.Core.Option.{Option, none, some}
 use Prim.Native.Nat.{ℕ, ◌<◌}
 use native.Mathlib.Omega.{arith}
 use lib.ListN.{length, take}
+use Rattle.std.specs.Prelude.{Option as CodeOption, None, Some}
 use Rattle.signature.specs.Lawful.{OfKind}
 use Rattle.signature.specs.Limits.{booking_limit}
 use Rattle.signature.specs.Lists.{is_some}
@@ -47,8 +48,8 @@ module _ {t a rows : List ℕ} {n : ℕ} {s path : List ℕ} {depth ql ol vl : �
       no_taken r o e = let z : ◌≡◌ {A = ℕ} 0 1 = cc in omega (arith, z)
 
   -- the branch has no value that is as short as a booking
-  pub none_seen : (q live v : List ℕ) (w : ℕ) → w ≡ 0 → CubeOf sig rs path depth w q → SeenOf sig rs n s path depth Nothing live v
-  none_seen q live v w e C = seen_nothing live v (λ u h p. C.none_short e u h.kinded h.few p)
+  pub none_seen : (q live v : List ℕ) (res : CodeOption ℕ) → res ≡ None → CubeOf sig rs path depth res q → SeenOf sig rs n s path depth Nothing live v
+  none_seen q live v res e C = seen_nothing live v (λ u h p. C.none_short e u h.kinded h.few p)
 
   module _ (q : List ℕ) (w : ℕ) (C : Cube sig rs path depth q w) where
     on_cube : (v : Value) → OfKind sig 0 v → on_path sig rs path depth v ≡ true → row_fits C.row v ≡ true
@@ -76,15 +77,15 @@ module _ {t a rows : List ℕ} {n : ℕ} {s path : List ℕ} {depth ql ol vl : �
         abbrev pub to_taker : GivenTaker t a rows n b
         to_taker = record { table = g.branch.table; value = x; kinded = T.kinded; words = eq ∙ eb }
 
-        module _ (r : ℕ) (K : Taker to_taker live r) where
-          not_taken : r ≡ n → (p : ℕ) → p < n → row_fits (row_at rs p) x ≡ false
+        module _ (res : CodeOption ℕ) (K : Taker to_taker live res) where
+          not_taken : res ≡ None → (p : ℕ) → p < n → row_fits (row_at rs p) x ≡ false
           not_taken e p l = go (row_fits (row_at rs p) x) refl
             where
               go : (z : Bool) → row_fits (row_at rs p) x ≡ z → row_fits (row_at rs p) x ≡ false
               go true h = K.none_takes e p l (met p x l T.kinded (sym (C.just x T.kinded) ∙ T.fits) h)
               go false h = h
 
-          pub free_seen : r ≡ n → SeenOf sig rs n s path depth (Free m) live v'
+          pub free_seen : res ≡ None → SeenOf sig rs n s path depth (Free m) live v'
           free_seen e = record {
             nothing = λ z. absurd (no_nothing z);
             free_value = λ k z. record {
@@ -105,25 +106,28 @@ module _ {t a rows : List ℕ} {n : ℕ} {s path : List ℕ} {depth ql ol vl : �
               same_free : (k : ℕ) → Free m ≡ Free k → m ≡ k
               same_free k e = cc
 
-          module _ (l : r < n) (start : ℕ) (es : start ≡ start_of rows r) where
+          module _ (r : ℕ) (er : res ≡ Some r) (start : ℕ) (es : start ≡ start_of rows r) where
+            abbrev below : r < n
+            below = K.there r er
+
             abbrev pub to_beside : GivenBeside t (from a start) q
             to_beside = record {
               known = g.branch.table.known;
               r = row_at rs r;
               s = C.row;
-              rest_r = (row_placed g.branch.table r l).rest;
+              rest_r = (row_placed g.branch.table r below).rest;
               rest_s = C.rest;
-              proper = row_proper g.branch.table r l;
+              proper = row_proper g.branch.table r below;
               good = C.good;
-              code_r = row_words g.branch.table r l start es;
+              code_r = row_words g.branch.table r below start es;
               code_s = C.code_is;
             }
 
             taken_by : (opened : ℕ) → length live ≡ set_words → AgreeBeside to_beside opened → TakenBy sig rs n s path depth r opened live
             taken_by opened sized A = record {
-              there = l;
+              there = below;
               sized = sized;
-              alive = K.one l;
+              alive = K.one r er;
               complete = λ p v k o h f. met p v k o h f;
               within = λ p k e. and_left (member s p) (is_some (combine C.row (row_at rs p))) (sym (M p k) ∙ e);
               agree = (A.0, λ v k p. A.1 v k (on_cube v k p));

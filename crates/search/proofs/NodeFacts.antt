@@ -7,6 +7,7 @@ use Prim.Native.Nat.{ℕ, ◌≤◌, ◌<◌}
 use native.Mathlib.Omega.{arith}
 use lib.Dec.{eqb, ltb}
 use lib.ListN.{length}
+use Rattle.std.specs.Prelude.{Option as CodeOption, None, Some}
 use Rattle.signature.specs.Signature.{Signature}
 use Rattle.signature.specs.Value.{Value}
 use Rattle.signature.proofs.Tests.{true≢false, eqb_eq, eqb_self}
@@ -17,19 +18,19 @@ use Rattle.search.specs.Search.{GivenTable, Missed, Searched}
 use Rattle.search.specs.Branch.{path_length, on_path}
 use Rattle.search.specs.Look.{Within, GivenNode, GivenLeave, TakenBy, FreeValue, NodeFound}
 use Rattle.search.proofs.Counts.{count_less, count_most}
-use Rattle.search.proofs.RowFacts.{some_size}
+use Rattle.cell.proofs.RowListFacts.{not_both}
 
 module _ {t a rows : List ℕ} {n : ℕ} {s path : List ℕ} {depth q o w : ℕ} (g : GivenNode t a rows n s path depth q o w) where
   -- a value that no row takes was seen
-  pub free_found : (m : ℕ) (v : List ℕ) → FreeValue g.branch.table.known.sig g.branch.table.rs m v → NodeFound g.branch.table.known.sig g.branch.table.rs path depth m path v
+  pub free_found : (m : ℕ) (v : List ℕ) → FreeValue g.branch.table.known.sig g.branch.table.rs m v → NodeFound g.branch.table.known.sig g.branch.table.rs path depth (Some m) path v
   free_found m v f = record {
-    none_there = λ e u h p. absurd (omega (arith, e, f.size_is, some_size f.value));
-    one_there = λ l. f;
+    none_there = λ e u h p. absurd (not_both {res = Some m} refl e);
+    one_there = λ k e. let same : m ≡ k = cc in rw (← same) f;
     kept = λ i l. refl;
   }
 
-  pub nothing_found : (v : List ℕ) → ((u : Value) → Missed g.branch.table.known.sig g.branch.table.rs u → on_path g.branch.table.known.sig g.branch.table.rs path depth u ≡ true → ⊥) → NodeFound g.branch.table.known.sig g.branch.table.rs path depth 0 path v
-  nothing_found v f = record { none_there = λ e. f; one_there = λ l. absurd (omega (arith, l)); kept = λ i l. refl }
+  pub nothing_found : (v : List ℕ) → ((u : Value) → Missed g.branch.table.known.sig g.branch.table.rs u → on_path g.branch.table.known.sig g.branch.table.rs path depth u ≡ true → ⊥) → NodeFound g.branch.table.known.sig g.branch.table.rs path depth None path v
+  nothing_found v f = record { none_there = λ e. f; one_there = λ m e. absurd (not_both e refl); kept = λ i l. refl }
 
   -- the row that takes a value is left
   module _ (r opened : ℕ) (live live' : List ℕ) (T : TakenBy g.branch.table.known.sig g.branch.table.rs n s path depth r opened live) (out : (p : ℕ) → p < row_limit → member live' p ≡ cond (eqb p r) false (member live p)) where
@@ -83,7 +84,7 @@ resized_leave g q' o' w' eq eo ew = record {
   room = rw (← ew) g.room;
 }
 
-pub found_back : {path path' : List ℕ} {depth depth' : ℕ} {sig : Signature} {rs : List Row} {m : ℕ} {p v : List ℕ} → path ≡ path' → depth ≡ depth' → NodeFound sig rs path' depth' m p v → NodeFound sig rs path depth m p v
+pub found_back : {path path' : List ℕ} {depth depth' : ℕ} {sig : Signature} {rs : List Row} {m : CodeOption ℕ} {p v : List ℕ} → path ≡ path' → depth ≡ depth' → NodeFound sig rs path' depth' m p v → NodeFound sig rs path depth m p v
 found_back ep ed F = rw (ep, ed) F
 
 -- at the root every row may take a value
@@ -99,8 +100,8 @@ to_root {n = n} g s path q o w h len lq lo lw = record {
   room = lw;
 }
 
-pub root_found : {sig : Signature} {rs : List Row} {path : List ℕ} {m : ℕ} {p v : List ℕ} → NodeFound sig rs path 0 m p v → Searched sig rs m v
+pub root_found : {sig : Signature} {rs : List Row} {path : List ℕ} {m : CodeOption ℕ} {p v : List ℕ} → NodeFound sig rs path 0 m p v → Searched sig rs m v
 root_found F = record {
   none_there = λ e u h. F.none_there e u h refl;
-  one_there = λ l. let f = F.one_there l in (f.value, f.missed, f.size_is, f.words_are);
+  one_there = λ n e. let f = F.one_there n e in (f.value, f.missed, f.size_is, f.words_are);
 }

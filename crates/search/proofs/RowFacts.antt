@@ -3,19 +3,16 @@ use mathlib.Core.Path.{◌≡◌, refl}
 use mathlib.Core.List.{List, [], ◌∷◌}
 use mathlib.Core.Bool.{true, false}
 use mathlib.Core.Option.{some}
-use Prim.Native.Nat.{ℕ, zero, suc, ◌≤◌, ◌<◌}
+use Prim.Native.Nat.{ℕ, zero, suc, ◌<◌}
 use native.Mathlib.Omega.{arith}
 use lib.ListN.{length, get_elem?}
 use Rattle.signature.specs.Lists.{All}
-use Rattle.signature.specs.Value.{Value, con, size}
+use Rattle.signature.specs.Value.{Value}
 use Rattle.signature.proofs.Booleans.{or_true_left, or_true_right}
 use Rattle.signature.proofs.ListFacts.{all_at}
 use Rattle.row.specs.Row.{Row}
 use Rattle.row.specs.RowFits.{row_fits, fits_some}
 use Rattle.search.specs.Branch.{row_at}
-
-pub some_size : (v : Value) → 1 ≤ size v
-some_size (con c vs) = omega arith
 
 pub row_there : (rs : List Row) (r : ℕ) → r < length rs → get_elem? rs r ≡ some (row_at rs r)
 row_there [] r l = absurd (omega (arith, l))

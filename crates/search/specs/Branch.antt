@@ -1,5 +1,5 @@
 -- A branch of the search: the values that leave some rows, each at a cell.
-use Rattle.std.specs.Prelude.{◌≡◌, List, [], ◌++◌, Bool, true, ◌&&◌, ℕ, zero, suc, ◌+◌, ◌*◌, ◌≤◌, ◌<◌, length, get_or}
+use Rattle.std.specs.Prelude.{◌≡◌, List, [], ◌++◌, Bool, true, ◌&&◌, ℕ, zero, suc, ◌+◌, ◌*◌, ◌≤◌, ◌<◌, length, get_or, Option as CodeOption, None, Some}
 use Rattle.signature.specs.Lawful.{OfKind}
 use Rattle.signature.specs.Limits.{booking_limit}
 use Rattle.signature.specs.Signature.{Signature}
@@ -51,10 +51,10 @@ pub record Cube (sig : Signature) (rs : List Row) (path : List ℕ) (depth : ℕ
   pub few : words ≤ cell_width * booking_limit
   pub just : (v : Value) → OfKind sig 0 v → row_fits row v ≡ on_path sig rs path depth v
 
--- such a row; or 0, and no value of the branch is as short as a booking
-pub record CubeOf (sig : Signature) (rs : List Row) (path : List ℕ) (depth : ℕ) (words : ℕ) (q : List ℕ) : Type 0 where
-  pub none_short : words ≡ 0 → (v : Value) → OfKind sig 0 v → size v ≤ booking_limit → on_path sig rs path depth v ≡ true → ⊥
-  pub cube : 1 ≤ words → Cube sig rs path depth q words
+-- such a row; or None, and no value of the branch is as short as a booking
+pub record CubeOf (sig : Signature) (rs : List Row) (path : List ℕ) (depth : ℕ) (res : CodeOption ℕ) (q : List ℕ) : Type 0 where
+  pub none_short : res ≡ None → (v : Value) → OfKind sig 0 v → size v ≤ booking_limit → on_path sig rs path depth v ≡ true → ⊥
+  pub cube : (words : ℕ) → res ≡ Some words → Cube sig rs path depth q words
 
 -- room for such a row, and for one with a view more
 pub record Rooms (q o : ℕ) : Type 0 where

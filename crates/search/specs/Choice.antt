@@ -1,5 +1,5 @@
 -- The rows that meet the row of a branch, and the first of them that takes a value.
-use Rattle.std.specs.Prelude.{◌≡◌, List, ◌++◌, true, false, ◌&&◌, ℕ, ◌≤◌, ◌<◌}
+use Rattle.std.specs.Prelude.{◌≡◌, List, ◌++◌, true, false, ◌&&◌, ℕ, ◌<◌, Option as CodeOption, None, Some}
 use Rattle.signature.specs.Lawful.{OfKind}
 use Rattle.signature.specs.Lists.{is_some}
 use Rattle.signature.specs.Value.{Value, code}
@@ -29,17 +29,13 @@ pub record GivenTaker (t a rows : List ℕ) (n : ℕ) (b : List ℕ) : Type 0 wh
   pub kinded : OfKind table.known.sig 0 value
   pub words : b ≡ code value
 
--- the first row of the set that takes it, or n
-pub record Taker {t a rows : List ℕ} {n : ℕ} {b : List ℕ} (g : GivenTaker t a rows n b) (s : List ℕ) (res : ℕ) : Type 0 where
-  pub most : res ≤ n
-  pub one : res < n → member s res ≡ true
-  pub none_takes : res ≡ n → (r : ℕ) → r < n → member s r ≡ true → row_fits (row_at g.table.rs r) g.value ≡ false
+-- the first row of the set that takes it, or None
+pub record Taker {t a rows : List ℕ} {n : ℕ} {b : List ℕ} (g : GivenTaker t a rows n b) (s : List ℕ) (res : CodeOption ℕ) : Type 0 where
+  pub there : (r : ℕ) → res ≡ Some r → r < n
+  pub one : (r : ℕ) → res ≡ Some r → member s r ≡ true
+  pub none_takes : res ≡ None → (r : ℕ) → r < n → member s r ≡ true → row_fits (row_at g.table.rs r) g.value ≡ false
 
 -- d and e begin with such rows
 pub record GivenMeetings (t a rows : List ℕ) (n : ℕ) (d e : List ℕ) : Type 0 where
   pub first : GivenMeeting t a rows n d
   pub second : GivenMeeting t a rows n e
-
--- above every score of a cell
-abbrev pub unrated : ℕ
-unrated = 65535

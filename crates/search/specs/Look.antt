@@ -1,5 +1,5 @@
 -- What is seen at a node of the search: the rows that meet its branch, and one that takes the branch's shortest value.
-use Rattle.std.specs.Prelude.{◌≡◌, List, true, false, cond, ℕ, zero, suc, ◌+◌, ◌*◌, ◌≤◌, ◌<◌, length, take}
+use Rattle.std.specs.Prelude.{◌≡◌, List, true, false, cond, ℕ, zero, suc, ◌+◌, ◌*◌, ◌≤◌, ◌<◌, length, take, Option as CodeOption, None, Some}
 use Rattle.signature.specs.Lawful.{OfKind}
 use Rattle.signature.specs.Limits.{booking_limit}
 use Rattle.signature.specs.Signature.{Signature}
@@ -61,10 +61,10 @@ pub record SeenOf (sig : Signature) (rs : List Row) (n : ℕ) (s path : List ℕ
   pub free_value : (m : ℕ) → res ≡ Free m → FreeValue sig rs m v
   pub taken : (r opened : ℕ) → res ≡ Taken r opened → TakenBy sig rs n s path depth r opened live
 
--- what a node answers: 0, and no value of the branch is missed; or one that is, and the steps before it stay
-pub record NodeFound (sig : Signature) (rs : List Row) (path : List ℕ) (depth m : ℕ) (path' v : List ℕ) : Type 0 where
-  pub none_there : m ≡ 0 → (u : Value) → Missed sig rs u → on_path sig rs path depth u ≡ true → ⊥
-  pub one_there : 1 ≤ m → FreeValue sig rs m v
+-- what a node answers: None, and no value of the branch is missed; or one that is, and the steps before it stay
+pub record NodeFound (sig : Signature) (rs : List Row) (path : List ℕ) (depth : ℕ) (res : CodeOption ℕ) (path' v : List ℕ) : Type 0 where
+  pub none_there : res ≡ None → (u : Value) → Missed sig rs u → on_path sig rs path depth u ≡ true → ⊥
+  pub one_there : (m : ℕ) → res ≡ Some m → FreeValue sig rs m v
   pub kept : Before (step_width * depth) path path'
 
 -- row r is to be left: it is out of the set, and as many steps are before it, with its own, as rows are out

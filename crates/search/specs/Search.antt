@@ -1,5 +1,5 @@
 -- A value that no row of a table of rows takes.
-use Rattle.std.specs.Prelude.{◌≡◌, List, ◌++◌, false, ℕ, ◌*◌, ◌≤◌, length, take, drop}
+use Rattle.std.specs.Prelude.{◌≡◌, List, ◌++◌, false, ℕ, ◌*◌, ◌≤◌, length, take, drop, Option as CodeOption, None, Some}
 use Rattle.std.proofs.Math.Option.{some}
 use Rattle.std.proofs.Math.ListN.{get_elem?}
 use Rattle.signature.specs.Decoded.{Known}
@@ -38,7 +38,7 @@ pub record Missed (sig : Signature) (rs : List Row) (v : Value) : Type 0 where
   pub deep : depth v ≤ depth_limit
   pub taken_by_none : fits_some rs v ≡ false
 
--- 0 where there is none; else the words of one stand first, so many
-pub record Searched (sig : Signature) (rs : List Row) (n : ℕ) (o : List ℕ) : Type 0 where
-  pub none_there : n ≡ 0 → (v : Value) → Missed sig rs v → ⊥
-  pub one_there : 1 ≤ n → (v : Value) × Missed sig rs v × (n ≡ size v) × (take n o ≡ code v)
+-- None where there is none; else the words of one stand first, so many
+pub record Searched (sig : Signature) (rs : List Row) (res : CodeOption ℕ) (o : List ℕ) : Type 0 where
+  pub none_there : res ≡ None → (v : Value) → Missed sig rs v → ⊥
+  pub one_there : (n : ℕ) → res ≡ Some n → (v : Value) × Missed sig rs v × (n ≡ size v) × (take n o ≡ code v)

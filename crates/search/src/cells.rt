@@ -5,7 +5,6 @@ ghost use Rattle.sets.specs.Set.{bit};
 ghost use Rattle.search.specs.Cells.{GivenBeside, NotLeft, AgreeBeside};
 
 use crate::cube::VIEW_ROOM;
-use cell::cell::Out;
 use overlap::pair::rows_meet;
 use pattern::limits::PATTERN_WORDS;
 use sets::set::{full, has, without};
@@ -18,7 +17,7 @@ fn is_left(t: &[u16], row: &[u64], opened: u64, c: usize, q: &[u64]) -> bool
     ensures { (g : GivenBeside t.now row.now q.now) → result ≡ false → NotLeft g opened c }
 {
     let mut d = [0u64; VIEW_ROOM];
-    let Out::Kept(len) = view(t, row, opened, c, &mut d) else {
+    let Some(_words) = view(t, row, opened, c, &mut d) else {
         return false;
     };
     rows_meet(t, q, &d)
@@ -42,15 +41,12 @@ pub fn open_cells(t: &[u16], row: &[u64], q: &[u64]) -> u64
 {
     let mut opened = full(PATTERN_WORDS as u32);
     let mut edge = frontier(t, row, opened);
-    let mut c = 0;
-    while c < PATTERN_WORDS {
+    for c in 0..PATTERN_WORDS {
         if stays(t, row, opened, edge, c, q) {
-            c += 1;
             continue;
         }
         opened = without(opened, c as u32);
         edge = frontier(t, row, opened);
-        c += 1;
     }
     opened
 }

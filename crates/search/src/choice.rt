@@ -43,10 +43,8 @@ pub fn meeting(
     requires { GivenMeeting t.now a.now rows.now n q.now × (length live.old ≡ set_words) }
     ensures { (g : GivenMeeting t.now a.now rows.now n q.now) → Meeting g s.now n live.new }
 {
-    let mut r = 0;
-    while r < n {
+    for r in 0..n {
         let there = meets(t, a, rows, n, s, r, q);
         put(live, r, there);
-        r += 1;
     }
 }

@@ -6,7 +6,7 @@ ghost use Rattle.search.specs.Branch.{GivenBranch, GivenStep, CubeOf, Opened};
 
 use crate::steps::STEP;
 use booking::walk::BOOKING_LIMIT;
-use cell::cell::{CELL, Cell, KIND_TAG, Out, combine, put};
+use cell::cell::{CELL, Cell, KIND_TAG, combine, put};
 use path::rows::start_of;
 use pattern::limits::PATTERN_WORDS;
 use rowlist::grow::copy;
@@ -37,7 +37,7 @@ fn open_row(t: &[u16], q: &mut [u64]) -> usize
     CELL
 }
 
-// One step of the path more: the row at the front of q together with the step's view, first in q. 0 where no value is left that is as short as a booking.
+// One step of the path more: the row at the front of q together with the step's view, first in q, and how many words; None where no value is left that is as short as a booking.
 fn narrow(
     t: &[u16],
     a: &[u64],
@@ -49,27 +49,23 @@ fn narrow(
     words: usize,
     q: &mut [u64],
     both: &mut [u64],
-) -> usize
+) -> Option<usize>
     requires { GivenStep t.now a.now rows.now n path.now depth i words q.old both.old }
     ensures { (g : GivenStep t.now a.now rows.now n path.now depth i words q.old both.old) → CubeOf g.branch.table.known.sig g.branch.table.rs path.now (suc i) result q.new }
 {
     let at = STEP * i;
     let mut d = [0u64; VIEW_ROOM];
     let start = start_of(rows, path[at] as usize) as usize;
-    let Out::Kept(len) = view(t, &a[start..], path[at + 1], path[at + 2] as usize, &mut d) else {
-        return 0;
-    };
-    let Out::Kept(w) = combine(t, q, &d, both) else {
-        return 0;
-    };
+    view(t, &a[start..], path[at + 1], path[at + 2] as usize, &mut d)?;
+    let w = combine(t, q, &d, both)?;
     if w > CUBE_ROOM {
-        return 0;
+        return None;
     }
     copy(both, w, q, 0);
-    w
+    Some(w)
 }
 
-// The row of a path's branch, first in q: how many words, 0 where the branch has no value that is as short as a booking.
+// The row of a path's branch, first in q, and how many words; None where the branch has no value that is as short as a booking.
 pub fn cube(
     t: &[u16],
     a: &[u64],
@@ -79,18 +75,13 @@ pub fn cube(
     depth: usize,
     q: &mut [u64],
     both: &mut [u64],
-) -> usize
+) -> Option<usize>
     requires { GivenBranch t.now a.now rows.now n path.now depth (length q.old) (length both.old) }
     ensures { (g : GivenBranch t.now a.now rows.now n path.now depth (length q.old) (length both.old)) → CubeOf g.table.known.sig g.table.rs path.now depth result q.new }
 {
     let mut words = open_row(t, q);
-    let mut i = 0;
-    while i < depth {
-        words = narrow(t, a, rows, n, path, depth, i, words, q, both);
-        if words == 0 {
-            return 0;
-        }
-        i += 1;
+    for i in 0..depth {
+        words = narrow(t, a, rows, n, path, depth, i, words, q, both)?;
     }
-    words
+    Some(words)
 }

@@ -1,21 +1,17 @@
 // At which cell a row is left first: this decides how long the search takes, and nothing else.
-ghost use Rattle.std.specs.Prelude.{◌≡◌, ◌≤◌, ◌<◌};
+ghost use Rattle.std.specs.Prelude.{◌≡◌, ℕ, ◌≤◌, ◌<◌, Some};
 ghost use Rattle.pattern.specs.Limits.{pattern_limit};
 ghost use Rattle.sets.specs.Set.{bit};
-ghost use Rattle.search.specs.Choice.{GivenMeetings, unrated};
+ghost use Rattle.search.specs.Choice.{GivenMeetings};
 ghost use Rattle.search.specs.Search.{GivenTable};
 
 use crate::choice::meets;
 use crate::cube::VIEW_ROOM;
-use cell::cell::Out;
 use path::rows::start_of;
 use pattern::limits::PATTERN_WORDS;
 use rowset::set::SET_WORDS;
 use sets::set::{has, lowest, size, without};
 use views::view::view;
-
-// Above every score.
-const UNRATED: u16 = 65535;
 
 // How much a row of the set counts: where it meets the row at the front of d 1, and where it meets that at the front of e too 2.
 fn weight(
@@ -54,10 +50,8 @@ fn weigh(
     ensures { 1 ≤ result }
 {
     let mut w = 1;
-    let mut r = 0;
-    while r < n {
+    for r in 0..n {
         w += weight(t, a, rows, n, s, r, d, e);
-        r += 1;
     }
     w
 }
@@ -78,17 +72,17 @@ fn score(
 {
     let start = start_of(rows, r) as usize;
     let mut d = [0u64; VIEW_ROOM];
-    let Out::Kept(first) = view(t, &a[start..], opened, c, &mut d) else {
+    let Some(_words) = view(t, &a[start..], opened, c, &mut d) else {
         return 1;
     };
     let mut e = [0u64; VIEW_ROOM];
-    let Out::Kept(second) = view(t, &a[start..], without(opened, c as u32), c, &mut e) else {
+    let Some(_words) = view(t, &a[start..], without(opened, c as u32), c, &mut e) else {
         return 1;
     };
     weigh(t, a, rows, n, s, &d, &e)
 }
 
-// The score of cell c, noted where it is asked for first; the highest number where the row cannot be left there now.
+// The score of cell c, noted where it is asked for first; None where the row cannot be left there now.
 fn rated(
     t: &[u16],
     a: &[u64],
@@ -100,17 +94,17 @@ fn rated(
     edge: u64,
     c: usize,
     scores: &mut [u16; PATTERN_WORDS],
-) -> u16
+) -> Option<u16>
     requires { GivenTable t.now a.now rows.now n × (r < n) × (c < pattern_limit) }
-    ensures { result < unrated → bit edge c ≡ 1 }
+    ensures { (w : ℕ) → result ≡ Some w → bit edge c ≡ 1 }
 {
     if !has(edge, c as u32) {
-        return UNRATED;
+        return None;
     }
     if scores[c] == 0 {
         scores[c] = score(t, a, rows, n, s, r, opened, c);
     }
-    scores[c]
+    Some(scores[c])
 }
 
 // Of the cells at which row r may be left now, one that is rated lowest.
@@ -132,16 +126,15 @@ pub fn best(
     if size(edge) == 1 {
         return c;
     }
-    let mut least = UNRATED;
-    let mut i = 0;
-    while i < PATTERN_WORDS {
-        let w = rated(t, a, rows, n, s, r, opened, edge, i, scores);
-        i += 1;
-        if w >= least {
+    let mut least = u16::MAX;
+    for i in 0..PATTERN_WORDS {
+        let Some(w) = rated(t, a, rows, n, s, r, opened, edge, i, scores) else {
             continue;
+        };
+        if w < least {
+            least = w;
+            c = i as u32;
         }
-        least = w;
-        c = (i - 1) as u32;
     }
     c
 }

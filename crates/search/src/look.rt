@@ -8,7 +8,7 @@ use crate::cube::cube;
 use crate::taker::taker;
 use path::rows::start_of;
 use rowset::set::SET_WORDS;
-use values::shortest::{Outcome, shortest};
+use values::shortest::shortest;
 
 // No value that is as short as a booking; or the words of one that no row takes; or a row that takes one, and its open cells.
 #[derive(Clone, Copy)]
@@ -35,18 +35,16 @@ pub fn look(
     requires { GivenNode t.now a.now rows.now n s.now path.now depth (length q.old) (length both.old) (length v.old) }
     ensures { (g : GivenNode t.now a.now rows.now n s.now path.now depth (length q.old) (length both.old) (length v.old)) → SeenOf g.branch.table.known.sig g.branch.table.rs n s.now path.now depth result live.new v.new }
 {
-    let words = cube(t, a, rows, n, path, depth, q, both);
-    if words == 0 {
+    let Some(_words) = cube(t, a, rows, n, path, depth, q, both) else {
         return Seen::Nothing;
-    }
-    let Outcome::Found(m) = shortest(t, q, v) else {
+    };
+    let Some(m) = shortest(t, q, v) else {
         return Seen::Nothing;
     };
     meeting(t, a, rows, n, s, q, live);
-    let r = taker(t, a, rows, n, live, &v[..m]);
-    if r == n {
+    let Some(r) = taker(t, a, rows, n, live, &v[..m]) else {
         return Seen::Free(m);
-    }
+    };
     let start = start_of(rows, r) as usize;
     Seen::Taken(r, open_cells(t, &a[start..], q))
 }

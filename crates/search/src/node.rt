@@ -11,7 +11,7 @@ use rowset::set::{SET_WORDS, put};
 use sets::set::without;
 use views::frontier::frontier;
 
-// A value of the path's branch that no row takes, first in v; how many words, 0 where there is none. The set has the rows that may take a value of the branch.
+// A value of the path's branch that no row takes, first in v, and how many words; None where there is none. The set has the rows that may take a value of the branch.
 #[cycle(leave_node)]
 pub fn node(
     t: &[u16],
@@ -24,15 +24,15 @@ pub fn node(
     q: &mut [u64],
     both: &mut [u64],
     v: &mut [u16],
-) -> usize
+) -> Option<usize>
     requires { GivenNode t.now a.now rows.now n s.now path.old depth (length q.old) (length both.old) (length v.old) }
     ensures { (g : GivenNode t.now a.now rows.now n s.now path.old depth (length q.old) (length both.old) (length v.old)) → NodeFound g.branch.table.known.sig g.branch.table.rs path.old depth result path.new v.new }
 {
     let mut live = [0u64; SET_WORDS];
     let seen = look(t, a, rows, n, s, path, depth, q, both, v, &mut live);
     match seen {
-        Seen::Nothing => 0,
-        Seen::Free(m) => m,
+        Seen::Nothing => None,
+        Seen::Free(m) => Some(m),
         Seen::Taken(r, opened) => {
             put(&mut live, r, false);
             leave(t, a, rows, n, &live, path, depth, r, opened, q, both, v)
@@ -55,7 +55,7 @@ fn leave(
     q: &mut [u64],
     both: &mut [u64],
     v: &mut [u16],
-) -> usize
+) -> Option<usize>
     requires { GivenLeave t.now a.now rows.now n s.now path.old depth r cells (length q.old) (length both.old) (length v.old) }
     ensures { (g : GivenLeave t.now a.now rows.now n s.now path.old depth r cells (length q.old) (length both.old) (length v.old)) → NodeFound g.branch.table.known.sig g.branch.table.rs path.old depth result path.new v.new }
 {
@@ -66,12 +66,11 @@ fn leave(
     while edge > 0 {
         let c = best(t, a, rows, n, s, r, opened, edge, &mut scores);
         put_step(path, depth, r, opened, c as usize);
-        let m = node(t, a, rows, n, s, path, depth + 1, q, both, v);
-        if m > 0 {
-            return m;
+        if let Some(m) = node(t, a, rows, n, s, path, depth + 1, q, both, v) {
+            return Some(m);
         }
         opened = without(opened, c);
         edge = frontier(t, &a[start..], opened);
     }
-    0
+    None
 }

@@ -9,8 +9,8 @@ use crate::node::node;
 use crate::steps::PATH;
 use rowset::set::first_rows;
 
-// A value that none of the n rows takes, first in v; how many words, 0 where there is none.
-pub fn search(t: &[u16], a: &[u64], rows: &[u16], n: usize, v: &mut [u16]) -> usize
+// A value that none of the n rows takes, first in v, and how many words; None where there is none.
+pub fn search(t: &[u16], a: &[u64], rows: &[u16], n: usize, v: &mut [u16]) -> Option<usize>
     requires { GivenTable t.now a.now rows.now n × (booking_limit + place_words ≤ length v.old) }
     ensures { (g : GivenTable t.now a.now rows.now n) → Searched g.known.sig g.rs result v.new }
 {

@@ -29,17 +29,22 @@ fn takes_it(
     takes(t, &a[start..], b)
 }
 
-// The first row of the set that takes the value b, or n.
-pub fn taker(t: &[u16], a: &[u64], rows: &[u16], n: usize, s: &[u64; SET_WORDS], b: &[u16]) -> usize
+// The first row of the set that takes the value b.
+pub fn taker(
+    t: &[u16],
+    a: &[u64],
+    rows: &[u16],
+    n: usize,
+    s: &[u64; SET_WORDS],
+    b: &[u16],
+) -> Option<usize>
     requires { GivenTaker t.now a.now rows.now n b.now }
     ensures { (g : GivenTaker t.now a.now rows.now n b.now) → Taker g s.now result }
 {
-    let mut r = 0;
-    while r < n {
+    for r in 0..n {
         if takes_it(t, a, rows, n, s, r, b) {
-            return r;
+            return Some(r);
         }
-        r += 1;
     }
-    n
+    None
 }

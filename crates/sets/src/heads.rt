@@ -8,7 +8,7 @@ use crate::set::{ALL, SET_LIMIT};
 // The highest bit of a word.
 const TOP: u64 = 9223372036854775808;
 
-#[derive(Clone, Copy)]
+#[derive(Clone, Copy, PartialEq, Eq)]
 pub struct Heads {
     pub low: u64,
     pub high: u64,

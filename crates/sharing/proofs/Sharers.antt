@@ -4,6 +4,7 @@ use mathlib.Core.List.{List, [], ◌∷◌, ◌++◌, append_assoc, map}
 use mathlib.Core.Option.{some}
 use mathlib.Core.Bool.{Bool, true, false}
 use Prim.Native.Nat.{ℕ, ◌+◌, ◌-◌, ◌<◌, ◌≤◌}
+use Rattle.std.specs.Prelude.{Option as CodeOption, None, Some, IsSome}
 use native.Mathlib.Omega.{arith}
 use lib.ListN.{length, drop, get_or, length-append, length-drop}
 use lib.Seq.{drop_at, drop-drop}
@@ -132,9 +133,6 @@ module _ {t table rows : List ℕ} {at n : ℕ} (g : GivenSharer t table rows at
       pub end_le : place + 3 + get_or table (place + 2) 0 ≤ (table_length limits)
       end_le = omega (arith, step.reads.length_is, step.reads.within)
 
-      pub few : i < limits.rules
-      few = omega (arith, below, count_is holds, holds.few)
-
       rest : List ℕ
       rest = lists_for g.force.known.sig (patterns step.later) ++ g.force.ready.rest
 
@@ -216,21 +214,25 @@ module _ {t table rows : List ℕ} {at n : ℕ} (g : GivenSharer t table rows at
         }
 
       -- the slice is as it was
-      module _ (k : ℕ) (o now o' : List ℕ) (now_is : now ≡ o) (gave : (q : TwoPatterns t (from rows at) (from rows (j + 1))) → Shown (Shared q.known.sig q.p q.q) (λ s. s.words) k now o') where
+      module _ (k : CodeOption ℕ) (o now o' : List ℕ) (now_is : now ≡ o) (gave : (q : TwoPatterns t (from rows at) (from rows (j + 1))) → Shown (Shared q.known.sig q.p q.q) (λ s. s.words) k now o') where
         shown : Shown (SharesBooking g.force.known.sig g.ws step.rule.pattern) (λ s. s.words) k o o'
         unfolding two
         shown = laws.words_shown g.force.known.sig g.force.known.signed g.ws step.rule.pattern two.p two.q two.words_p two.words_q k o o' (subst (λ z. Shown (Shared g.force.known.sig two.p two.q) (λ s. s.words) k z o') now_is (gave two))
 
-        some_words : shares g.force.known.sig g.ws step.rule.pattern ≡ true → 0 < k
+        some_words : shares g.force.known.sig g.ws step.rule.pattern ≡ true → IsSome k
         some_words e = go k (λ z. (shown.none_shared z).0 (shares_exists g.force.known.sig g.force.known.signed g.ws step.rule.pattern e))
           where
-            go : (n : ℕ) → (n ≡ 0 → ⊥) → 0 < n
-            go n f = omega (arith, f)
+            go : (r : CodeOption ℕ) → (r ≡ None → ⊥) → IsSome r
+            go None f = absurd (f refl)
+            go (Some n) f = refl
 
-        hit_by : 0 < k → SharerOf g.force.known.sig g.force.rs g.ws o (record { rule = get_or table place 0; length = k }) o'
-        hit_by h =
-            let (s, e, w) = shown.one_shared (omega (arith, h)) in
-            let x : Entered = record { number = 12; sharer = get_or table place 0; shown = k } in
+        pub shown_there : (q : ℕ) → ((f : ListFirst (from rows (j + 1))) → q ≡ length f.rows) → low < past + q → IsSome k
+        shown_there q told h = some_words (is_met q told h)
+
+        pub hit : (n : ℕ) → k ≡ Some n → SharerOf g.force.known.sig g.force.rs g.ws o (Some (record { rule = get_or table place 0; length = n })) o'
+        hit n is =
+            let (s, e, w) = shown.one_shared n is in
+            let x : Entered = record { number = 12; sharer = get_or table place 0; shown = n } in
             let there : Shows g.force.known.sig g.force.rs g.ws o x o' = record {
               rule = step.rule;
               held = held;
@@ -244,13 +246,7 @@ module _ {t table rows : List ℕ} {at n : ℕ} (g : GivenSharer t table rows at
               length_is = e;
               witness_is = w ∙ ap (λ z. s.words ++ drop z o) e;
             } in
-            record {
-              none_shares = λ z. absurd (omega (arith, z, h));
-              one_shares = λ z. (in_any (λ q. shares g.force.known.sig g.ws q.pattern) g.force.rs step.rule held (exists_shares g.force.known.sig g.force.known.signed g.ws step.rule.pattern s), there);
-            }
+            (in_any (λ q. shares g.force.known.sig g.ws q.pattern) g.force.rs step.rule held (exists_shares g.force.known.sig g.force.known.signed g.ws step.rule.pattern s), there)
 
-        pub hit : (q : ℕ) → ((f : ListFirst (from rows (j + 1))) → q ≡ length f.rows) → low < past + q → SharerOf g.force.known.sig g.force.rs g.ws o (record { rule = get_or table place 0; length = k }) o'
-        hit q told h = hit_by (some_words (is_met q told h))
-
-    pub at_end : (o : List ℕ) (o' : List ℕ) → o' ≡ o → get_or table 0 0 ≤ i → SharerOf g.force.known.sig g.force.rs g.ws o (record { rule = 0; length = 0 }) o'
-    at_end o o' e h = record { none_shares = λ z. (finished h, refl, e); one_shares = λ z. absurd (omega (arith, z)) }
+    pub at_end : (o : List ℕ) (o' : List ℕ) → o' ≡ o → get_or table 0 0 ≤ i → SharerOf g.force.known.sig g.force.rs g.ws o None o'
+    at_end o o' e h = (finished h, e)

@@ -1,5 +1,5 @@
 -- 12: the lowest rule that shares a booking with a pattern.
-use Rattle.std.specs.Prelude.{◌≡◌, List, ◌++◌, true, false, ℕ, ◌+◌, ◌≤◌, length}
+use Rattle.std.specs.Prelude.{◌≡◌, List, ◌++◌, true, false, ℕ, ◌+◌, ◌≤◌, length, Option as CodeOption, None, Some}
 use Rattle.std.proofs.Math.Option.{some}
 use Rattle.signature.specs.Lists.{any}
 use Rattle.signature.specs.Signature.{Signature}
@@ -29,7 +29,7 @@ pub record GivenSharer (t table rows : List ℕ) (at n : ℕ) : Type 0 where
   pub last : from rows at ≡ list_for force.known.sig ws ++ rest'
   pub room : witness_length ≤ n
 
--- no rule shares a booking: both are 0, and nothing is written; or the lowest that does, with the booking that is shown
-pub record SharerOf (sig : Signature) (rs : List Rule) (ws o : List ℕ) (r : Sharer) (o' : List ℕ) : Type 0 where
-  pub none_shares : r.length ≡ 0 → (any (λ s. shares sig ws s.pattern) rs ≡ false) × (r.rule ≡ 0) × (o' ≡ o)
-  pub one_shares : 1 ≤ r.length → (any (λ s. shares sig ws s.pattern) rs ≡ true) × Shows sig rs ws o (record { number = 12; sharer = r.rule; shown = r.length }) o'
+-- no rule shares a booking, and nothing is written; or the lowest that does, with the booking that is shown
+abbrev pub SharerOf : Signature → List Rule → List ℕ → List ℕ → CodeOption Sharer → List ℕ → Type 0
+SharerOf sig rs ws o None o' = (any (λ s. shares sig ws s.pattern) rs ≡ false) × (o' ≡ o)
+SharerOf sig rs ws o (Some r) o' = (any (λ s. shares sig ws s.pattern) rs ≡ true) × Shows sig rs ws o (record { number = 12; sharer = r.rule; shown = r.length }) o'

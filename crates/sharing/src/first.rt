@@ -9,7 +9,7 @@ use rowlist::grow::count;
 use store::layout::{LENGTH, RULE_HEAD, RULES_AT};
 use witness::lists::witness;
 
-// A rule's number, and the length of a booking that it shares; both 0 where no rule does.
+// A rule's number, and the length of a booking that it shares.
 #[derive(Clone, Copy)]
 pub struct Sharer {
     pub rule: u16,
@@ -25,7 +25,7 @@ pub fn first_sharer(
     at: usize,
     m: &mut [u64],
     out: &mut [u16],
-) -> Sharer
+) -> Option<Sharer>
     requires { GivenSharer t.now table.now rows.now at (length out.old) × (set_words * row_limit ≤ length m.old) }
     ensures { (g : GivenSharer t.now table.now rows.now at (length out.old)) → SharerOf g.force.known.sig g.force.rs g.ws out.old result out.new }
 {
@@ -34,20 +34,18 @@ pub fn first_sharer(
     let mut place = RULES_AT;
     let mut from = 0;
     let mut past = 0;
-    let mut i = 0;
-    while i < n {
+    for i in 0..n {
         let begin = from + 1;
         past += count(&rows[begin..]);
         if low < past {
-            let length = witness(t, &rows[at..], &rows[begin..], out);
-            return Sharer {
+            let length = witness(t, &rows[at..], &rows[begin..], out).unwrap();
+            return Some(Sharer {
                 rule: table[place],
                 length,
-            };
+            });
         }
         from = begin + rows[from] as usize;
         place = place + RULE_HEAD + table[place + LENGTH] as usize;
-        i += 1;
     }
-    Sharer { rule: 0, length: 0 }
+    None
 }

@@ -8,7 +8,7 @@ ghost use Rattle.sharing.specs.Lowest.{LeastMet, GivenLowest, Lowest, met_by};
 
 use meeting::lists::gather_lists;
 use meeting::rows::{first_met, gather, meet};
-use rowset::set::{ROWS, lesser};
+use rowset::set::ROWS;
 
 // The least row that a row from `low` on, below `high`, meets, or ROWS.
 fn least_met(m: &[u64], low: usize, high: usize) -> usize
@@ -16,11 +16,9 @@ fn least_met(m: &[u64], low: usize, high: usize) -> usize
     ensures { LeastMet m.now low high result }
 {
     let mut least = ROWS;
-    let mut i = low;
-    while i < high {
+    for i in low..high {
         let j = first_met(m, i);
-        least = lesser(j, least);
-        i += 1;
+        least = j.min(least);
     }
     least
 }

@@ -8,22 +8,12 @@ use std::{fs, io};
 
 const BYTES: usize = 196608;
 
-fn wide(x: u8) -> u16
-    ensures { result ≤ 255 }
-{
-    x as u16
-}
-
 fn words(bytes: &[u8], out: &mut [u16]) -> usize
     ensures { result ≤ length out.new }
 {
-    let mut n = 0;
-    while n < out.len() {
-        if bytes.len() <= 2 * n + 1 {
-            return n;
-        }
-        out[n] = wide(bytes[2 * n]) + 256 * wide(bytes[2 * n + 1]);
-        n += 1;
+    let n = out.len().min(bytes.len() / 2);
+    for i in 0..n {
+        out[i] = u16::from_le_bytes([bytes[2 * i], bytes[2 * i + 1]]);
     }
     n
 }
@@ -65,74 +55,45 @@ pub fn read(rt: &(impl Files + Print), name: &[u8], out: &mut [u8]) -> io::Resul
     read_full(&mut file, out)
 }
 
-// Between two bytes of a text: 0; inside a number that is worth n so far, n + 1; behind a #, COMMENT.
-const LAST: usize = 65536;
-
-const COMMENT: usize = 65537;
-
-fn next(s: usize, b: u8) -> usize
-    requires { s ≤ 65537 }
-    ensures { result ≤ 65537 }
-{
-    if b == b'\n' {
-        return 0;
-    }
-    if s == COMMENT {
-        return COMMENT;
-    }
-    if b == b'#' {
-        return COMMENT;
-    }
-    if b < b'0' {
-        return 0;
-    }
-    if b'9' < b {
-        return 0;
-    }
-    more(s, (b - b'0') as usize)
+// Where a byte of a text stands: between numbers, in one that is worth so much so far, or behind a #.
+#[derive(Clone, Copy)]
+enum Place {
+    Between,
+    Number(u16),
+    Comment,
 }
 
-// A number with a digit more; none where it is no word.
-fn more(s: usize, digit: usize) -> usize
-    requires { (s ≤ 65537) × (digit ≤ 9) }
-    ensures { result ≤ 65537 }
-{
-    if s == 0 {
-        return digit + 1;
-    }
-    let n = 10 * (s - 1) + digit + 1;
-    if LAST < n {
-        return 0;
-    }
-    n
+// A number with a digit more; None where it is no word.
+fn more(n: u16, digit: u16) -> Option<u16> {
+    n.checked_mul(10)?.checked_add(digit)
 }
 
-fn is_number(s: usize) -> bool {
-    if s == 0 {
-        return false;
+fn next(at: Place, b: u8) -> Place {
+    match (at, b) {
+        (_, b'\n') => Place::Between,
+        (Place::Comment, _) => Place::Comment,
+        (_, b'#') => Place::Comment,
+        (Place::Number(n), b'0'..=b'9') => {
+            more(n, (b - b'0') as u16).map_or(Place::Between, Place::Number)
+        }
+        (Place::Between, b'0'..=b'9') => Place::Number((b - b'0') as u16),
+        _ => Place::Between,
     }
-    s <= LAST
 }
 
-// The number that ends between s and t, if any, behind n words: how many there are then.
-fn put(out: &mut [u16], n: usize, s: usize, t: usize) -> usize
+// The number that ends between two places, if any, behind n words: how many there are then.
+fn put(out: &mut [u16], n: usize, last: Place, at: Place) -> usize
     requires { n ≤ length out.old }
     ensures { result ≤ length out.new }
 {
-    if n == out.len() {
-        return n;
+    match (last, at) {
+        (Place::Number(_), Place::Number(_)) => n,
+        (Place::Number(w), _) if n < out.len() => {
+            out[n] = w;
+            n + 1
+        }
+        _ => n,
     }
-    if is_number(t) {
-        return n;
-    }
-    if s == 0 {
-        return n;
-    }
-    if LAST < s {
-        return n;
-    }
-    out[n] = (s - 1) as u16;
-    n + 1
 }
 
 // The numbers of a text; what stands behind a # is passed over to the end of its line.
@@ -140,13 +101,11 @@ fn numbers(text: &[u8], out: &mut [u16]) -> usize
     ensures { result ≤ length out.new }
 {
     let mut n = 0;
-    let mut s = 0;
-    let mut i = 0;
-    while i < text.len() {
-        let t = next(s, text[i]);
-        n = put(out, n, s, t);
-        s = t;
-        i += 1;
+    let mut last = Place::Between;
+    for b in text {
+        let at = next(last, *b);
+        n = put(out, n, last, at);
+        last = at;
     }
     n
 }

@@ -13,3 +13,4 @@ pub mod Tests
 pub mod Values
 pub mod Laws
 pub mod Cases
+pub mod Numbers

@@ -1,40 +1,45 @@
-// The numbers of 01's list "Turned down, in checking order", each in its one home.
-pub const SIGNATURE_UNLAWFUL: u16 = 1;
+// The refusals of 01's list "Turned down, in checking order" and of 02: each has its number as its discriminant.
+ghost use Rattle.std.specs.Prelude.{◌≡◌};
+ghost use Rattle.signature.specs.Refusal.{number_of, number_in};
 
-pub const TOO_SHORT: u16 = 2;
+#[derive(Clone, Copy, PartialEq, Eq)]
+pub enum Refusal {
+    SignatureUnlawful = 1,
+    TooShort,
+    Unsound,
+    NumberOutside,
+    Held,
+    NotHeld,
+    Malformed,
+    NotLinear,
+    TooHeavy,
+    Ambiguous,
+    Full,
+    Shared,
+    BookingUnlawful,
+    TreeTooLarge,
+    TreeBroken,
+    PlaceOutside,
+    FormatBroken,
+    RangeWrong,
+    LogBeyond,
+    ChargesMalformed,
+}
 
-pub const UNSOUND: u16 = 3;
+impl From<Refusal> for u16 {
+    ghost from_gives = { λ r n. n ≡ number_of r };
 
-pub const NUMBER_OUTSIDE: u16 = 4;
+    fn from(r: Refusal) -> u16 {
+        r as u16
+    }
+}
 
-pub const HELD: u16 = 5;
-
-pub const NOT_HELD: u16 = 6;
-
-pub const MALFORMED: u16 = 7;
-
-pub const NOT_LINEAR: u16 = 8;
-
-pub const TOO_HEAVY: u16 = 9;
-
-pub const AMBIGUOUS: u16 = 10;
-
-pub const FULL: u16 = 11;
-
-pub const SHARED: u16 = 12;
-
-pub const BOOKING_UNLAWFUL: u16 = 13;
-
-pub const TREE_TOO_LARGE: u16 = 14;
-
-pub const TREE_BROKEN: u16 = 15;
-
-pub const PLACE_OUTSIDE: u16 = 16;
-
-pub const FORMAT_BROKEN: u16 = 17;
-
-pub const RANGE_WRONG: u16 = 18;
-
-pub const LOG_BEYOND: u16 = 19;
-
-pub const CHARGES_MALFORMED: u16 = 20;
+// The number of a call's answer: 0 where it is not refused.
+pub fn number<T>(answer: &Result<T, Refusal>) -> u16
+    ensures { result ≡ number_in answer.now }
+{
+    match answer {
+        Ok(_) => 0,
+        Err(r) => u16::from(*r),
+    }
+}

@@ -33,10 +33,6 @@ pub record Noted (at n : ℕ) (f : ℕ → ℕ) (st st' : List ℕ) : Type 0 whe
   pub noted : (j : ℕ) → j < n → get_or st' (at + j) 0 ≡ f j
   pub other : (i : ℕ) → (i < at) ⊎ (at + n ≤ i) → get_or st' i 0 ≡ get_or st i 0
 
--- before the first word
-pub noted_none : (at : ℕ) (f : ℕ → ℕ) (st : List ℕ) → Noted at 0 f st st
-noted_none at f st = record { long = refl; noted = λ j l. absurd (omega arith); other = λ i o. refl }
-
 module _ {at n : ℕ} {f : ℕ → ℕ} {st u : List ℕ} (h : Noted at n f st u) where
   -- one word more
   pub noted_more : (i v : ℕ) → i ≡ at + n → i < length u → v ≡ f n → Noted at (n + 1) f st (set u i v)
@@ -56,10 +52,6 @@ module _ {at n : ℕ} {f : ℕ → ℕ} {st u : List ℕ} (h : Noted at n f st u
   -- the same count by another name
   pub noted_all : (m : ℕ) → n ≡ m → Noted at m f st u
   noted_all m e = subst (λ k. Noted at k f st u) e h
-
--- where every word is noted as 0, all are 0
-pub cleared : (n : ℕ) (st u : List ℕ) → length st ≡ n → Noted 0 n (λ j. 0) st u → u ≡ replicate n 0
-cleared n st u e h = same_lists u (replicate n 0) (h.long ∙ e ∙ sym (length-replicate n 0)) (λ x l. let m : x < n = omega (arith, h.long) in ap (λ i. get_or u i 0) (sym (zero-add x)) ∙ h.noted x m ∙ sym (getD_rep n x 0 0 m))
 
 -- a kind's first word
 head_even : (sig : Signature) (k : ℕ) → head_word sig (2 * k) ≡ first (heads sig k)
@@ -101,19 +93,10 @@ next_start i (d ∷ (e ∷ ds)) (suc c) l = next_start (i + 2 + length d.args) (
 next_row : (sig : Signature) (c : ℕ) → c + 1 < length sig → row_word sig (c + 1) ≡ row_word sig c + 2 + length (arguments sig c)
 next_row sig c l = let e : c + 1 ≡ suc c = omega arith in ap (row_word sig) e ∙ next_start 1 sig c (omega arith)
 
--- the first row begins behind the count
-first_row : (sig : Signature) → 0 < length sig → 1 ≡ row_word sig 0
-first_row [] l = absurd (omega arith)
-first_row (d ∷ ds) l = refl
-
 -- c rows are noted, and the next one begins at the index at
 pub record Rows (sig : Signature) (st : List ℕ) (at c : ℕ) (u : List ℕ) : Type 0 where
   pub next : c < length sig → at ≡ row_word sig c
   pub before : Noted rows_at c (row_word sig) st u
-
--- before the first row
-pub rows_none : (sig : Signature) (st : List ℕ) → Rows sig st 1 0 st
-rows_none sig st = record { next = first_row sig; before = noted_none rows_at (row_word sig) st }
 
 module _ {t st : List ℕ} (g : Known t) where
   -- a row more
@@ -121,10 +104,6 @@ module _ {t st : List ℕ} (g : Known t) where
   rows_more u at c a l m e h =
       let below : c < length g.sig = omega (arith, constructors g) in
       record { next = λ p. omega (arith, h.next below, e, arity_is g c below, next_row g.sig c p); before = noted_more h.before (rows_at + c) at refl m (h.next below) }
-
-  -- all rows
-  pub rows_all : (u : List ℕ) (at c : ℕ) → c ≡ constructors_of t → Rows g.sig st at c u → RowsNoted g.sig st u
-  rows_all u at c e h = let z = noted_all h.before (length g.sig) (e ∙ constructors g) in record { long = z.long; noted = z.noted; other = z.other }
 
 -- as many rows begin as there are constructors
 starts_length : (i : ℕ) (sig : Signature) → length (row_starts i sig) ≡ length sig

@@ -1,4 +1,6 @@
 -- A state read by its cases: the number at the end, the heads of a kind, the row of a head.
+use Rattle.std.specs.Prelude.{None, Some}
+use Rattle.std.specs.Prelude as prelude
 use mathlib.Core.Path.{◌≡◌, refl, sym, ap, subst, ◌∙◌}
 use mathlib.Core.List.{List}
 use mathlib.Core.Option.{Option, some, none}
@@ -9,16 +11,14 @@ use lib.Dec.{leb, ltb}
 use lib.ListN.{length, get_or}
 use Rattle.signature.specs.Limits.{argument_limit, constructor_limit, kind_limit, level_base}
 use Rattle.booking.specs.Walk.{among, opened}
-use Rattle.stepping.specs.State.{heads_at, rows_at, number_in, read_in, opened_in, row_in, count_in, has_row, head_in, refusal_of, end_number}
+use Rattle.stepping.specs.State.{heads_at, number_in, read_in, opened_in, row_in, count_in, has_row, head_in, refusal_of, end_number}
 use Rattle.stepping.specs.Standing.{row_as}
-use Rattle.stepping.specs.declared.step.Row.{Row}
-use Rattle.stepping.specs.declared.step.Row.TheVariants.{At, Nothing}
 use Rattle.signature.proofs.Booleans.{and_right}
-use Rattle.signature.proofs.Tests.{eqb_no, leb_yes, leb_no, ltb_yes, ltb_no, le_of, none≢some, some_inj, pair_first, pair_second}
+use Rattle.signature.proofs.Tests.{eqb_no, ltb_yes, ltb_no, le_of, none≢some, some_inj, pair_first, pair_second}
 
-abbrev row_pair : Row → Option (ℕ × ℕ)
-row_pair (At p m) = some (p, m)
-row_pair Nothing = none
+abbrev row_pair : prelude.Option (ℕ × ℕ) → Option (ℕ × ℕ)
+row_pair (Some x) = some x
+row_pair None = none
 
 module _ (st : List ℕ) where
   pub end_refused : (r : ℕ) → (number_in st ≡ 0 → ⊥) → r ≡ refusal_of (number_in st) → r ≡ end_number st
@@ -41,52 +41,17 @@ module _ (st : List ℕ) where
       let g : heads_at + 2 * j + 1 ≡ suc (heads_at + 2 * k) = omega arith in
       rw (ltb_yes k kind_limit (omega arith)) (f ∙ (rw (g, e)))
 
+-- the code's answer read back
 module _ (ss st : List ℕ) (w : ℕ) where
-  pub level_row : level_base ≤ w → At 0 0 ≡ row_as ss st w
-  level_row h = rw (leb_yes level_base w h)
-
-  pub no_constructor : w < level_base → constructor_limit ≤ w → Nothing ≡ row_as ss st w
-  no_constructor l h = rw (leb_no level_base w l, ltb_no w constructor_limit h)
-
-  pub no_row : w < level_base → w < constructor_limit → length ss ≤ suc (row_in st w) → Nothing ≡ row_as ss st w
-  no_row l h m = rw (leb_no level_base w l, ltb_yes w constructor_limit h, ltb_no (suc (row_in st w)) (length ss) m)
-
-  many_arguments : w < level_base → w < constructor_limit → suc (row_in st w) < length ss → argument_limit < get_or ss (suc (row_in st w)) 0 → Nothing ≡ row_as ss st w
-  many_arguments l h m n = rw (leb_no level_base w l, ltb_yes w constructor_limit h, ltb_yes (suc (row_in st w)) (length ss) m, leb_no (get_or ss (suc (row_in st w)) 0) argument_limit n)
-
-  pub a_row : (c a p : ℕ) → c ≡ w → a ≡ get_or st (rows_at + c) 0 → p ≡ get_or st (rows_at + c) 0 + 2 → w < level_base → w < constructor_limit → suc a < length ss → get_or ss (a + 1) 0 ≤ argument_limit → At p (get_or ss (a + 1) 0) ≡ row_as ss st w
-  a_row c a p e f g l h m n =
-      let r : a ≡ row_in st w = f ∙ ap (λ j. get_or st (rows_at + j) 0) e in
-      let q : p ≡ row_in st w + 2 = g ∙ ap (λ j. get_or st (rows_at + j) 0 + 2) e in
-      let k : a + 1 ≡ suc (row_in st w) = omega arith in
-      rw (q, k, leb_no level_base w l, ltb_yes w constructor_limit h, ltb_yes (suc (row_in st w)) (length ss) (omega arith), leb_yes (get_or ss (suc (row_in st w)) 0) argument_limit (rw k at n))
-
-  pub row_is : (c a : ℕ) → c ≡ w → a ≡ get_or st (rows_at + c) 0 → a ≡ row_in st w
-  row_is c a e f = f ∙ ap (λ j. get_or st (rows_at + j) 0) e
-
-  pub many_words : (c a : ℕ) → c ≡ w → a ≡ get_or st (rows_at + c) 0 → w < level_base → w < constructor_limit → suc a < length ss → argument_limit < get_or ss (a + 1) 0 → Nothing ≡ row_as ss st w
-  many_words c a e f l h m n =
-      let k : a + 1 ≡ suc (row_in st w) = omega (arith, row_is c a e f) in
-      many_arguments l h (omega arith) (rw k at n)
-
-  -- the code's answer read back
-  pub missing_row : (r : Row) → r ≡ row_as ss st w → r ≡ Nothing → has_row ss st w ≡ false
-  missing_row r e f = go (has_row ss st w) refl (leb level_base w) (ap row_pair (sym e ∙ f))
-    where
-      go : (b : Bool) → has_row ss st w ≡ b → (a : Bool) → row_pair (cond b (cond a (At 0 0) (At (row_in st w + 2) (count_in ss st w))) Nothing) ≡ none → has_row ss st w ≡ false
-      go false q a g = q
-      go true q true g = none≢some (sym g)
-      go true q false g = none≢some (sym g)
-
   few_there : leb level_base w ≡ false → has_row ss st w ≡ true → count_in ss st w ≤ argument_limit
   few_there q h =
       let a : (ltb w constructor_limit && (ltb (suc (row_in st w)) (length ss) && leb (get_or ss (suc (row_in st w)) 0) argument_limit)) ≡ true = rw q at h in
       rw q (le_of (get_or ss (suc (row_in st w)) 0) argument_limit (and_right (ltb (suc (row_in st w)) (length ss)) _ (and_right (ltb w constructor_limit) _ a)))
 
-  pub found_row : (r : Row) (p m : ℕ) → r ≡ row_as ss st w → r ≡ At p m → (has_row ss st w ≡ true) × (m ≤ argument_limit) × ((d : ℕ) (os : List ℕ) → opened (row_in st w + 2) (count_in ss st w) d os ≡ opened p m d os)
-  found_row r p m e f = go (has_row ss st w) refl (leb level_base w) refl (ap row_pair (sym e ∙ f))
+  pub found_row : (p m : ℕ) → Some (p, m) ≡ row_as ss st w → (has_row ss st w ≡ true) × (m ≤ argument_limit) × ((d : ℕ) (os : List ℕ) → opened (row_in st w + 2) (count_in ss st w) d os ≡ opened p m d os)
+  found_row p m e = go (has_row ss st w) refl (leb level_base w) refl (ap row_pair (sym e))
     where
-      go : (b : Bool) → has_row ss st w ≡ b → (a : Bool) → leb level_base w ≡ a → row_pair (cond b (cond a (At 0 0) (At (row_in st w + 2) (count_in ss st w))) Nothing) ≡ some (p, m)
+      go : (b : Bool) → has_row ss st w ≡ b → (a : Bool) → leb level_base w ≡ a → row_pair (cond b (cond a (Some (0, 0)) (Some (row_in st w + 2, count_in ss st w))) None) ≡ some (p, m)
           → (has_row ss st w ≡ true) × (m ≤ argument_limit) × ((d : ℕ) (os : List ℕ) → opened (row_in st w + 2) (count_in ss st w) d os ≡ opened p m d os)
       go false q a z g = none≢some g
       go true q true z g =

@@ -1,23 +1,20 @@
 // The state before the first word.
 ghost use Rattle.std.specs.Prelude.{◌≡◌, length, replicate};
 ghost use Rattle.signature.specs.Decoded.{Known};
+ghost use Rattle.signature.specs.Refusal.{number_in};
 ghost use Rattle.stepping.specs.State.{state_words, begin_state, refusal_in};
 ghost use Rattle.stepping.specs.Begun.{HeadsNoted, RowsNoted};
 
-use crate::state::{HEADS, NUMBER, ROWS, STATE};
+use crate::state::{HEADS, NUMBER, ROWS, SIGNATURE_UNLAWFUL, STATE};
 use decoding::decode;
 use signature::decoded;
-use signature::refusals::SIGNATURE_UNLAWFUL;
+use signature::refusals::Refusal;
 
 fn clear(st: &mut [u16])
     requires { length st.old ≡ state_words }
     ensures { st.new ≡ replicate state_words 0 }
 {
-    let mut i = 0;
-    while i < STATE {
-        st[i] = 0;
-        i += 1;
-    }
+    st.fill(0);
 }
 
 fn note_heads(t: &[u16], st: &mut [u16])
@@ -25,11 +22,9 @@ fn note_heads(t: &[u16], st: &mut [u16])
     ensures { (g : Known t.now) → HeadsNoted g.sig st.old st.new }
 {
     let n = decoded::kinds_of(t) as usize;
-    let mut k = 0;
-    while k < n {
+    for k in 0..n {
         st[HEADS + 2 * k] = decoded::first_of(t, k);
         st[HEADS + 2 * k + 1] = decoded::count_of(t, k);
-        k += 1;
     }
 }
 
@@ -39,31 +34,29 @@ fn note_rows(t: &[u16], st: &mut [u16])
 {
     let n = decoded::constructors_of(t) as usize;
     let mut at = 1u16;
-    let mut c = 0;
-    while c < n {
+    for c in 0..n {
         st[ROWS + c] = at;
         at += 2 + decoded::arity_of(t, c);
-        c += 1;
     }
 }
 
-fn write(ss: &[u16], st: &mut [u16]) -> u16
+fn write(ss: &[u16], st: &mut [u16]) -> Result<(), Refusal>
     requires { length st.old ≡ state_words }
-    ensures { (st.new ≡ begin_state ss.now) × (result ≡ refusal_in (begin_state ss.now)) }
+    ensures { (st.new ≡ begin_state ss.now) × (number_in result ≡ refusal_in (begin_state ss.now)) }
 {
     clear(st);
     let mut t = [0u16; decoded::DECODED];
     if !decode::decode(ss, &mut t) {
         st[NUMBER] = SIGNATURE_UNLAWFUL;
-        return SIGNATURE_UNLAWFUL;
+        return Err(Refusal::SignatureUnlawful);
     }
     note_heads(&t, st);
     note_rows(&t, st);
-    0
+    Ok(())
 }
 
-pub fn begin(ss: &[u16], st: &mut [u16; STATE]) -> u16
-    ensures { (st.new ≡ begin_state ss.now) × (result ≡ refusal_in (begin_state ss.now)) }
+pub fn begin(ss: &[u16], st: &mut [u16; STATE]) -> Result<(), Refusal>
+    ensures { (st.new ≡ begin_state ss.now) × (number_in result ≡ refusal_in (begin_state ss.now)) }
 {
     write(ss, st)
 }

@@ -1,13 +1,18 @@
 // The words of the state between two steps.
 ghost use Rattle.std.specs.Prelude.{◌≡◌};
+ghost use Rattle.signature.specs.Refusal.{number_in};
 ghost use Rattle.stepping.specs.State.{refusal_of};
 
 use booking::walk;
 use decoding::decode::{CONSTRUCTOR_LIMIT, KIND_LIMIT};
-use signature::refusals::{BOOKING_UNLAWFUL, SIGNATURE_UNLAWFUL};
+use signature::refusals::Refusal;
 
-// The refusal that no later word mends.
+// The refusal that no later word mends, as its number; 0 where there is none.
 pub const NUMBER: usize = 0;
+
+pub const SIGNATURE_UNLAWFUL: u16 = Refusal::SignatureUnlawful as u16;
+
+pub const BOOKING_UNLAWFUL: u16 = Refusal::BookingUnlawful as u16;
 
 // How many words were read.
 pub const READ: usize = 1;
@@ -27,14 +32,14 @@ pub const VALUES: usize = ROWS + CONSTRUCTOR_LIMIT;
 pub const STATE: usize = VALUES + walk::OPEN;
 
 // By a state's first word: 1 or 13 where no later word mends it. A word that no step writes counts as 13.
-pub fn refusal(q: u16) -> u16
-    ensures { result ≡ refusal_of q }
+pub fn refusal(q: u16) -> Result<(), Refusal>
+    ensures { number_in result ≡ refusal_of q }
 {
     if q == 0 {
-        return 0;
+        return Ok(());
     }
     if q == SIGNATURE_UNLAWFUL {
-        return SIGNATURE_UNLAWFUL;
+        return Err(Refusal::SignatureUnlawful);
     }
-    BOOKING_UNLAWFUL
+    Err(Refusal::BookingUnlawful)
 }

@@ -6,6 +6,7 @@ ghost use Rattle.std.specs.Prelude.{◌≤◌, ◌<◌, length, IfOk};
 
 use shown::file::{read_words, size};
 use shown::print;
+use signature::refusals::number;
 use std::io;
 use stepping::begin::begin;
 use stepping::end::end;
@@ -17,12 +18,10 @@ const WORDS: usize = 32768;
 // After how many words the booking was lawful, 0 for none.
 fn steps(ss: &[u16], b: &[u16], st: &mut [u16; STATE]) -> usize {
     let mut lawful = 0;
-    let mut i = 0;
-    while i < b.len() {
-        step(ss, st, b[i]);
-        i += 1;
-        if end(st) == 0 {
-            lawful = i;
+    for (i, w) in b.iter().enumerate() {
+        let _ = step(ss, st, *w);
+        if end(st).is_ok() {
+            lawful = i + 1;
         }
     }
     lawful
@@ -30,9 +29,9 @@ fn steps(ss: &[u16], b: &[u16], st: &mut [u16; STATE]) -> usize {
 
 fn show(rt: &impl Print, ss: &[u16], b: &[u16]) -> io::Result<()> {
     let mut st = [0u16; STATE];
-    begin(ss, &mut st);
+    let _ = begin(ss, &mut st);
     let lawful = steps(ss, b, &mut st);
-    print::number(rt, end(&st) as usize)?;
+    print::number(rt, size(number(&end(&st))))?;
     print::spaced(rt, size(st[READ]))?;
     print::spaced(rt, lawful)?;
     print::end(rt)

@@ -4,10 +4,9 @@ use mathlib.Core.List.{List, [], ◌∷◌, ◌++◌, append_assoc, append-nil}
 use Prim.Native.Nat.{ℕ, suc, ◌+◌, ◌-◌, ◌≤◌, ◌<◌}
 use native.Mathlib.Omega.{arith}
 use lib.ListN.{length, get_or, take, drop, set, replicate, length-append, length-replicate, replicate-append-replicate}
-use lib.Seq.{take_at, drop_at, drop-drop, drop-length, length-take-le}
+use lib.Seq.{take_at, drop_at, drop-drop, drop-length, length-take-le, take-take, take-append-le}
 use Rattle.signature.specs.Lists.{All, none_left, also}
 use Rattle.signature.proofs.Tests.{eqb_self, eqb_no, ltb_yes, ltb_no}
-use Rattle.shift.proofs.Laws.{Right, inserted}
 use Rattle.table.specs.Limits.{limits, table_length, default_at, emptied_default}
 use Rattle.table.specs.Rule.{Rule, rule_words, rules_words, rules_end, default_of, stored, add_rule, take_out}
 use Rattle.table.proofs.TableFacts.{words_few}
@@ -16,6 +15,22 @@ use Rattle.store.specs.Place.{FreeAt, HeldAt, RuleAt}
 use Rattle.store.specs.Change.{GivenPut, GivenTake}
 use Rattle.store.proofs.LaidFacts.{zeros_left, behind, room}
 use Rattle.store.proofs.Walk.{words_append, words_length, parted, rule_at}
+
+-- what stands behind a place, further on
+abbrev pub Right : List ℕ → ℕ → ℕ → ℕ → List ℕ
+Right l j end d = take (j + d) l ++ (take (end - j) (drop j l) ++ drop (end + d) l)
+
+inserted : (s S item ys : List ℕ) (at end d : ℕ) → at ≤ end → end + d ≤ length s → d ≡ length item → S ≡ Right s at end d → ys ≡ item
+    → take at S ++ (ys ++ drop (at + d - at) (drop at S)) ≡ take at s ++ (item ++ (take (end - at) (drop at s) ++ drop (end + length item) s))
+inserted s S item ys at end d h g n e f =
+    let T = take (end - at) (drop at s) in
+    let D = drop (end + d) s in
+    let len : length (take (at + d) s) ≡ at + d = length-take-le (at + d) s (omega arith) in
+    let front : take at S ≡ take at s = ap (take at) e ∙ take-append-le at (take (at + d) s) (T ++ D) (omega arith) ∙ take-take at (at + d) s (omega arith) in
+    let k : at + (at + d - at) ≡ at + d = omega arith in
+    let back : drop (at + d - at) (drop at S) ≡ T ++ D =
+    drop-drop (at + d - at) at S ∙ ap₂ (λ (m : ℕ) (l : List ℕ). drop m l) k e ∙ drop_at (take (at + d) s) (T ++ D) (at + d) len in
+    rw (front, f, back, n)
 
 -- rules
 

@@ -1,10 +1,8 @@
 -- Where rules stand in a table, and where a rule goes in.
-use Rattle.std.specs.Prelude.{◌≡◌, List, [], ◌∷◌, ◌++◌, true, false, ℕ, ◌+◌, ◌<◌, ◌≤◌, length, get_or, take, drop}
+use Rattle.std.specs.Prelude.{◌≡◌, List, Result, Ok, Err, [], ◌∷◌, ◌++◌, true, false, ℕ, ◌+◌, ◌<◌, ◌≤◌, length, get_or, take, drop}
 use Rattle.signature.specs.Lists.{All}
 use Rattle.table.specs.Limits.{limits, table_length, rule_head}
 use Rattle.table.specs.Rule.{Rule, rules_end, held}
-use Rattle.store.specs.declared.find.Found.{Found}
-use Rattle.store.specs.declared.find.Found.TheVariants.{Held, Free}
 
 -- "per rule number, plan, pattern length and pattern": the words of a rule at an index
 pub record RuleAt (table : List ℕ) (at : ℕ) (r : Rule) : Type 0 where
@@ -50,6 +48,6 @@ pub record FreeAt (n : ℕ) (rs : List Rule) (at : ℕ) : Type 0 where
   pub at_is : at ≡ rules_end before
   pub not_held : held n rs ≡ false
 
-abbrev pub FoundAt : ℕ → List Rule → Found → Type 0
-FoundAt n rs (Held at) = HeldAt n rs at
-FoundAt n rs (Free at) = FreeAt n rs at
+abbrev pub FoundAt : ℕ → List Rule → Result ℕ ℕ → Type 0
+FoundAt n rs (Ok at) = HeldAt n rs at
+FoundAt n rs (Err at) = FreeAt n rs at

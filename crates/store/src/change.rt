@@ -7,14 +7,14 @@ ghost use Rattle.store.specs.Change.{GivenPut, GivenTake};
 
 use crate::find::end;
 use crate::layout::{DEFAULT_AT, EMPTIED_DEFAULT, LENGTH, PLAN, RULE_HEAD, TABLE};
-use shift::{copy, remove, right, zero};
+use shift::{remove, right};
 
 // The empty table.
 pub fn clear(table: &mut [u16])
     requires { table_length limits ≤ length table.old }
     ensures { table.new ≡ stored limits emptied_default [] table.old }
 {
-    zero(&mut table[0..TABLE]);
+    table[0..TABLE].fill(0);
     table[DEFAULT_AT] = EMPTIED_DEFAULT;
 }
 
@@ -26,7 +26,7 @@ fn write(words: &mut [u16], number: u16, plan: u16, pattern: &[u16])
     words[0] = number;
     words[PLAN] = plan;
     words[LENGTH] = pattern.len() as u16;
-    copy(&mut words[RULE_HEAD..], pattern);
+    words[RULE_HEAD..].copy_from_slice(pattern);
 }
 
 // The rule goes in at an index that `find` gave; what follows moves on, and the default stays.
@@ -38,7 +38,7 @@ pub fn put(table: &mut [u16], at: usize, number: u16, plan: u16, pattern: &[u16]
     let d = RULE_HEAD + pattern.len();
     right(table, at, behind, d);
     write(&mut table[at..at + d], number, plan, pattern);
-    table[0] = table[0] + 1;
+    table[0] += 1;
 }
 
 // The rule at an index that `find` gave goes; what follows moves back, and zeros follow it.
@@ -49,5 +49,5 @@ pub fn take_out(table: &mut [u16], at: usize)
     let behind = end(table);
     let d = RULE_HEAD + table[at + LENGTH] as usize;
     remove(table, at, behind, d);
-    table[0] = table[0] - 1;
+    table[0] -= 1;
 }

@@ -7,13 +7,6 @@ ghost use Rattle.store.specs.Place.{FoundAt};
 
 use crate::layout::{LENGTH, RULE_HEAD, RULES_AT};
 
-// The index of a rule, or the index at which it would go in.
-#[derive(Clone, Copy)]
-pub enum Found {
-    Held(usize),
-    Free(usize),
-}
-
 // The index behind the last rule.
 pub(crate) fn end(table: &[u16]) -> usize
     requires { (rs : List Rule) × Holds limits table.now rs }
@@ -21,33 +14,29 @@ pub(crate) fn end(table: &[u16]) -> usize
 {
     let n = table[0];
     let mut at = RULES_AT;
-    let mut i = 0;
-    while i < n {
+    for i in 0..n {
         let len = table[at + LENGTH] as usize;
         at = at + RULE_HEAD + len;
-        i += 1;
     }
     at
 }
 
-// Where the rule with this number stands, or would.
-pub fn find(table: &[u16], number: u16) -> Found
+// Where the rule with this number stands, or in an Err where it would.
+pub fn find(table: &[u16], number: u16) -> Result<usize, usize>
     requires { (rs : List Rule) × Holds limits table.now rs }
     ensures { (rs : List Rule) → Holds limits table.now rs → FoundAt number rs result }
 {
     let n = table[0];
     let mut at = RULES_AT;
-    let mut i = 0;
-    while i < n {
+    for i in 0..n {
         let m = table[at];
         if m == number {
-            return Found::Held(at);
+            return Ok(at);
         }
         if number < m {
-            return Found::Free(at);
+            return Err(at);
         }
         at = at + RULE_HEAD + table[at + LENGTH] as usize;
-        i += 1;
     }
-    Found::Free(at)
+    Err(at)
 }

@@ -27,34 +27,27 @@ pub const EMPTIED_DEFAULT: u16 = 1;
 // The words of a table.
 pub const TABLE: usize = RULES_AT + RULES as usize * (RULE_HEAD + PATTERN_WORDS);
 
-// A rule's number, and the index behind it.
-#[derive(Clone, Copy)]
-enum Head {
-    At(u16, usize),
-    Broken,
-}
-
-// The rule that begins at an index, whose number must rise above the last one.
-fn rule_from(table: &[u16], at: usize, last: u16) -> Head
+// Of the rule that begins at an index its number, which must rise above the last one, and the index behind it.
+fn rule_from(table: &[u16], at: usize, last: u16) -> Option<(u16, usize)>
     requires { (table_length limits ≤ length table.now) × (at ≤ table_length limits) }
     ensures { HeadAt table.now at last result }
 {
     if TABLE - at < RULE_HEAD {
-        return Head::Broken;
+        return None;
     }
     let number = table[at];
     if number <= last {
-        return Head::Broken;
+        return None;
     }
     if LAST_NUMBER < number {
-        return Head::Broken;
+        return None;
     }
     let from = at + RULE_HEAD;
     let len = table[at + LENGTH] as usize;
     if TABLE - from < len {
-        return Head::Broken;
+        return None;
     }
-    Head::At(number, from + len)
+    Some((number, from + len))
 }
 
 // Whether every word is 0. With no way out before the end the words are taken eight at a time.
@@ -62,10 +55,8 @@ pub fn zeros(w: &[u16]) -> bool
     ensures { result ≡ all (λ x. eqb x 0) w.now }
 {
     let mut bits: u16 = 0;
-    let mut i = 0;
-    while i < w.len() {
-        bits = bits | w[i];
-        i += 1;
+    for x in w {
+        bits |= *x;
     }
     bits == 0
 }
@@ -81,14 +72,12 @@ pub fn layout(table: &[u16]) -> bool
     }
     let mut at = RULES_AT;
     let mut last = 0;
-    let mut i = 0;
-    while i < n {
-        let Head::At(number, end) = rule_from(table, at, last) else {
+    for i in 0..n {
+        let Some((number, end)) = rule_from(table, at, last) else {
             return false;
         };
         last = number;
         at = end;
-        i += 1;
     }
     zeros(&table[at..TABLE])
 }

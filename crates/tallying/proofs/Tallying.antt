@@ -8,10 +8,9 @@ use native.Mathlib.Omega.{arith}
 use lib.Dec.{eqb}
 use lib.ListN.{length, take, drop, replicate, length-append}
 use lib.Seq.{take_at}
+use Rattle.std.specs.Prelude.{Option as Answer, Some, None}
 use Rattle.text.specs.Print.{print_refused}
 use Rattle.numbers.specs.Lists.{count_of, Filled}
-use Rattle.numbers.specs.declared.list.Count.{Count}
-use Rattle.numbers.specs.declared.list.Count.TheVariants as count
 use Rattle.numbers.proofs.Lists.{count_none, count_some}
 use Rattle.printing.specs.Printed.{Printed}
 use Rattle.day_log.specs.Format.{read_log}
@@ -29,12 +28,12 @@ pub as_printed : {bytes other : List ℕ} {r : ℕ} {entry exit : List ℕ} → 
 as_printed {r = r} {entry = entry} {exit = exit} e h = subst (λ b. Printed b r entry exit) (sym e) h
 
 -- the text was scanned
-module _ (text : List ℕ) (x : Count) (scanned : x ≡ count_of (read_log text)) where
+module _ (text : List ℕ) (x : Answer ℕ) (scanned : x ≡ count_of (read_log text)) where
   -- 17
-  pub broken : x ≡ count.Broken → tally_printed text ≡ print_refused 17
+  pub broken : x ≡ None → tally_printed text ≡ print_refused 17
   broken e = ap print_log (count_none (read_log text) (sym scanned ∙ e))
 
-  module _ (n : ℕ) (e : x ≡ count.Is n) where
+  module _ (n : ℕ) (e : x ≡ Some n) where
     log : List ℕ
     log = (count_some (read_log text) n (sym scanned ∙ e)).0
 
@@ -58,12 +57,12 @@ module _ (text : List ℕ) (x : Count) (scanned : x ≡ count_of (read_log text)
         called = subst (λ l. TallyCall l number total counted) is_log call
 
         -- 19
-        pub refused : 1 ≤ number → tally_printed text ≡ print_refused number
-        refused h = refusal_printed text log read (λ z. omega (arith, called.number_is)) ∙ ap print_refused (sym called.number_is)
+        pub refused : (number ≡ 0 → ⊥) → tally_printed text ≡ print_refused number
+        refused h = refusal_printed text log read (λ z. h (called.number_is ∙ z)) ∙ ap print_refused (sym called.number_is)
 
-        module _ (done : number ≤ 0) where
+        module _ (done : number ≡ 0) where
           no_refusal : log_refusal log ≡ 0
-          no_refusal = let e : number ≡ log_refusal log = called.number_is in omega arith
+          no_refusal = sym called.number_is ∙ done
 
           total_is : total ≡ length log
           total_is = called.total_is ∙ ap (λ m. cond (eqb m 0) (length log) 0) no_refusal

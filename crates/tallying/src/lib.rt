@@ -8,11 +8,10 @@ ghost use Rattle.day_log.specs.Report.{tally_printed};
 ghost use Rattle.scanning.specs.Room.{log_room};
 
 use counting::{LOG_LIMIT, RULE_NUMBERS, tally};
-use numbers::list::Count;
 use printing::print;
 use reporting::report;
 use scanning::{LOG_ROOM, scan};
-use signature::refusals::FORMAT_BROKEN;
+use signature::refusals::Refusal;
 
 // No report has more bytes: 13 for each rule beside its digits, 2,890 digits of the rules, a digit of each count and one more for
 // nine entries more, and the total.
@@ -27,15 +26,13 @@ fn tally_in(text: &[u8], words: &mut [u16], out: &mut [u8]) -> usize
     requires { (log_room ≤ length words.old) × (report_limit ≤ length out.old) }
     ensures { Printed (tally_printed text.now) result out.old out.new }
 {
-    let Count::Is(n) = scan(text, words) else {
-        return print::refused(FORMAT_BROKEN, out);
+    let Some(n) = scan(text, words) else {
+        return print::refused(u16::from(Refusal::FormatBroken), out);
     };
-    let t = tally(&words[..n]);
-    if t.number > 0 {
-        return print::refused(t.number, out);
+    match tally(&words[..n]) {
+        Ok(t) => report(&t.counts, t.total, out),
+        Err(r) => print::refused(u16::from(r), out),
     }
-    let counts = t.counts;
-    report(&counts, t.total, out)
 }
 
 // What is printed stands first in out, the rest is untouched; how many bytes.

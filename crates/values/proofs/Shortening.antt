@@ -30,6 +30,7 @@ use Rattle.cell.specs.Coded.{kinds_of, all_cells, row_code}
 use Rattle.cell.specs.Cursor.{opens_of, cell_at}
 use Rattle.cell.specs.RowList.{from, WrittenFirst}
 use Rattle.cell.proofs.Columns.{three_at}
+use Rattle.cell.proofs.RowListFacts.{not_both}
 use Rattle.cell.proofs.Walk.{back, back_length, part_back, code_long}
 use Rattle.sets.specs.Heads.{number_of}
 use Rattle.sets.specs.Set.{set_of, Within}
@@ -39,19 +40,9 @@ use Rattle.witness.proofs.Behind.{◌behind◌, count, count_behind, goods_behin
 use Rattle.witness.proofs.Filling.{within_all, kind_here, seen, room_from, Now, Front}
 use Rattle.views.specs.View.{height, heights}
 use Rattle.values.specs.Shortest.{GivenRow, Taken, ShortestOf, LeastWritten}
-use Rattle.values.specs.declared.shortest.Outcome.{Outcome}
-use Rattle.values.specs.declared.shortest.Outcome.TheVariants.{Found, TooLong}
+use Rattle.std.specs.Prelude.{None, Some}
 use Rattle.values.proofs.Beside.{◌beside◌, sizes_beside, codes_beside, Valued, valued_nil, valued_cons, valued_beside, split_valued, Fitting, each_fits}
 use Rattle.values.proofs.HeadSizes.{head_least}
-
--- which outcome it is, and how long
-abbrev which : Outcome → ℕ
-which (Found n) = 1
-which TooLong = 0
-
-abbrev length_of : Outcome → ℕ
-length_of (Found n) = n
-length_of TooLong = 0
 
 -- a value that a row takes, not much deeper than the row
 pub record Low (sig : Signature) (k : ℕ) (r : Row) (v : Value) : Type 0 where
@@ -245,13 +236,16 @@ module _ {t row o₀ : List ℕ} (g : GivenRow t row o₀) where
     at_least (ks, todo, M) v h f = let (us, F, s) = M.least v h f in omega (arith, s)
 
     -- it is too long, or it is whole
-    pub long : Now (Mid g i n left o) → booking_limit < n → ShortestOf g TooLong o
-    long m l = record { found = λ k e. absurd (omega (arith, ap which e)); shortest = λ k e. absurd (omega (arith, ap which e)); too_long = λ e v h f. omega (arith, l, at_least m v h f) }
+    pub long : Now (Mid g i n left o) → booking_limit < n → ShortestOf g None o
+    long m l = record { found = λ k e. absurd (not_both e refl); shortest = λ k e. absurd (not_both e refl); too_long = λ e v h f. omega (arith, l, at_least m v h f) }
 
-    end_at : {ks : List ℕ} {todo : Rows} → Goods g.known.sig ks todo → Mid g i n left o ks todo → left ≡ 0 → n ≤ booking_limit → ShortestOf g (Found n) o
+    end_at : {ks : List ℕ} {todo : Rows} → Goods g.known.sig ks todo → Mid g i n left o ks todo → left ≡ 0 → n ≤ booking_limit → ShortestOf g (Some n) o
     end_at (goods_cons a b) M e l = absurd (omega (arith, M.left_is))
-    end_at goods_nil M e l = record { found = λ m q. whole_value m (ap length_of q); shortest = λ m q v h f. omega (arith, ap length_of q, at_least (_, _, M) v h f); too_long = λ q. absurd (omega (arith, ap which q)) }
+    end_at goods_nil M e l = record { found = λ m q. whole_value m (same_length m q); shortest = λ m q v h f. omega (arith, same_length m q, at_least (_, _, M) v h f); too_long = λ q. absurd (not_both {res = Some n} refl q) }
       where
+        same_length : (m : ℕ) → Some n ≡ Some m → n ≡ m
+        same_length m q = cc
+
         whole_value : (m : ℕ) → n ≡ m → (v : Value) × Taken g.known.sig g.kind g.r v × (m ≡ size v) × (take m o ≡ code v)
         whole_value m q =
             let (v, h, c) = M.finish vnil valued_nil in
@@ -259,5 +253,5 @@ module _ {t row o₀ : List ℕ} (g : GivenRow t row o₀) where
             let s : n ≡ size v = M.written.0 ∙ ap length (sym d) ∙ length_code v in
             (v, record { kinded = h.fitting.kinded; fits = h.fitting.fits; few = omega (arith, s, l); deep = h.deep }, sym q ∙ s, ap (λ (x : ℕ). take x o) (sym q) ∙ M.written.1 ∙ sym d)
 
-    pub end : Now (Mid g i n left o) → left ≡ 0 → n ≤ booking_limit → ShortestOf g (Found n) o
+    pub end : Now (Mid g i n left o) → left ≡ 0 → n ≤ booking_limit → ShortestOf g (Some n) o
     end m e l = end_at m.2.good m.2 e l

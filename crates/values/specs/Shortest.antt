@@ -1,5 +1,5 @@
 -- The shortest value that a row takes, as words.
-use Rattle.std.specs.Prelude.{◌≡◌, List, ◌++◌, true, ℕ, suc, ◌+◌, ◌≤◌, ◌<◌, length, take, replicate}
+use Rattle.std.specs.Prelude.{◌≡◌, List, ◌++◌, true, ℕ, suc, ◌+◌, ◌≤◌, ◌<◌, length, take, replicate, Option as CodeOption, None, Some}
 use Rattle.std.proofs.Math.Option.{some}
 use Rattle.signature.specs.Decoded.{Known}
 use Rattle.signature.specs.Lawful.{OfKind}
@@ -14,8 +14,6 @@ use Rattle.row.specs.RowFits.{Good, row_fits}
 use Rattle.cell.specs.Coded.{kinds_of, row_code}
 use Rattle.overlap.specs.Least.{GivenPlace, ValueWritten}
 use Rattle.views.specs.View.{height}
-use Rattle.values.specs.declared.shortest.Outcome.{Outcome}
-use Rattle.values.specs.declared.shortest.Outcome.TheVariants.{Found, TooLong}
 
 -- the fewest words of a value under the head c, in a signature of n kinds
 abbrev pub head_size : Signature → ℕ → ℕ → ℕ
@@ -60,7 +58,7 @@ pub record Taken (sig : Signature) (k : ℕ) (r : Row) (v : Value) : Type 0 wher
   pub deep : depth v ≤ height r + place_words
 
 -- the words of a value that the row takes stand first, so many, and it takes no shorter one; or every value that it takes is longer than a booking
-pub record ShortestOf {t row o : List ℕ} (g : GivenRow t row o) (res : Outcome) (o' : List ℕ) : Type 0 where
-  pub found : (n : ℕ) → res ≡ Found n → (v : Value) × Taken g.known.sig g.kind g.r v × (n ≡ size v) × (take n o' ≡ code v)
-  pub shortest : (n : ℕ) → res ≡ Found n → (v : Value) → OfKind g.known.sig g.kind v → row_fits g.r v ≡ true → n ≤ size v
-  pub too_long : res ≡ TooLong → (v : Value) → OfKind g.known.sig g.kind v → row_fits g.r v ≡ true → booking_limit < size v
+pub record ShortestOf {t row o : List ℕ} (g : GivenRow t row o) (res : CodeOption ℕ) (o' : List ℕ) : Type 0 where
+  pub found : (n : ℕ) → res ≡ Some n → (v : Value) × Taken g.known.sig g.kind g.r v × (n ≡ size v) × (take n o' ≡ code v)
+  pub shortest : (n : ℕ) → res ≡ Some n → (v : Value) → OfKind g.known.sig g.kind v → row_fits g.r v ≡ true → n ≤ size v
+  pub too_long : res ≡ None → (v : Value) → OfKind g.known.sig g.kind v → row_fits g.r v ≡ true → booking_limit < size v

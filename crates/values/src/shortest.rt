@@ -17,13 +17,6 @@ const PLACE: usize = 25;
 // The words of a booking and of one place more.
 pub const VALUE_ROOM: usize = BOOKING_LIMIT + PLACE;
 
-// The words of the shortest value stand first, so many; or it is longer than a booking.
-#[derive(Clone, Copy)]
-pub enum Outcome {
-    Found(usize),
-    TooLong,
-}
-
 // What a cell stands for, first in out: the constructor that it names, or the shortest value under an allowed head; how many words.
 fn place(t: &[u16], tag: u64, allowed: Heads, out: &mut [u16]) -> usize
     requires { (1 ≤ length out.old) × (kind_tag ≤ tag → GivenPlace t.now (tag - kind_tag) (number_of allowed) out.old) }
@@ -38,8 +31,8 @@ fn place(t: &[u16], tag: u64, allowed: Heads, out: &mut [u16]) -> usize
     with_least(t, c, out)
 }
 
-// A shortest value that the row at the front of row takes, first in out.
-pub fn shortest(t: &[u16], row: &[u64], out: &mut [u16]) -> Outcome
+// A shortest value that the row at the front of row takes, first in out, and how many words; None where it is longer than a booking.
+pub fn shortest(t: &[u16], row: &[u64], out: &mut [u16]) -> Option<usize>
     requires { GivenRow t.now row.now out.old }
     ensures { (g : GivenRow t.now row.now out.old) → ShortestOf g result out.new }
 {
@@ -48,7 +41,7 @@ pub fn shortest(t: &[u16], row: &[u64], out: &mut [u16]) -> Outcome
     let mut left = 1;
     while left > 0 {
         if BOOKING_LIMIT < n {
-            return Outcome::TooLong;
+            return None;
         }
         let c = cell_at(row, i);
         let w = opens(t, c.tag);
@@ -57,7 +50,7 @@ pub fn shortest(t: &[u16], row: &[u64], out: &mut [u16]) -> Outcome
         i += CELL;
     }
     if n > BOOKING_LIMIT {
-        return Outcome::TooLong;
+        return None;
     }
-    Outcome::Found(n)
+    Some(n)
 }

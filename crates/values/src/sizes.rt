@@ -23,11 +23,9 @@ pub fn head_size(t: &[u16], c: u16) -> usize
 {
     let n = head_arity(t, c) as usize;
     let mut s = 1;
-    let mut j = 0;
-    while j < n {
+    for j in 0..n {
         let k = argument_of(t, c as usize, j) as usize;
         s += least_size_of(t, k) as usize;
-        j += 1;
     }
     s
 }

@@ -4,12 +4,9 @@ ghost use Rattle.row.specs.RowFits.{row_fits};
 ghost use Rattle.signature.specs.Decoded.{decoded_length};
 ghost use Rattle.values.specs.Takes.{GivenTakes, Near, allows_of};
 
-use cell::cell::{Cell, Cursor, KIND_TAG, look, next};
+use cell::cell::{Cell, FREE_TAG, KIND_TAG, START, look, next};
 use sets::heads::has;
 use signature::decoded::{first_of, head_arity};
-
-// The tag of a column that no cell stands for.
-const FREE_TAG: u64 = 512;
 
 // Whether the head c may stand where a row has the cell p.
 fn allows(t: &[u16], p: Cell, c: u16) -> bool
@@ -31,20 +28,14 @@ pub fn takes(t: &[u16], row: &[u64], b: &[u16]) -> bool
     requires { GivenTakes t.now row.now b.now }
     ensures { (g : GivenTakes t.now row.now b.now) → result ≡ row_fits g.r g.value }
 {
-    let mut y = Cursor {
-        at: 0,
-        wildcards: 0,
-    };
-    let mut i = 0;
-    while i < b.len() {
-        let c = b[i];
+    let mut y = START;
+    for &c in b {
         let p = look(row, y);
         if !allows(t, p, c) {
             return false;
         }
         let n = head_arity(t, c) as usize;
         y = next(y, p.tag, n);
-        i += 1;
     }
     true
 }

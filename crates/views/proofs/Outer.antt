@@ -22,7 +22,8 @@ use Rattle.cell.specs.Coded.{kinds_of, row_code}
 use Rattle.cell.proofs.CursorFacts.{cell_words}
 use Rattle.rowlist.proofs.Kinded.{full_set, within_kind}
 use Rattle.views.specs.View.{others, outside, view}
-use Rattle.views.specs.Write.{Outside, cell_kind}
+use Rattle.cell.specs.Cursor.{cell_kind}
+use Rattle.views.specs.Write.{Outside}
 use Rattle.views.proofs.Standing.{allowed_of}
 
 -- as the code makes it

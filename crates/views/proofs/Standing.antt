@@ -24,7 +24,8 @@ use Rattle.cell.proofs.Columns.{cell_there}
 use Rattle.rowlist.proofs.Kinded.{kind_there, kinds_same, known_head, within_kind}
 use Rattle.witness.proofs.Behind.{◌behind◌, count, count_behind, count_goods, count_places, goods_behind, words_behind}
 use Rattle.witness.proofs.Filling.{kind_here, within_all}
-use Rattle.views.specs.Write.{cell_kind, GivenPart}
+use Rattle.cell.specs.Cursor.{cell_kind}
+use Rattle.views.specs.Write.{GivenPart}
 
 -- the rows below the cell at the top, and their kinds; its tag, variables and heads
 abbrev pub below : Row → Rows

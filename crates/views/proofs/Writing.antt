@@ -18,8 +18,7 @@ use Rattle.sets.specs.Set.{bit, set_of}
 use Rattle.sets.proofs.HeadSets.{number_words}
 use Rattle.cell.specs.Cell.{cell_code, first_word}
 use Rattle.cell.specs.declared.cell.Cell.{Cell}
-use Rattle.cell.specs.declared.cell.Out.{Out}
-use Rattle.cell.specs.declared.cell.Out.TheVariants.{Dropped, Kept}
+use Rattle.std.specs.Prelude.{None, Some}
 use Rattle.cell.specs.Coded.{kinds_of, row_code}
 use Rattle.cell.specs.Cursor.{cell_at, cell_of, opens_of, put_cell}
 use Rattle.cell.proofs.CursorFacts.{cell_words}
@@ -28,7 +27,9 @@ use Rattle.rowlist.proofs.Kinded.{within_kind, few_heads}
 use Rattle.witness.proofs.Behind.{◌behind◌}
 use Rattle.meeting.specs.Part.{GivenPart}
 use Rattle.views.specs.View.{kept_of, outside, view, views}
-use Rattle.views.specs.Write.{GivenView, GivenCell, Outside, Viewed, cell_kind, view_of}
+use Rattle.cell.proofs.RowListFacts.{not_both}
+use Rattle.views.specs.Write.{GivenView, GivenCell, Outside, Viewed, view_of}
+use Rattle.cell.specs.Cursor.{cell_kind}
 use Rattle.views.proofs.Opened.{open_bit, kept_bit}
 use Rattle.views.proofs.Outer.{open_view, none_outside, some_outside, outside_cell}
 use Rattle.views.proofs.Standing.{below, below_kinds, tag_of, vars_of, allowed_of, top_code, kind_few}
@@ -68,17 +69,8 @@ pub record Turn {t row o₀ : List ℕ} (g : GivenView t row o₀) (opened left 
   pub kept_turn : (c : Cell) (w : ℕ) → eqb (bit opened (at / 3)) 1 ≡ false → c ≡ cell_at row at → w ≡ opens_of t c.tag → Now g opened left (at + 3) (n + 3) (todo - 1 + w) (put_cell o n c)
 
 -- the words that are kept
-kept_size : Out → ℕ
-kept_size (Kept n) = suc n
-kept_size Dropped = 0
-
-never : (n : ℕ) → Kept n ≡ Dropped → ⊥
-unfolding kept_size
-never n e = let z : suc n ≡ 0 = ap kept_size e in omega (arith, z)
-
-same_size : (n m : ℕ) → Kept n ≡ Kept m → n ≡ m
-unfolding kept_size
-same_size n m e = let z : suc n ≡ suc m = ap kept_size e in omega (arith, z)
+same_size : (n m : ℕ) → Some n ≡ Some m → n ≡ m
+same_size n m e = cc
 
 -- what is left of values that the views take
 later : (r : Row) (rs : Rows) (us : Values) → rows_fit (rcons r rs) us ≡ true → (ws : Values) × (rows_fit rs ws ≡ true)
@@ -89,8 +81,8 @@ nothing : (xs : List ℕ) (rs : Rows) (us : Values) → rows_fit (rcons (free xs
 nothing xs rs vnil h = true≢false (sym h)
 nothing xs rs (vcons (con d vs) us) h = true≢false (sym h)
 
-pub out_at : {t row o₀ : List ℕ} (g : GivenView t row o₀) (opened left : ℕ) (o : List ℕ) → ((v : Value) → row_fits (view_of g.given opened left) v ≡ false) → Viewed g opened left Dropped o
-out_at g opened left o h = record { kept = λ n e. absurd (never n (sym e)); dropped = λ e v. h v }
+pub out_at : {t row o₀ : List ℕ} (g : GivenView t row o₀) (opened left : ℕ) (o : List ℕ) → ((v : Value) → row_fits (view_of g.given opened left) v ≡ false) → Viewed g opened left None o
+out_at g opened left o h = record { kept = λ n e. absurd (not_both e refl); dropped = λ e v. h v }
 
 module _ {t row o₀ : List ℕ} (g : GivenView t row o₀) (opened left : ℕ) where
   pub start : Now g opened left 0 0 1 o₀
@@ -117,7 +109,7 @@ module _ {t row o₀ : List ℕ} (g : GivenView t row o₀) (opened left : ℕ) 
     pub whole : Now g opened left at n todo o → (length o ≡ length o₀) × (at + todo ≤ length row)
     whole (i, ks, rs, M) = (ap length M.list ∙ simp (length-append, length-drop) (omega (arith, M.size, M.short, M.walks.number, M.walks.total, g.given.few, g.room)), few_left g.given at todo i M.walks)
 
-    end_at : (i : ℕ) {ks : List ℕ} {rs : Rows} → Goods g.given.part.known.sig ks rs → Mid g opened left at n todo o i ks rs → todo ≡ 0 → Viewed g opened left (Kept n) o
+    end_at : (i : ℕ) {ks : List ℕ} {rs : Rows} → Goods g.given.part.known.sig ks rs → Mid g opened left at n todo o i ks rs → todo ≡ 0 → Viewed g opened left (Some n) o
     end_at i goods_nil M e =
         let K = kinds_of g.given.part.known.sig in
         let code : row_code K (view_of g.given opened left) g.given.part.kind ≡ M.done = M.target ∙ append-nil M.done in
@@ -127,11 +119,11 @@ module _ {t row o₀ : List ℕ} (g : GivenView t row o₀) (opened left : ℕ) 
             sym z ∙ sym M.size ∙ ap length (sym code),
             M.good goods_nil,
           );
-          dropped = λ q. absurd (never n q);
+          dropped = λ q. absurd (not_both {res = Some n} refl q);
         }
     end_at i (goods_cons a b) M e = absurd (omega (arith, M.walks.stands.left_is))
 
-    pub end : Now g opened left at n todo o → todo ≡ 0 → Viewed g opened left (Kept n) o
+    pub end : Now g opened left at n todo o → todo ≡ 0 → Viewed g opened left (Some n) o
     end (i, ks, rs, M) e = end_at i M.walks.stands.good M e
 
     turn_at : (i : ℕ) {ks : List ℕ} {rs : Rows} → Goods g.given.part.known.sig ks rs → Mid g opened left at n todo o i ks rs → 0 < todo → Turn g opened left at n todo o

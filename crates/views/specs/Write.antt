@@ -1,6 +1,6 @@
 -- A view in words, and the first cells that are not kept.
-use Rattle.std.specs.Prelude.{◌≡◌, List, ◌++◌, Bool, false, cond, ◌&&◌, ℕ, ◌+◌, ◌*◌, ◌-◌, ◌≤◌, ◌<◌, eqb, ltb, length, drop}
-use Rattle.signature.specs.Decoded.{Known, decoded_length, kind_of, count_of}
+use Rattle.std.specs.Prelude.{◌≡◌, List, ◌++◌, Bool, false, cond, ◌&&◌, ℕ, ◌+◌, ◌*◌, ◌≤◌, ◌<◌, eqb, ltb, length, drop, Option as CodeOption, None, Some}
+use Rattle.signature.specs.Decoded.{Known, decoded_length, count_of}
 use Rattle.signature.specs.Limits.{kind_limit}
 use Rattle.signature.specs.Value.{Value}
 use Rattle.pattern.specs.Limits.{pattern_limit}
@@ -11,8 +11,7 @@ use Rattle.sets.specs.Set.{bit, heads_width}
 use Rattle.cell.specs.Cell.{cell_width, kind_tag}
 use Rattle.cell.specs.declared.cell.Cell.{Cell}
 use Rattle.cell.specs.Coded.{kinds_of, row_code}
-use Rattle.cell.specs.declared.cell.Out.{Out}
-use Rattle.cell.specs.declared.cell.Out.TheVariants.{Dropped, Kept}
+use Rattle.cell.specs.Cursor.{cell_kind}
 use Rattle.views.specs.View.{kept_of, edge, view}
 
 -- row begins with a row of some kind
@@ -34,10 +33,6 @@ pub record GivenView (t row o : List ℕ) : Type 0 where
   pub given : GivenRow t row
   pub room : cell_width * pattern_limit ≤ length o
 
--- the kind of the place of a cell, by its tag and the table of a signature
-abbrev pub cell_kind : List ℕ → ℕ → ℕ
-cell_kind t tag = cond (ltb tag kind_tag) (kind_of t tag) (tag - kind_tag)
-
 -- a cell whose kind the table has
 pub record GivenCell (t : List ℕ) (tag : ℕ) : Type 0 where
   pub long : length t ≡ decoded_length
@@ -55,9 +50,9 @@ abbrev pub view_of : {t row : List ℕ} → GivenRow t row → ℕ → ℕ → R
 view_of g opened left = view g.part.known.sig (kept_of opened) left g.part.kind 0 g.part.r
 
 -- its words first in o; or nothing, where no value leaves the row there
-pub record Viewed {t row o : List ℕ} (g : GivenView t row o) (opened left : ℕ) (res : Out) (o' : List ℕ) : Type 0 where
-  pub kept : (n : ℕ) → res ≡ Kept n → (o' ≡ row_code (kinds_of g.given.part.known.sig) (view_of g.given opened left) g.given.part.kind ++ drop n o) × (n ≡ length (row_code (kinds_of g.given.part.known.sig) (view_of g.given opened left) g.given.part.kind)) × Good g.given.part.known.sig g.given.part.kind (view_of g.given opened left)
-  pub dropped : res ≡ Dropped → (v : Value) → row_fits (view_of g.given opened left) v ≡ false
+pub record Viewed {t row o : List ℕ} (g : GivenView t row o) (opened left : ℕ) (res : CodeOption ℕ) (o' : List ℕ) : Type 0 where
+  pub kept : (n : ℕ) → res ≡ Some n → (o' ≡ row_code (kinds_of g.given.part.known.sig) (view_of g.given opened left) g.given.part.kind ++ drop n o) × (n ≡ length (row_code (kinds_of g.given.part.known.sig) (view_of g.given opened left) g.given.part.kind)) × Good g.given.part.known.sig g.given.part.kind (view_of g.given opened left)
+  pub dropped : res ≡ None → (v : Value) → row_fits (view_of g.given opened left) v ≡ false
 
 -- the set of the first cells that are not kept
 abbrev pub Frontier : {t row : List ℕ} → GivenRow t row → ℕ → ℕ → Type 0

@@ -1,23 +1,12 @@
 // A row left at one of its cells.
 ghost use Rattle.std.specs.Prelude.{◌≡◌};
-ghost use Rattle.views.specs.Write.{GivenCell, GivenView, Outside, Viewed, cell_kind};
+ghost use Rattle.views.specs.Write.{GivenCell, GivenView, Outside, Viewed};
 
-use cell::cell::{CELL, Cell, KIND_TAG, Out, cell_at, opens, put};
+use cell::cell::{CELL, Cell, KIND_TAG, cell_at, kind_at, opens, put};
 use meeting::part::part_end;
 use sets::heads::{full, is_empty, minus};
 use sets::set::has;
-use signature::decoded::{count_of, kind_of};
-
-// The kind of a place, by the tag of its cell.
-fn kind_at(t: &[u16], tag: u64) -> usize
-    requires { GivenCell t.now tag }
-    ensures { result ≡ cell_kind t.now tag }
-{
-    if tag < KIND_TAG {
-        return kind_of(t, tag as usize) as usize;
-    }
-    (tag - KIND_TAG) as usize
-}
+use signature::decoded::count_of;
 
 // What stands for the part of a cell that is not kept: anything of its kind, and where the row is left what the row does not allow.
 fn outside(t: &[u16], c: Cell, left: bool) -> Cell
@@ -27,23 +16,16 @@ fn outside(t: &[u16], c: Cell, left: bool) -> Cell
     let kind = kind_at(t, c.tag);
     let tag = KIND_TAG + kind as u64;
     let all = full(count_of(t, kind) as u32);
-    if left {
-        let allowed = minus(all, c.allowed);
-        return Cell {
-            tag,
-            vars: 0,
-            allowed,
-        };
-    }
+    let allowed = if left { minus(all, c.allowed) } else { all };
     Cell {
         tag,
         vars: 0,
-        allowed: all,
+        allowed,
     }
 }
 
-// The row at the front of row, left at a cell, where the cells of `opened` are not kept: first in out, and how many words; Dropped where no value leaves it there.
-pub fn view(t: &[u16], row: &[u64], opened: u64, left: usize, out: &mut [u64]) -> Out
+// The row at the front of row, left at a cell, where the cells of `opened` are not kept: first in out, and how many words; None where no value leaves it there.
+pub fn view(t: &[u16], row: &[u64], opened: u64, left: usize, out: &mut [u64]) -> Option<usize>
     requires { GivenView t.now row.now out.old }
     ensures { (g : GivenView t.now row.now out.old) → Viewed g opened left result out.new }
 {
@@ -56,7 +38,7 @@ pub fn view(t: &[u16], row: &[u64], opened: u64, left: usize, out: &mut [u64]) -
         if has(opened, i as u32) {
             let rest = outside(t, c, i == left);
             if is_empty(rest.allowed) {
-                return Out::Dropped;
+                return None;
             }
             put(out, n, rest);
             n += CELL;
@@ -69,5 +51,5 @@ pub fn view(t: &[u16], row: &[u64], opened: u64, left: usize, out: &mut [u64]) -
         todo = todo - 1 + opens(t, c.tag);
         at += CELL;
     }
-    Out::Kept(n)
+    Some(n)
 }

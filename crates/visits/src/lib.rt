@@ -1,7 +1,7 @@
 // The cursors of the rows on a path: which rows have a cell in a column, and what raises and lowers them. Only the rows of a set are visited, since deep in a tree few are left.
 #![tactic(auto)]
 
-ghost use Rattle.std.specs.Prelude.{◌≡◌, true, ℕ, ◌+◌, ◌*◌, ◌≤◌, ◌<◌, max, length, get_or};
+ghost use Rattle.std.specs.Prelude.{◌≡◌, true, ℕ, ◌+◌, ◌*◌, ◌≤◌, ◌<◌, length, get_or};
 ghost use Rattle.pattern.specs.Limits.{pattern_limit};
 ghost use Rattle.rowset.specs.Limits.{row_limit};
 ghost use Rattle.rowset.specs.Member.{member};
@@ -43,15 +43,6 @@ pub fn real(rows: &[u16], n: usize, s: &[u64; SET_WORDS], cur: &[u8], ncols: usi
     }
 }
 
-fn larger(a: usize, b: usize) -> usize
-    ensures { result ≡ max a b }
-{
-    if a < b {
-        return b;
-    }
-    a
-}
-
 // How many columns come before the first in which some row alive has a cell; none where no row is alive.
 pub fn blank(rows: &[u16], n: usize, s: &[u64; SET_WORDS], cur: &[u8], ncols: usize) -> usize
     requires { RowsWithin rows.now n s.now cur.now ncols }
@@ -64,7 +55,7 @@ pub fn blank(rows: &[u16], n: usize, s: &[u64; SET_WORDS], cur: &[u8], ncols: us
     let mut m = 0;
     while r < n {
         let o = own(rows, cur, r);
-        m = larger(m, o);
+        m = m.max(o);
         r = next_in(s, r + 1, n);
     }
     ncols - m

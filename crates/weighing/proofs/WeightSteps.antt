@@ -1,4 +1,6 @@
 -- What the steps of weighing show, at either side.
+use Rattle.std.specs.Prelude.{Option, None, Some}
+use Rattle.std.proofs.lemmas.Option.{none-some, some_pair_parts}
 use mathlib.Core.Path.{◌≡◌, refl, sym, ap, subst, ◌∙◌}
 use mathlib.Core.List.{List, append-nil}
 use mathlib.Core.Bool.{Bool, true, false, ◌&&◌, cond}
@@ -20,11 +22,6 @@ use Rattle.pattern.proofs.Sides.{light_all}
 use Rattle.pattern.specs.Weight.{weight_plus, weight_minus, product_plus, sum_minus}
 use Rattle.weighing.specs.Weighing.{weighed, part_weighed, head_at, op_of, joined, over_weight}
 use Rattle.pattern.specs.Word.{own_words, part_count}
-use Rattle.weighing.specs.declared.weight.Head.{Head}
-use Rattle.weighing.specs.declared.weight.Head.TheVariants.{Parts, Swap}
-use Rattle.weighing.specs.declared.weight.Part.{Part}
-use Rattle.weighing.specs.declared.weight.Part.TheVariants.{Is, TooHeavy}
-use Rattle.weighing.specs.declared.weight.Weighed.TheVariants.{Light, Heavy}
 use Rattle.pattern.proofs.Opened.{shape, inner, inner_length, OpensAll, Uncons, uncons, none_open, opened, shape_is, fits_in, to_part, first_open}
 use Rattle.pattern.proofs.ReadSteps.{part}
 use Rattle.pattern.proofs.StandsLaw.{light_weight}
@@ -72,9 +69,9 @@ sat_more : (b : Bool) (n m x : ℕ) → min (op_of b n (op_of b m x)) over_weigh
 sat_more b n m x = sym (sat_left b (op_of b n m) x ∙ ap (λ z. min z over_weight) (op_assoc b n m x))
 
 -- a pattern by what its first word asks for
-abbrev Weighs : Side → Pattern → Head → Type 0
-Weighs s p (Parts a b) = (weight_at s p ≡ op_of b a (fold b s (inner p))) × (light_at s p ≡ (leb (weight_at s p) part_weight_limit && light_all s (inner p))) × (a ≤ 1)
-Weighs s p Swap = (q : Pattern) × (inner p ≡ pcons q pnil) × (weight_at s p ≡ weight_at (other s) q) × (light_at s p ≡ light_at (other s) q)
+abbrev Weighs : Side → Pattern → Option (ℕ × Bool) → Type 0
+Weighs s p (Some h) = (weight_at s p ≡ op_of h.1 h.0 (fold h.1 s (inner p))) × (light_at s p ≡ (leb (weight_at s p) part_weight_limit && light_all s (inner p))) × (h.0 ≤ 1)
+Weighs s p None = (q : Pattern) × (inner p ≡ pcons q pnil) × (weight_at s p ≡ weight_at (other s) q) × (light_at s p ≡ light_at (other s) q)
 
 and_three : (a b c : Bool) → ((a && b) && c) ≡ (a && (b && (c && true)))
 and_three true true true = refl
@@ -111,72 +108,70 @@ pub record Left (s : Side) (t ws : List ℕ) (p : Pattern) (b : Bool) (n i left 
   pub weight : min (weight_at s p) over_weight ≡ min (op_of b n (fold b s ps)) over_weight
   pub light : light_at s p ≡ (leb (weight_at s p) part_weight_limit && light_all s ps)
 
-module _ (s : Side) {t ws : List ℕ} (g : Opens t ws) (f : Form) (f_is : f ≡ form (get_or ws 0 0)) (h : Head) (h_is : h ≡ head_at s f) where
-  weighs_so : (k : Head) → h ≡ k → Weighs s g.pattern k
-  weighs_so k e = subst (Weighs s g.pattern) (ap (head_at s) (sym (shape_is g f f_is)) ∙ sym h_is ∙ e) (weighs s g.pattern)
+module _ (s : Side) {t ws : List ℕ} (g : Opens t ws) (f : Form) (f_is : f ≡ form (get_or ws 0 0)) where
+  weighs_so : (h : Option (ℕ × Bool)) → h ≡ head_at s f → Weighs s g.pattern h
+  weighs_so h e = subst (Weighs s g.pattern) (ap (head_at s) (sym (shape_is g f f_is)) ∙ sym e) (weighs s g.pattern)
 
   own_and_inner : own_words f + length (patterns_code (inner g.pattern)) ≡ length (pattern_code g.pattern)
   own_and_inner = ap (λ x. own_words x + length (patterns_code (inner g.pattern))) (shape_is g f f_is) ∙ inner_length g.pattern
 
-  pub start : (a k : ℕ) (b : Bool) → h ≡ Parts a b → k ≡ part_count t f → Left s t ws g.pattern b a (own_words f) (k - 0)
+  pub start : (a k : ℕ) (b : Bool) → Some (a, b) ≡ head_at s f → k ≡ part_count t f → Left s t ws g.pattern b a (own_words f) (k - 0)
   start a k b e m =
-      let w = weighs_so (Parts a b) e in
+      let w = weighs_so (Some (a, b)) e in
       record { ps = inner g.pattern; front = subst (λ x. OpensAll t (drop (own_words f) ws) x (inner g.pattern)) (omega (arith, m)) (opened g f f_is); ends = own_and_inner; weight = ap (λ x. min x over_weight) w.0; light = w.1 }
 
-  pub start_low : (a : ℕ) (b : Bool) → h ≡ Parts a b → a ≤ 1
-  start_low a b e = (weighs_so (Parts a b) e).2
+  pub start_low : (a : ℕ) (b : Bool) → Some (a, b) ≡ head_at s f → a ≤ 1
+  start_low a b e = (weighs_so (Some (a, b)) e).2
 
-  -- a not: the part behind it, at the other side
-  behind : h ≡ Swap → (o : Opens t (part ws (own_words f))) × (weight_at s g.pattern ≡ weight_at (other s) o.pattern) × (light_at s g.pattern ≡ light_at (other s) o.pattern) × (length (pattern_code g.pattern) ≡ own_words f + length (pattern_code o.pattern))
-  behind e =
-      let (q, i, x, y) = weighs_so Swap e in
-      let (o, z) = first_open (part_count t f) q pnil (subst (OpensAll t (drop (own_words f) ws) (part_count t f)) i (opened g f f_is)) in (
-        to_part ws (own_words f) o,
-        x ∙ ap (weight_at (other s)) (sym z),
-        y ∙ ap (light_at (other s)) (sym z),
-        sym own_and_inner ∙ ap (λ v. own_words f + length (patterns_code v)) i ∙ ap (λ v. own_words f + length v) (append-nil (pattern_code q)) ∙ ap (λ v. own_words f + length (pattern_code v)) (sym z),
-      )
+  module _ (e : None ≡ head_at s f) where
+    -- a not: the part behind it, at the other side
+    behind : (o : Opens t (part ws (own_words f))) × (weight_at s g.pattern ≡ weight_at (other s) o.pattern) × (light_at s g.pattern ≡ light_at (other s) o.pattern) × (length (pattern_code g.pattern) ≡ own_words f + length (pattern_code o.pattern))
+    behind =
+        let (q, i, x, y) = weighs_so None e in
+        let (o, z) = first_open (part_count t f) q pnil (subst (OpensAll t (drop (own_words f) ws) (part_count t f)) i (opened g f f_is)) in (
+          to_part ws (own_words f) o,
+          x ∙ ap (weight_at (other s)) (sym z),
+          y ∙ ap (light_at (other s)) (sym z),
+          sym own_and_inner ∙ ap (λ v. own_words f + length (patterns_code v)) i ∙ ap (λ v. own_words f + length v) (append-nil (pattern_code q)) ∙ ap (λ v. own_words f + length (pattern_code v)) (sym z),
+        )
 
-  pub behind_not : h ≡ Swap → Opens t (part ws (own_words f))
-  behind_not e = (behind e).0
+    pub behind_not : Opens t (part ws (own_words f))
+    behind_not = behind.0
 
-  module _ (e : h ≡ Swap) (r : Part) (gave : (o : Opens t (part ws (own_words f))) → r ≡ part_weighed (other s) o.pattern) where
-    swapped : (b : Bool) → light_at s g.pattern ≡ b → r ≡ cond b (Is (weight_at s g.pattern) (length (pattern_code (behind e).0.pattern))) TooHeavy
-    swapped b q = let (o, x, y, z) = behind e in gave o ∙ (rw (← y, ← x, q))
+    swapped : (r : Option (ℕ × ℕ)) → ((o : Opens t (part ws (own_words f))) → r ≡ part_weighed (other s) o.pattern) → (b : Bool) → light_at s g.pattern ≡ b → r ≡ cond b (Some (weight_at s g.pattern, length (pattern_code behind.0.pattern))) None
+    swapped r gave b q = let (o, x, y, z) = behind in gave o ∙ (rw (← y, ← x, q))
 
-    pub swap_is : (a used : ℕ) → r ≡ Is a used → (Is a (own_words f + used) ≡ part_weighed s g.pattern) × (own_words f + used ≤ length ws)
-    swap_is a used q = go (light_at s g.pattern) refl
+    pub swap_is : (a used : ℕ) → ((o : Opens t (part ws (own_words f))) → Some (a, used) ≡ part_weighed (other s) o.pattern) → (Some (a, own_words f + used) ≡ part_weighed s g.pattern) × (own_words f + used ≤ length ws)
+    swap_is a used gave = go (light_at s g.pattern) refl
       where
-        go : (b : Bool) → light_at s g.pattern ≡ b → (Is a (own_words f + used) ≡ part_weighed s g.pattern) × (own_words f + used ≤ length ws)
+        go : (b : Bool) → light_at s g.pattern ≡ b → (Some (a, own_words f + used) ≡ part_weighed s g.pattern) × (own_words f + used ≤ length ws)
         go true m =
-            let w : Is a used ≡ Is (weight_at s g.pattern) (length (pattern_code (behind e).0.pattern)) = sym q ∙ swapped true m in
-            let i : a ≡ weight_at s g.pattern = cc in
-            let j : used ≡ length (pattern_code (behind e).0.pattern) = cc in
-            let k : own_words f + used ≡ length (pattern_code g.pattern) = omega (arith, (behind e).3) in
+            let (i, j) = some_pair_parts a (weight_at s g.pattern) used (length (pattern_code behind.0.pattern)) (swapped (Some (a, used)) gave true m) in
+            let k : own_words f + used ≡ length (pattern_code g.pattern) = omega (arith, behind.3) in
             (rw (m, i, k), omega (arith, fits_in g))
-        go false m = absurd (let w : Is a used ≡ TooHeavy = sym q ∙ swapped false m in let z : ◌≡◌ {A = ℕ} 0 1 = cc in omega arith)
+        go false m = absurd (none-some (a, used) (sym (swapped (Some (a, used)) gave false m)))
 
-    pub swap_heavy : r ≡ TooHeavy → TooHeavy ≡ part_weighed s g.pattern
-    swap_heavy q = go (light_at s g.pattern) refl
+    pub swap_heavy : ((o : Opens t (part ws (own_words f))) → None ≡ part_weighed (other s) o.pattern) → None ≡ part_weighed s g.pattern
+    swap_heavy gave = go (light_at s g.pattern) refl
       where
-        go : (b : Bool) → light_at s g.pattern ≡ b → TooHeavy ≡ part_weighed s g.pattern
+        go : (b : Bool) → light_at s g.pattern ≡ b → None ≡ part_weighed s g.pattern
         go false m = rw m
-        go true m = absurd (let w : TooHeavy ≡ Is (weight_at s g.pattern) (length (pattern_code (behind e).0.pattern)) = sym q ∙ swapped true m in let z : ◌≡◌ {A = ℕ} 0 1 = cc in omega arith)
+        go true m = absurd (none-some _ (swapped None gave true m))
 
 -- what an answer says
-is_light : (s : Side) (p : Pattern) (m used : ℕ) → Is m used ≡ part_weighed s p → (light_at s p ≡ true) × (m ≡ weight_at s p) × (used ≡ length (pattern_code p))
+is_light : (s : Side) (p : Pattern) (m used : ℕ) → Some (m, used) ≡ part_weighed s p → (light_at s p ≡ true) × (m ≡ weight_at s p) × (used ≡ length (pattern_code p))
 is_light s p m used e = go (light_at s p) refl
   where
     go : (b : Bool) → light_at s p ≡ b → (light_at s p ≡ true) × (m ≡ weight_at s p) × (used ≡ length (pattern_code p))
-    go true l = let w : Is m used ≡ Is (weight_at s p) (length (pattern_code p)) = rw l at e in (l, (cc), (cc))
-    go false l = absurd (let w : Is m used ≡ TooHeavy = rw l at e in let z : ◌≡◌ {A = ℕ} 0 1 = cc in omega arith)
+    go true l = let (x, y) = some_pair_parts m (weight_at s p) used (length (pattern_code p)) (rw l at e) in (l, x, y)
+    go false l = absurd (none-some (m, used) (sym (rw l at e)))
 
-is_heavy : (s : Side) (p : Pattern) → TooHeavy ≡ part_weighed s p → light_at s p ≡ false
+is_heavy : (s : Side) (p : Pattern) → None ≡ part_weighed s p → light_at s p ≡ false
 is_heavy s p e = go (light_at s p) refl
   where
     go : (b : Bool) → light_at s p ≡ b → light_at s p ≡ false
     go false l = l
-    go true l = absurd (let w : TooHeavy ≡ Is (weight_at s p) (length (pattern_code p)) = rw l at e in let z : ◌≡◌ {A = ℕ} 0 1 = cc in omega arith)
+    go true l = absurd (none-some _ (rw l at e))
 
 light_cons : (s : Side) (p : Pattern) (ps : Patterns) → light_all s (pcons p ps) ≡ (light_at s p && light_all s ps)
 light_cons plus p ps = refl
@@ -194,20 +189,20 @@ module _ (s : Side) {t ws : List ℕ} {p : Pattern} {b : Bool} {n i : ℕ} (k j 
   abbrev pub part_open : Opens t (part ws i)
   part_open = to_part ws i first_part.one
 
-  module _ (r : Part) (gave : (o : Opens t (part ws i)) → r ≡ part_weighed s o.pattern) where
-    said : r ≡ part_weighed s first_part.first
-    said = gave part_open ∙ ap (part_weighed s) first_part.one_is
+  said : (r : Option (ℕ × ℕ)) → ((o : Opens t (part ws i)) → r ≡ part_weighed s o.pattern) → r ≡ part_weighed s first_part.first
+  said r gave = gave part_open ∙ ap (part_weighed s) first_part.one_is
 
-    pub part_le : (m used : ℕ) → r ≡ Is m used → i ≤ length ws → (m ≤ part_weight_limit) × (i + used ≤ length ws)
-    part_le m used e h =
-        let (a, c, d) = is_light s first_part.first m used (sym e ∙ said) in
+  module _ (m used : ℕ) (gave : (o : Opens t (part ws i)) → Some (m, used) ≡ part_weighed s o.pattern) where
+    pub part_le : i ≤ length ws → (m ≤ part_weight_limit) × (i + used ≤ length ws)
+    part_le h =
+        let (a, c, d) = is_light s first_part.first m used (said (Some (m, used)) gave) in
         let o = first_part.one in
         (rw c (light_weight s first_part.first a), omega (arith, ap (λ q. length (pattern_code q)) first_part.one_is, fits_in o, length-drop i ws, d))
 
-    pub turn : (m used : ℕ) → r ≡ Is m used → Left s t ws p b (joined b n m) (i + used) (k - (j + 1))
-    turn m used e =
+    pub turn : Left s t ws p b (joined b n m) (i + used) (k - (j + 1))
+    turn =
         let u = first_part in
-        let (a, c, d) = is_light s u.first m used (sym e ∙ said) in
+        let (a, c, d) = is_light s u.first m used (said (Some (m, used)) gave) in
         record {
           ps = u.others;
           front = subst (λ w. OpensAll t w (k - (j + 1)) u.others) (drop-drop used i ws) (u.more used (k - (j + 1)) d (omega arith));
@@ -216,12 +211,12 @@ module _ (s : Side) {t ws : List ℕ} {p : Pattern} {b : Bool} {n i : ℕ} (k j 
           light = l.light ∙ ap (λ q. leb (weight_at s p) part_weight_limit && light_all s q) u.are ∙ ap (λ x. leb (weight_at s p) part_weight_limit && x) (light_cons s u.first u.others ∙ ap (λ x. x && light_all s u.others) a);
         }
 
-    pub turn_heavy : r ≡ TooHeavy → TooHeavy ≡ part_weighed s p
-    turn_heavy e =
-        let u = first_part in
-        let a = is_heavy s u.first (sym e ∙ said) in
-        let h : light_at s p ≡ false = l.light ∙ ap (λ q. leb (weight_at s p) part_weight_limit && light_all s q) u.are ∙ ap (λ x. leb (weight_at s p) part_weight_limit && x) (light_cons s u.first u.others ∙ ap (λ x. x && light_all s u.others) a) ∙ and_no (leb (weight_at s p) part_weight_limit) (light_all s u.others) in
-        rw h
+  pub turn_heavy : ((o : Opens t (part ws i)) → None ≡ part_weighed s o.pattern) → None ≡ part_weighed s p
+  turn_heavy gave =
+      let u = first_part in
+      let a = is_heavy s u.first (said None gave) in
+      let h : light_at s p ≡ false = l.light ∙ ap (λ q. leb (weight_at s p) part_weight_limit && light_all s q) u.are ∙ ap (λ x. leb (weight_at s p) part_weight_limit && x) (light_cons s u.first u.others ∙ ap (λ x. x && light_all s u.others) a) ∙ and_no (leb (weight_at s p) part_weight_limit) (light_all s u.others) in
+      rw h
 
 -- all parts are weighed
 module _ (s : Side) {t ws : List ℕ} {p : Pattern} {b : Bool} {n i : ℕ} (k j : ℕ) (l : Left s t ws p b n i (k - j)) (done : k ≤ j) (small : n ≤ over_weight) where
@@ -237,20 +232,20 @@ module _ (s : Side) {t ws : List ℕ} {p : Pattern} {b : Bool} {n i : ℕ} (k j 
       none_light plus x = and_true x
       none_light minus x = and_true x
 
-  pub ends_heavy : part_weight_limit < n → TooHeavy ≡ part_weighed s p
+  pub ends_heavy : part_weight_limit < n → None ≡ part_weighed s p
   ends_heavy h =
       let (a, c, d) = all_weighed in
       rw (d, leb_no (weight_at s p) part_weight_limit (omega (arith, a)))
 
-  pub ends_light : n ≤ part_weight_limit → Is n i ≡ part_weighed s p
+  pub ends_light : n ≤ part_weight_limit → Some (n, i) ≡ part_weighed s p
   ends_light h =
       let (a, c, d) = all_weighed in
       let w : n ≡ weight_at s p = omega (arith, a) in
       rw (d, leb_yes (weight_at s p) part_weight_limit (omega (arith, w)), w, c)
 
 -- the whole pattern
-pub whole_light : (p : Pattern) (r : Part) (n used : ℕ) → r ≡ part_weighed plus p → r ≡ Is n used → Light n ≡ weighed p
-whole_light p r n used e q = let (a, c, d) = is_light plus p n used (sym q ∙ e) in rw (a, c)
+pub whole_light : (p : Pattern) (n used : ℕ) → Some (n, used) ≡ part_weighed plus p → Some n ≡ weighed p
+whole_light p n used e = let (a, c, d) = is_light plus p n used e in rw (a, c)
 
-pub whole_heavy : (p : Pattern) (r : Part) → r ≡ part_weighed plus p → r ≡ TooHeavy → Heavy ≡ weighed p
-whole_heavy p r e q = rw (is_heavy plus p (sym q ∙ e))
+pub whole_heavy : (p : Pattern) → None ≡ part_weighed plus p → None ≡ weighed p
+whole_heavy p e = rw (is_heavy plus p e)

@@ -14,8 +14,7 @@ use Rattle.table.specs.Rule.{Rule, default_of, held, stored, take_out}
 use Rattle.store.specs.Change.{GivenTake}
 use Rattle.store.specs.Laid.{Holds}
 use Rattle.store.specs.Place.{FoundAt, HeldAt, FreeAt}
-use Rattle.store.specs.declared.find.Found.{Found}
-use Rattle.store.specs.declared.find.Found.TheVariants.{Held, Free}
+use Rattle.std.specs.Prelude.{Result, Ok, Err}
 use Rattle.store.proofs.LaidFacts.{sound_holds}
 use Rattle.opening.specs.Open.{OpenedAs, Ruled}
 use Rattle.withdrawing.specs.Withdraw.{withdrawn}
@@ -35,13 +34,15 @@ module _ {table : List ℕ} (g : (rs : List Rule) × Holds limits table rs) (n :
     refusal_is : withdrawal_refusal n g.0 ≡ cond (not (held n g.0)) 6 0
     refusal_is = rw (leb_yes 1 n (omega (arith, low)), leb_yes n last_number high)
 
-    module _ (f : Found) (gave : (rs : List Rule) → Holds limits table rs → FoundAt n rs f) where
-      pub not_held_6 : (at : ℕ) → f ≡ Free at → (6 ≡ withdrawal_refusal n g.0) × (table ≡ withdrawn n g.0 table)
-      not_held_6 at e =
-          let q : FreeAt n g.0 at = subst (FoundAt n g.0) e (gave g.0 g.1) in
-          stays n 6 g.0 table (refusal_is ∙ ap (λ b. cond (not b) 6 0) q.not_held) refl
+    module _ (f : Result ℕ ℕ) (gave : (rs : List Rule) → Holds limits table rs → FoundAt n rs f) where
+      pub not_held_6 : ((at : ℕ) → f ≡ Ok at → ⊥) → (6 ≡ withdrawal_refusal n g.0) × (table ≡ withdrawn n g.0 table)
+      not_held_6 free = go f free (gave g.0 g.1)
+        where
+          go : (r : Result ℕ ℕ) → ((at : ℕ) → r ≡ Ok at → ⊥) → FoundAt n g.0 r → (6 ≡ withdrawal_refusal n g.0) × (table ≡ withdrawn n g.0 table)
+          go (Ok at) free q = absurd (free at refl)
+          go (Err at) free q = stays n 6 g.0 table (refusal_is ∙ ap (λ b. cond (not b) 6 0) q.not_held) refl
 
-      module _ (at : ℕ) (e : f ≡ Held at) where
+      module _ (at : ℕ) (e : f ≡ Ok at) where
         found : HeldAt n g.0 at
         found = subst (FoundAt n g.0) e (gave g.0 g.1)
 

@@ -1,6 +1,6 @@
 -- Two rows as one, and a value that it takes.
 use mathlib.Core.Path.{◌≡◌, refl, ap, sym, ◌∙◌, subst}
-use mathlib.Core.List.{List, [], append-nil}
+use mathlib.Core.List.{List, [], ◌++◌, append-nil}
 use mathlib.Core.Bool.{true, ◌&&◌}
 use mathlib.Core.Option.{Option, none, some}
 use Prim.Native.Nat.{ℕ, suc, ◌+◌, ◌*◌, ◌≤◌}
@@ -10,6 +10,7 @@ use lib.Seq.{take_at}
 use Rattle.signature.specs.Decoded.{Known}
 use Rattle.signature.specs.Lists.{is_some, first}
 use Rattle.signature.specs.Signature.{heads}
+use Rattle.signature.specs.Value.{code}
 use Rattle.signature.proofs.Booleans.{and_left, and_right}
 use Rattle.signature.proofs.Heads.{args_same}
 use Rattle.signature.proofs.ListFacts.{Kept, kept, dropped}
@@ -21,11 +22,10 @@ use Rattle.row.proofs.Kept.{kept_fits}
 use Rattle.row.proofs.OverlapFacts.{combine_good}
 use Rattle.row.proofs.Places.{combine_places}
 use Rattle.row.proofs.RowMeet.{combine_fits}
-use Rattle.cell.specs.declared.cell.Out.{Out}
-use Rattle.cell.specs.declared.cell.Out.TheVariants.{Dropped, Kept as KeptOut}
+use Rattle.std.specs.Prelude.{Option as CodeOption, None, Some}
 use Rattle.cell.specs.Coded.{kinds_of, row_code, row_code_of, Typed, Typeds}
 use Rattle.cell.specs.Lockstep.{GivenRows, Result}
-use Rattle.cell.proofs.RowListFacts.{kept_is, kept_le}
+use Rattle.cell.proofs.RowListFacts.{not_both, kept_is, kept_le}
 use Rattle.rowlist.proofs.Kinded.{known_head, open_kind, within_kind}
 use Rattle.builder.proofs.Rooms.{code_places}
 use Rattle.witness.specs.Fill.{GivenRow, Filled}
@@ -48,13 +48,10 @@ kept_there dropped a e = none≢some e
 kept_there {P = P} (kept x h) a e = subst P (some_inj x a e) h
 
 -- what combine left in front
-front_of : (w e e' : List ℕ) (n : ℕ) (res : Out) → Result (some w) res e e' → res ≡ KeptOut n → take n e' ≡ w
+front_of : (w e e' : List ℕ) (n : ℕ) (res : CodeOption ℕ) → Result (some w) res e e' → res ≡ Some n → take n e' ≡ w
 front_of w e e' n res R q =
     let (w', a, b, c) = kept_is (some w) res n e e' R q in
     ap (take n) c ∙ take_at w' (drop n e) n (sym b) ∙ sym (some_inj w w' a)
-
-apart : (res : Out) (n : ℕ) → res ≡ KeptOut n → res ≡ Dropped → ⊥
-apart res n e f = let z : ◌≡◌ {A = ℕ} 0 1 = cc in omega (arith, z)
 
 -- three words a place
 abbrev pair_words : ℕ
@@ -91,46 +88,46 @@ module _ {t a b o : List ℕ} (g : GivenPair t a b o) where
       room = omega (arith, places, g.proper_r.few, g.proper_s.few, g.room);
     }
 
-    both_of : (w : List ℕ) (f : w ≡ row_code (kinds_of g.known.sig) u g.kind) (n : ℕ) (o' : List ℕ) → Filled (row_given w f) n o' → Found (Both g.known.sig g.kind (row_fits g.r) (row_fits g.s)) true n o o'
+    both_of : (w : List ℕ) (f : w ≡ row_code (kinds_of g.known.sig) u g.kind) (n : ℕ) (o' : List ℕ) → Filled (row_given w f) n o' → Found (Both g.known.sig g.kind (row_fits g.r) (row_fits g.s)) true (Some n) o o'
     unfolding row_given
     both_of w f n o' F =
         let v = F.value in
         let T = F.taken in
         let h : ◌≡◌ (row_fits g.r v && row_fits g.s v) true = sym (combine_fits g.r g.s v) ∙ ap (λ (m : Option Row). kept_fits m v) e ∙ T.fits in
-        (v, record { kinded = T.kinded; few = omega (arith, T.few, places, g.proper_r.few, g.proper_s.few); deep = omega (arith, T.deep, places, g.proper_r.few, g.proper_s.few); passes_f = and_left (row_fits g.r v) (row_fits g.s v) h; passes_g = and_right (row_fits g.r v) (row_fits g.s v) h }, F.count, F.list)
+        (v, record { kinded = T.kinded; few = omega (arith, T.few, places, g.proper_r.few, g.proper_s.few); deep = omega (arith, T.deep, places, g.proper_r.few, g.proper_s.few); passes_f = and_left (row_fits g.r v) (row_fits g.s v) h; passes_g = and_right (row_fits g.r v) (row_fits g.s v) h }, ap Some F.count, F.list ∙ ap (λ (k : ℕ). code v ++ drop k o) F.count)
 
   -- by what combine answered
-  abbrev Left : Option Row → Out → List ℕ → List ℕ → Type 0
+  abbrev Left : Option Row → CodeOption ℕ → List ℕ → List ℕ → Type 0
   Left m res e e' = Result (row_code_of (kinds_of g.known.sig) g.kind m) res e e'
 
-  abbrev FoundBoth : Option Row → ℕ → List ℕ → Type 0
-  FoundBoth m n o' = Found (Both g.known.sig g.kind (row_fits g.r) (row_fits g.s)) (is_some m) n o o'
+  abbrev FoundBoth : Option Row → CodeOption ℕ → List ℕ → Type 0
+  FoundBoth m res o' = Found (Both g.known.sig g.kind (row_fits g.r) (row_fits g.s)) (is_some m) res o o'
 
-  none_at : (m : Option Row) (res : Out) (e e' : List ℕ) → Left m res e e' → res ≡ Dropped → FoundBoth m 0 o
+  none_at : (m : Option Row) (res : CodeOption ℕ) (e e' : List ℕ) → Left m res e e' → res ≡ None → FoundBoth m None o
   none_at none res e e' R q = (refl, refl)
-  none_at (some u) res e e' R q = absurd (apart res _ R.0 q)
+  none_at (some u) res e e' R q = absurd (not_both R.0 q)
 
-  given_at : (m : Option Row) (res : Out) (n : ℕ) (e e' : List ℕ) → combine g.r g.s ≡ m → Left m res e e' → res ≡ KeptOut n → GivenRow t (take n e') o
-  given_at none res n e e' c R q = absurd (apart res n q R)
+  given_at : (m : Option Row) (res : CodeOption ℕ) (n : ℕ) (e e' : List ℕ) → combine g.r g.s ≡ m → Left m res e e' → res ≡ Some n → GivenRow t (take n e') o
+  given_at none res n e e' c R q = absurd (not_both q R)
   given_at (some u) res n e e' c R q = row_given u c (take n e') (front_of _ e e' n res R q)
 
-  found_at : (m : Option Row) (res : Out) (n : ℕ) (e e' : List ℕ) → combine g.r g.s ≡ m → Left m res e e' → res ≡ KeptOut n → (k : ℕ) (o' : List ℕ) → ((q : GivenRow t (take n e') o) → Filled q k o') → FoundBoth m k o'
-  found_at none res n e e' c R q k o' F = absurd (apart res n q R)
+  found_at : (m : Option Row) (res : CodeOption ℕ) (n : ℕ) (e e' : List ℕ) → combine g.r g.s ≡ m → Left m res e e' → res ≡ Some n → (k : ℕ) (o' : List ℕ) → ((q : GivenRow t (take n e') o) → Filled q k o') → FoundBoth m (Some k) o'
+  found_at none res n e e' c R q k o' F = absurd (not_both q R)
   found_at (some u) res n e e' c R q k o' F = both_of u c (take n e') (front_of _ e e' n res R q) k o' (F (row_given u c (take n e') (front_of _ e e' n res R q)))
 
-  module _ (res : Out) (e e' : List ℕ) (h : pair_words ≤ length e) (R : (q : GivenRows t a b e) → Result (row_code_of q.K q.kind (combine q.r q.s)) res e e') where
-    pub none_of : res ≡ Dropped → FoundBoth (combine g.r g.s) 0 o
+  module _ (res : CodeOption ℕ) (e e' : List ℕ) (h : pair_words ≤ length e) (R : (q : GivenRows t a b e) → Result (row_code_of q.K q.kind (combine q.r q.s)) res e e') where
+    pub none_of : res ≡ None → FoundBoth (combine g.r g.s) None o
     unfolding given
     none_of q = none_at (combine g.r g.s) res e e' (R (given e h)) q
 
-    pub row_of : (n : ℕ) → res ≡ KeptOut n → GivenRow t (take n e') o
+    pub row_of : (n : ℕ) → res ≡ Some n → GivenRow t (take n e') o
     unfolding given
     row_of n q = given_at (combine g.r g.s) res n e e' refl (R (given e h)) q
 
-    pub found_of : (n : ℕ) → res ≡ KeptOut n → (k : ℕ) (o' : List ℕ) → ((q : GivenRow t (take n e') o) → Filled q k o') → FoundBoth (combine g.r g.s) k o'
+    pub found_of : (n : ℕ) → res ≡ Some n → (k : ℕ) (o' : List ℕ) → ((q : GivenRow t (take n e') o) → Filled q k o') → FoundBoth (combine g.r g.s) (Some k) o'
     unfolding given
     found_of n q k o' F = found_at (combine g.r g.s) res n e e' refl (R (given e h)) q k o' F
 
-    pub fits_in : (n : ℕ) → res ≡ KeptOut n → n ≤ length e'
+    pub fits_in : (n : ℕ) → res ≡ Some n → n ≤ length e'
     unfolding given
     fits_in n q = kept_le (row_code_of (kinds_of g.known.sig) g.kind (combine g.r g.s)) res n e e' (R (given e h)) q

@@ -5,10 +5,11 @@ use mathlib.Core.Bool.{Bool, true, false, not}
 use Prim.Native.Nat.{ℕ, ◌+◌, ◌≤◌, ◌<◌}
 use native.Mathlib.Omega.{arith}
 use lib.ListN.{length, get_or}
+use Rattle.std.specs.Prelude.{Option as CodeOption, None, Some}
 use Rattle.signature.specs.Decoded.{Known}
 use Rattle.signature.specs.Limits.{booking_limit}
 use Rattle.signature.specs.Lists.{All, is_empty}
-use Rattle.signature.specs.Value.{Value, code}
+use Rattle.signature.specs.Value.{Value, code, size}
 use Rattle.signature.proofs.LawfulFacts.{sig_facts, args_small, few, small_0}
 use Rattle.signature.proofs.ListFacts.{all_both, all_imp, all_in, in_any}
 use Rattle.signature.proofs.Tests.{true≢false}
@@ -31,6 +32,7 @@ use Rattle.overlap.proofs.Laws.{as_lists}
 use Rattle.overlap.proofs.Search.{Now, Head, head, found, past, end, list_task, any_each}
 use Rattle.witness.specs.Lists.{GivenRowList, Shown}
 use Rattle.witness.specs.Pair.{Proper, Both, Found}
+use Rattle.cell.proofs.RowListFacts.{not_both}
 use Rattle.witness.proofs.Searching.{found_some, found_none}
 
 -- the rows of a pattern have at most 64 places
@@ -45,8 +47,8 @@ module _ {t x y : List ℕ} (g : TwoPatterns t x y) (o : List ℕ) (room : booki
   abbrev Shared_value : Value → Type 0
   Shared_value = Both g.known.sig 0 (fits_some (rows_plus g.known.sig 0 g.p)) (fits_some (rows_plus g.known.sig 0 g.q))
 
-  abbrev Found_both : ℕ → List ℕ → Type 0
-  Found_both n o' = Found Shared_value (overlap g.known.sig 0 g.p g.q) n o o'
+  abbrev Found_both : CodeOption ℕ → List ℕ → Type 0
+  Found_both res o' = Found Shared_value (overlap g.known.sig 0 g.p g.q) res o o'
 
   module _ (at : ℕ) where
     unfoldable row_of : (r : Row) → Head (list_task (as_lists g)) at r → GivenRowList t (from x (at + 1)) y o
@@ -70,36 +72,36 @@ module _ {t x y : List ℕ} (g : TwoPatterns t x y) (o : List ℕ) (room : booki
       pub row_given : 0 < get_or x at 0 → GivenRowList t (from x (at + 1)) y out
       row_given h = let q = head (list_task (as_lists g)) at m h in rw e (row_of q.0 q.1)
 
-      pub end_of : get_or x at 0 ≤ 0 → Found_both 0 out
+      pub end_of : get_or x at 0 ≤ 0 → Found_both None out
       unfolding list_task as_lists
-      end_of z = subst (λ (b : Bool). Found Shared_value b 0 o out) (sym (end (list_task (as_lists g)) at m z) ∙ any_each (rows_plus g.known.sig 0 g.p) (rows_plus g.known.sig 0 g.q)) (refl, e)
+      end_of z = subst (λ (b : Bool). Found Shared_value b None o out) (sym (end (list_task (as_lists g)) at m z) ∙ any_each (rows_plus g.known.sig 0 g.p) (rows_plus g.known.sig 0 g.q)) (refl, e)
 
-      module _ (h : 0 < get_or x at 0) (n : ℕ) (o' : List ℕ) (F : (q : GivenRowList t (from x (at + 1)) y out) → Found (Both q.known.sig q.kind (row_fits q.r) (fits_some q.ss)) (not (is_empty (with_each q.r q.ss))) n out o') where
+      module _ (h : 0 < get_or x at 0) (res : CodeOption ℕ) (o' : List ℕ) (F : (q : GivenRowList t (from x (at + 1)) y out) → Found (Both q.known.sig q.kind (row_fits q.r) (fits_some q.ss)) (not (is_empty (with_each q.r q.ss))) res out o') where
         abbrev With : Row → Value → Type 0
         With r = Both g.known.sig 0 (row_fits r) (fits_some (rows_plus g.known.sig 0 g.q))
 
         abbrev meets : Row → Bool
         meets r = not (is_empty (with_each r (rows_plus g.known.sig 0 g.q)))
 
-        answer_of : (r : Row) → Head (list_task (as_lists g)) at r → Found (With r) (meets r) n o o'
+        answer_of : (r : Row) → Head (list_task (as_lists g)) at r → Found (With r) (meets r) res o o'
         unfolding row_of
-        answer_of r d = let G : (q : GivenRowList t (from x (at + 1)) y o) → Found (Both q.known.sig q.kind (row_fits q.r) (fits_some q.ss)) (not (is_empty (with_each q.r q.ss))) n o o' = rw e at F in G (row_of r d)
+        answer_of r d = let G : (q : GivenRowList t (from x (at + 1)) y o) → Found (Both q.known.sig q.kind (row_fits q.r) (fits_some q.ss)) (not (is_empty (with_each q.r q.ss))) res o o' = rw e at F in G (row_of r d)
 
-        pub found_row : 0 < n → Found_both n o'
+        pub found_row : (k : ℕ) → res ≡ Some k → Found_both (Some k) o'
         unfolding list_task as_lists
-        found_row z =
+        found_row k z =
             let (r, d) = head (list_task (as_lists g)) at m h in
-            let (v, B, c, l) = subst (λ (b : Bool). Found (With r) b n o o') (found_some (With r) (meets r) n o o' (answer_of r d) z) (answer_of r d) in
-            let all = found (list_task (as_lists g)) at m h (λ s i. sym (found_some (With s) (meets s) n o o' (answer_of s i) z)) in
-            subst (λ (b : Bool). Found Shared_value b n o o') (sym all ∙ any_each (rows_plus g.known.sig 0 g.p) (rows_plus g.known.sig 0 g.q))
-            (v, record { kinded = B.kinded; few = B.few; deep = B.deep; passes_f = in_any (λ q. row_fits q v) (rows_plus g.known.sig 0 g.p) r d.member B.passes_f; passes_g = B.passes_g }, c, l)
+            let (v, B, c, l) = subst (λ (b : Bool). Found (With r) b res o o') (found_some (With r) (meets r) res o o' (answer_of r d) k z) (answer_of r d) in
+            let all = found (list_task (as_lists g)) at m h (λ s i. sym (found_some (With s) (meets s) res o o' (answer_of s i) k z)) in
+            subst (λ (b : Bool). Found Shared_value b (Some k) o o') (sym all ∙ any_each (rows_plus g.known.sig 0 g.p) (rows_plus g.known.sig 0 g.q))
+            (v, record { kinded = B.kinded; few = B.few; deep = B.deep; passes_f = in_any (λ q. row_fits q v) (rows_plus g.known.sig 0 g.p) r d.member B.passes_f; passes_g = B.passes_g }, sym z ∙ c, l)
 
-        pub past_row : n ≤ 0 → Now (list_task (as_lists g)) (at + 1 + get_or x at 0) × (at + 1 + get_or x at 0 ≤ length x) × (o' ≡ o)
+        pub past_row : res ≡ None → Now (list_task (as_lists g)) (at + 1 + get_or x at 0) × (at + 1 + get_or x at 0 ≤ length x) × (o' ≡ o)
         unfolding list_task as_lists
         past_row z =
-            let p = past (list_task (as_lists g)) at m h (λ s i. sym (found_none (With s) (meets s) n o o' (answer_of s i) z).0) in
+            let p = past (list_task (as_lists g)) at m h (λ s i. sym (found_none (With s) (meets s) res o o' (answer_of s i) z).0) in
             let (r, d) = head (list_task (as_lists g)) at m h in
-            (p.0, p.1, (found_none (With r) (meets r) n o o' (answer_of r d) z).1)
+            (p.0, p.1, (found_none (With r) (meets r) res o o' (answer_of r d) z).1)
 
   shared_of : (v : Value) → Shared_value v → (s : Shared g.known.sig g.p g.q) × (s.words ≡ code v)
   shared_of v B =
@@ -109,15 +111,15 @@ module _ {t x y : List ℕ} (g : TwoPatterns t x y) (o : List ℕ) (room : booki
       let (τ, b) = decide_fits sig g.q 0 g.words_q.well_formed B.kinded (sym (plus_fits sig g.q g.words_q.well_formed v B.kinded 0) ∙ B.passes_g) in
       (record { words = code v; value = v; lawful = record { kind_0 = B.kinded; is_code = refl; some_words = omega (arith, n, some_size v); at_most = omega (arith, n, B.few); deep = B.deep }; binds_p = σ; binds_q = τ; fits_p = a; fits_q = b }, refl)
 
-  pub shown : (n : ℕ) (o' : List ℕ) → Found_both n o' → Shown (Shared g.known.sig g.p g.q) (λ s. s.words) n o o'
-  shown n o' F = go (overlap g.known.sig 0 g.p g.q) refl F
+  pub shown : (res : CodeOption ℕ) (o' : List ℕ) → Found_both res o' → Shown (Shared g.known.sig g.p g.q) (λ s. s.words) res o o'
+  shown res o' F = go (overlap g.known.sig 0 g.p g.q) refl F
     where
-      go : (b : Bool) → overlap g.known.sig 0 g.p g.q ≡ b → Found Shared_value b n o o' → Shown (Shared g.known.sig g.p g.q) (λ s. s.words) n o o'
+      go : (b : Bool) → overlap g.known.sig 0 g.p g.q ≡ b → Found Shared_value b res o o' → Shown (Shared g.known.sig g.p g.q) (λ s. s.words) res o o'
       go false e f = record {
         none_shared = λ z. (λ s. true≢false (sym (booking_overlap g.known.sig (sig_facts g.known.sig g.known.signed) g.us g.ws g.p g.q g.words_p g.words_q s) ∙ e), f.1);
-        one_shared = λ h. absurd (omega (arith, h, f.0));
+        one_shared = λ n h. absurd (not_both h f.0);
       }
       go true e (v, B, c, l) = record {
-        none_shared = λ z. absurd (omega (arith, z, c, some_size v));
-        one_shared = λ h. let (s, q) = shared_of v B in (s, c ∙ sym (length_code v) ∙ ap length (sym q), rw q l);
+        none_shared = λ z. absurd (not_both c z);
+        one_shared = λ n h. let (s, q) = shared_of v B in let m : n ≡ size v = cc in (s, m ∙ sym (length_code v) ∙ ap length (sym q), rw (q, m) l);
       }

@@ -1,5 +1,5 @@
 -- A booking that two patterns share, by their lists of rows.
-use Rattle.std.specs.Prelude.{◌≡◌, List, ◌++◌, ℕ, ◌≤◌, length, drop}
+use Rattle.std.specs.Prelude.{◌≡◌, List, ◌++◌, ℕ, ◌≤◌, length, drop, Option as CodeOption, None, Some}
 use Rattle.signature.specs.Decoded.{Known}
 use Rattle.signature.specs.Limits.{booking_limit}
 use Rattle.signature.specs.Lists.{All}
@@ -22,8 +22,8 @@ pub record GivenRowList (t x y o : List ℕ) : Type 0 where
   pub code_y : y ≡ list_code (kinds_of known.sig) kind ss ++ rest_y
   pub room : booking_limit ≤ length o
 
--- "the booking's length [is] returned, the booking is written first in the witness buffer, the rest untouched"; without one 0, and nothing is written.
+-- "the booking's length [is] returned, the booking is written first in the witness buffer, the rest untouched"; without one None, and nothing is written.
 -- S says that a booking is shared, and which
-pub record Shown (S : Type 0) (words : S → List ℕ) (n : ℕ) (o o' : List ℕ) : Type 0 where
-  pub none_shared : n ≡ 0 → (S → ⊥) × (o' ≡ o)
-  pub one_shared : 1 ≤ n → (s : S) × (n ≡ length (words s)) × (o' ≡ words s ++ drop n o)
+pub record Shown (S : Type 0) (words : S → List ℕ) (res : CodeOption ℕ) (o o' : List ℕ) : Type 0 where
+  pub none_shared : res ≡ None → (S → ⊥) × (o' ≡ o)
+  pub one_shared : (n : ℕ) → res ≡ Some n → (s : S) × (n ≡ length (words s)) × (o' ≡ words s ++ drop n o)

@@ -1,5 +1,5 @@
 -- A value that two rows take, as words.
-use Rattle.std.specs.Prelude.{◌≡◌, List, ◌++◌, Bool, true, false, ℕ, ◌≤◌, length, drop}
+use Rattle.std.specs.Prelude.{◌≡◌, List, ◌++◌, Bool, true, false, ℕ, ◌≤◌, length, drop, Option as CodeOption, None, Some}
 use Rattle.signature.specs.Decoded.{Known}
 use Rattle.signature.specs.Lawful.{OfKind}
 use Rattle.signature.specs.Limits.{booking_limit, depth_limit}
@@ -37,7 +37,7 @@ pub record Both (sig : Signature) (k : ℕ) (f g : Value → Bool) (v : Value) :
   pub passes_f : f v ≡ true
   pub passes_g : g v ≡ true
 
--- none is there: 0, and nothing is written; else the words of one in front, so many, and nothing else
-abbrev pub Found : (Value → Type 0) → Bool → ℕ → List ℕ → List ℕ → Type 0
-Found P false n o o' = (n ≡ 0) × (o' ≡ o)
-Found P true n o o' = (v : Value) × P v × (n ≡ size v) × (o' ≡ code v ++ drop n o)
+-- none is there: None, and nothing is written; else the words of one in front, so many, and nothing else
+abbrev pub Found : (Value → Type 0) → Bool → CodeOption ℕ → List ℕ → List ℕ → Type 0
+Found P false res o o' = (res ≡ None) × (o' ≡ o)
+Found P true res o o' = (v : Value) × P v × (res ≡ Some (size v)) × (o' ≡ code v ++ drop (size v) o)

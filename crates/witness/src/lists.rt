@@ -12,8 +12,8 @@ ghost use Rattle.witness.specs.Pair.{Both, Found};
 use crate::pair::pair_witness;
 use overlap::pair::rows_meet;
 
-// A value that the row at the front of x and some row of the list y take, first in out; how many words, 0 where there is none.
-fn row_witness(t: &[u16], x: &[u64], y: &[u64], out: &mut [u16]) -> usize
+// A value that the row at the front of x and some row of the list y take, first in out, and how many words; None where there is none.
+fn row_witness(t: &[u16], x: &[u64], y: &[u64], out: &mut [u16]) -> Option<usize>
     requires { GivenRowList t.now x.now y.now out.old }
     ensures { (g : GivenRowList t.now x.now y.now out.old) → Found (Both g.known.sig g.kind (row_fits g.r) (fits_some g.ss)) (not (is_empty (with_each g.r g.ss))) result out.old out.new }
 {
@@ -26,11 +26,11 @@ fn row_witness(t: &[u16], x: &[u64], y: &[u64], out: &mut [u16]) -> usize
         }
         at = from + len;
     }
-    0
+    None
 }
 
-// A lawful booking that fits the two patterns whose lists of rows are x and y, first in out; how many words, 0 where there is none.
-pub fn witness(t: &[u16], x: &[u64], y: &[u64], out: &mut [u16]) -> usize
+// A lawful booking that fits the two patterns whose lists of rows are x and y, first in out, and how many words; None where there is none.
+pub fn witness(t: &[u16], x: &[u64], y: &[u64], out: &mut [u16]) -> Option<usize>
     requires { TwoPatterns t.now x.now y.now × (booking_limit ≤ length out.old) }
     ensures { (g : TwoPatterns t.now x.now y.now) → Shown (Shared g.known.sig g.p g.q) (λ s. s.words) result out.old out.new }
 {
@@ -38,11 +38,10 @@ pub fn witness(t: &[u16], x: &[u64], y: &[u64], out: &mut [u16]) -> usize
     while x[at] > 0 {
         let len = x[at] as usize;
         let from = at + 1;
-        let n = row_witness(t, &x[from..], y, out);
-        if n > 0 {
-            return n;
+        if let Some(n) = row_witness(t, &x[from..], y, out) {
+            return Some(n);
         }
         at = from + len;
     }
-    0
+    None
 }

@@ -1,5 +1,5 @@
 -- The rows of a set of rules, and what is answered and written for their tree.
-use Rattle.std.specs.Prelude.{◌≡◌, List, [], ◌∷◌, ◌++◌, map, cond, ℕ, ◌≤◌, ◌<◌, min, leb, length, drop}
+use Rattle.std.specs.Prelude.{◌≡◌, List, [], ◌∷◌, ◌++◌, map, cond, ℕ, ◌≤◌, ◌<◌, min, leb, length, drop, Option, Some, None}
 use Rattle.signature.specs.Decoded.{Known}
 use Rattle.signature.specs.Lists.{All}
 use Rattle.tree.specs.Limits.{tree_limit}
@@ -8,8 +8,6 @@ use Rattle.tree.specs.Tree.{Tree, compile}
 use Rattle.tree.specs.Words.{words, layout}
 use Rattle.path.specs.Rows.{RuleRow, line_of, Fit, RowsKept}
 use Rattle.path.specs.State.{default_in}
-use Rattle.writer.specs.declared.write.Written.{Written}
-use Rattle.writer.specs.declared.write.Written.TheVariants.{Done, TooLarge}
 
 -- n rows of rules under the signature whose table is t: their words in a, each in the table of rows
 pub record GivenRows (t a tab : List ℕ) (n : ℕ) : Type 0 where
@@ -29,13 +27,13 @@ abbrev pub most_words : ℕ → ℕ → ℕ
 most_words n room = min (min n room) tree_limit
 
 -- the tree's length, or that it has more words than m
-abbrev pub answer : Tree → ℕ → Written
-answer T m = cond (leb (words T) m) (Done (words T)) TooLarge
+abbrev pub answer : Tree → ℕ → Option ℕ
+answer T m = cond (leb (words T) m) (Some (words T)) None
 
 -- the tree "from index 0 of the lent space, whose other words stay untouched"; nothing where it is too large
 abbrev pub space_after : Tree → ℕ → List ℕ → List ℕ
 space_after T m space = cond (leb (words T) m) (layout T 0 ++ drop (words T) space) space
 
 -- what is answered and written, for every bound above the most words of a tree
-abbrev pub TreeWritten : List ℕ → List ℕ → List ℕ → ℕ → ℕ → List ℕ → Written → List ℕ → Type 0
+abbrev pub TreeWritten : List ℕ → List ℕ → List ℕ → ℕ → ℕ → List ℕ → Option ℕ → List ℕ → Type 0
 TreeWritten t a tab n room space w space' = (g : GivenRows t a tab n) (fuel : ℕ) → tree_limit < fuel → (w ≡ answer (tree_of_rows g fuel) (most_words (length space) room)) × (space' ≡ space_after (tree_of_rows g fuel) (most_words (length space) room) space)

@@ -1,17 +1,24 @@
-use Rattle.gap.proofs.Calling.{turned_down, here, answered_small, here_again, answered_large}
+use mathlib.Core.Path.{refl}
+use native.Mathlib.Omega.{arith}
+use Rattle.std.proofs.lemmas.Result.{err_from_is_err_and}
+use Rattle.signature.proofs.Numbers.{not_0}
+use Rattle.gap.proofs.Calling.{turned_down, here, here_again, answered_first, answered_then, always}
 use Rattle.gap.proofs.gap.Goals as goal
 
-pub returns-then-q-ne0 : goal.returns-then-q-ne0
-returns-then-q-ne0 c = turned_down c.args.ss.now c.args.table.now c.args.witness.now _ c.long_enough-long.ensures _ _ c.begin-q.ensures c.if-q-ne0.true
+pub returns-in_err-begin : goal.returns-in_err-begin
+returns-in_err-begin c = let p = err_from_is_err_and c.from_residual.result c.from_residual.ensures.1 in rw (p.1, p.2) (turned_down c.args.ss.now c.args.table.now c.args.witness.now _ c.long_enough-long.ensures _ _ c.in_err-begin.ensures (not_0 _))
 
-pub gap_small-r-requires : goal.gap_small-r-requires
-gap_small-r-requires c = here c.args.ss.now c.args.table.now c.args.witness.now _ c.long_enough-long.ensures _ _ c.begin-q.ensures c.if-q-ne0.false
+pub gap_in-requires : goal.gap_in-requires
+gap_in-requires c = (here c.args.ss.now c.args.table.now c.args.witness.now _ c.long_enough-long.ensures _ _ c.in_ok-begin.ensures refl, omega arith, omega arith)
 
-pub gap_large-requires : goal.gap_large-requires
-gap_large-requires c = here_again c.args.ss.now c.args.table.now c.args.witness.now _ c.long_enough-long.ensures _ _ c.begin-q.ensures c.if-q-ne0.false c.gap_small-r.result c.gap_small-r.new.witness c.gap_small-r.ensures c.in-NoRoom.is
+pub gap_in-requires-2 : goal.gap_in-requires-2
+gap_in-requires-2 c = (here_again c.args.ss.now c.args.table.now c.args.witness.now _ c.long_enough-long.ensures _ _ c.in_ok-begin.ensures refl _ _ _ c.gap_in.ensures c.in_default.is, omega arith, omega arith)
 
-pub returns-in-Done : goal.returns-in-Done
-returns-in-Done c = answered_small c.args.ss.now c.args.table.now c.args.witness.now _ c.long_enough-long.ensures _ _ c.begin-q.ensures c.if-q-ne0.false c.gap_small-r.result c.gap_small-r.new.witness c.gap_small-r.ensures _ c.in-Done.is
+pub returns-in-Some : goal.returns-in-Some
+returns-in-Some c = answered_first c.args.ss.now c.args.table.now c.args.witness.now _ c.long_enough-long.ensures _ _ c.in_ok-begin.ensures refl _ _ _ c.gap_in.ensures _ c.in-Some.is
 
-pub returns-in-NoRoom : goal.returns-in-NoRoom
-returns-in-NoRoom c = answered_large c.args.ss.now c.args.table.now c.args.witness.now _ c.long_enough-long.ensures _ _ c.begin-q.ensures c.if-q-ne0.false c.gap_small-r.result c.gap_small-r.new.witness c.gap_small-r.ensures c.in-NoRoom.is c.gap_large.result c.gap_large.new.witness c.gap_large.ensures
+pub unwrap-requires : goal.unwrap-requires
+unwrap-requires c = let g = here_again c.args.ss.now c.args.table.now c.args.witness.now _ c.long_enough-long.ensures _ _ c.in_ok-begin.ensures refl _ _ _ c.gap_in.ensures c.in_default.is in always g.load.known.sig c.args.table.now c.gap_in.new.witness c.gap_in-2.result c.gap_in-2.new.witness (c.gap_in-2.ensures g)
+
+pub returns : goal.returns
+returns c = answered_then c.args.ss.now c.args.table.now c.args.witness.now _ c.long_enough-long.ensures _ _ c.in_ok-begin.ensures refl _ _ _ c.gap_in.ensures c.in_default.is _ _ _ _ c.gap_in-2.ensures c.unwrap.ensures

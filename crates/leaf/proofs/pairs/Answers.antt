@@ -1,5 +1,5 @@
 use mathlib.Core.Path.{◌∙◌}
-use Prim.Native.Nat.{◌-◌, ◌+◌}
+use Prim.Native.Nat.{◌+◌}
 use native.Mathlib.Omega.{arith}
 use Rattle.leaf.proofs.LeafLaws.{variable_more, variable_full, variable_end, variables_past}
 use Rattle.leaf.proofs.PairLaws.{sofar_start}
@@ -11,14 +11,14 @@ used-bound-requires c = (c.requires.long, c.requires.cells)
 pub loop-x-init : goal.loop-x-init
 loop-x-init c = (c.next_variable-x.ensures.most, variables_past c.args.a.now c.args.rows.now c.args.vis.now c.args.r c.args.q c.used-bound.result 0 _ _ _ _ _ c.used-bound.ensures c.next_variable-x.ensures (sofar_start _ _ _ (omega arith)))
 
-pub variable_pairs-u-requires : goal.variable_pairs-u-requires
-variable_pairs-u-requires c = (c.requires, omega arith, c.loop-x.invariant.1.fits)
+pub variable_pairs-requires : goal.variable_pairs-requires
+variable_pairs-requires c = (c.requires, omega arith, c.loop-x.invariant.1.fits)
 
-pub shape_of-out-then-u-out : goal.shape_of-out-then-u-out
-shape_of-out-then-u-out c = c.variable_pairs-u.auto.out ∙ c.loop-x.invariant.1.len
+pub shape_of-out-in_err-to : goal.shape_of-out-in_err-to
+shape_of-out-in_err-to c = c.variable_pairs.auto.out ∙ c.loop-x.invariant.1.len
 
-pub returns-then-u-out : goal.returns-then-u-out
-returns-then-u-out c = variable_full c.args.a.now c.args.rows.now c.args.vis.now c.args.r c.args.q c.loop-x.x _ _ _ _ _ _ _ c.loop-x-test.true c.loop-x.invariant.1 c.variable_pairs-u.ensures (omega (arith, c.if-u-out.true, c.variable_pairs-u.auto.out))
+pub returns-in_err-to : goal.returns-in_err-to
+returns-in_err-to c = rw c.from_residual.ensures (variable_full c.args.a.now c.args.rows.now c.args.vis.now c.args.r c.args.q c.loop-x.x _ _ _ _ _ _ c.loop-x-test.true c.loop-x.invariant.1 c.in_err-to.ensures)
 
 pub overflow_add-x : goal.overflow_add-x
 overflow_add-x c = omega (arith, c.loop-x-test.true)
@@ -30,7 +30,7 @@ pub loop-x-smaller : goal.loop-x-smaller
 loop-x-smaller c = omega (arith, c.next_variable-x-in-loop-x.ensures.least, c.loop-x-test.true)
 
 pub loop-x-preserved : goal.loop-x-preserved
-loop-x-preserved c = (c.next_variable-x-in-loop-x.ensures.most, variables_past c.args.a.now c.args.rows.now c.args.vis.now c.args.r c.args.q c.used-bound.result (c.loop-x.x + 1) _ _ _ _ _ c.used-bound.ensures c.next_variable-x-in-loop-x.ensures (variable_more c.args.a.now c.args.rows.now c.args.vis.now c.args.r c.args.q c.loop-x.x _ _ _ _ _ _ c.loop-x-test.true c.loop-x.invariant.1 c.variable_pairs-u.ensures (omega (arith, c.if-u-out.false)) c.variable_pairs-u.auto.out))
+loop-x-preserved c = (c.next_variable-x-in-loop-x.ensures.most, variables_past c.args.a.now c.args.rows.now c.args.vis.now c.args.r c.args.q c.used-bound.result (c.loop-x.x + 1) _ _ _ _ _ c.used-bound.ensures c.next_variable-x-in-loop-x.ensures (variable_more c.args.a.now c.args.rows.now c.args.vis.now c.args.r c.args.q c.loop-x.x _ _ _ _ _ _ c.loop-x-test.true c.loop-x.invariant.1 c.in_ok-to.ensures c.variable_pairs.auto.out))
 
 pub shape_of-out : goal.shape_of-out
 shape_of-out c = c.loop-x.invariant.1.len

@@ -226,8 +226,8 @@ visit-returns-then-ncols-eq0 t c = record { wrote = (λ g fuel h. leaf_result g 
 pub visit-real-requires : goal.visit-real-requires
 visit-real-requires t c = (c.requires.few, c.requires.cursors, c.requires.ok.long, (λ r l e. c.requires.low r l), refl)
 
-pub visit-column-k-requires : goal.visit-column-k-requires
-visit-column-k-requires t c = let k = cols c.requires (omega (arith, c.if-ncols-eq0.false)) in looking c.requires _ k.k k.rest k.is k.there c.real.ensures
+pub visit-column-kind-requires : goal.visit-column-kind-requires
+visit-column-kind-requires t c = let k = cols c.requires (omega (arith, c.if-ncols-eq0.false)) in looking c.requires _ k.k k.rest k.is k.there c.real.ensures
 
 pub visit-raise-requires : goal.visit-raise-requires
 visit-raise-requires t c = let k = cols c.requires (omega (arith, c.if-ncols-eq0.false)) in (c.requires.few, c.requires.cursors, c.requires.visits, omega (arith, c.requires.visits_fit, c.if-out-eq0.false), c.requires.low, λ r l e. (real_cell c.requires _ k.k k.rest k.is c.real.ensures r l e).0)
@@ -251,22 +251,22 @@ pub visit-slice_bounds-node-start : goal.visit-slice_bounds-node-start
 visit-slice_bounds-node-start t c = simp length-set (omega (arith, c.if-out-eq0.false))
 
 pub visit-node-u-requires : goal.visit-node-u-requires
-visit-node-u-requires t c = (simp (length-take, length-drop, length-set) (omega (arith, c.if-out-eq0.false)), skip_child c.real.new.re c.raise.new.cur c.raise.new.vis c.args.out.now [] c.column-k.result 0 c.first_in-r.result c.real.ensures c.column-k.ensures c.raise.ensures c.raise.auto.cur c.raise.auto.vis (omega (arith, c.if-ncols-eq0.false)) c.requires c.if-k-eq-NO_KIND.true _ (simp (length-take, length-drop, length-set) (omega (arith, c.if-out-eq0.false))))
+visit-node-u-requires t c = (simp (length-take, length-drop, length-set) (omega (arith, c.if-out-eq0.false)), skip_child c.real.new.re c.raise.new.cur c.raise.new.vis c.args.out.now [] c.column-kind.result 0 c.first_in-r.result c.real.ensures c.column-kind.ensures c.raise.ensures c.raise.auto.cur c.raise.auto.vis (omega (arith, c.if-ncols-eq0.false)) c.requires c.in_default.is _ (simp (length-take, length-drop, length-set) (omega (arith, c.if-out-eq0.false))))
 
 pub visit-lower-requires : goal.visit-lower-requires
 visit-lower-requires t c = (c.requires.few, omega (arith, c.requires.cursors, c.raise.auto.cur, ap length c.node-u.ensures.kept.cursors), λ r l e. lower_ok _ _ _ _ _ _ _ _ c.raise.ensures c.node-u.ensures.kept.cursors r l e)
 
 pub visit-overflow_add-result : goal.visit-overflow_add-result
-visit-overflow_add-result t c = omega (arith, skip_fits c.real.new.re c.raise.new.cur c.raise.new.vis c.args.out.now c.node-u.new.out c.column-k.result c.node-u.result c.first_in-r.result c.real.ensures c.column-k.ensures c.raise.ensures c.raise.auto.cur c.raise.auto.vis (omega (arith, c.if-ncols-eq0.false)) c.requires c.if-k-eq-NO_KIND.true (omega (arith, c.if-out-eq0.false)) c.node-u.ensures.wrote, c.requires.links_fit)
+visit-overflow_add-result t c = omega (arith, skip_fits c.real.new.re c.raise.new.cur c.raise.new.vis c.args.out.now c.node-u.new.out c.column-kind.result c.node-u.result c.first_in-r.result c.real.ensures c.column-kind.ensures c.raise.ensures c.raise.auto.cur c.raise.auto.vis (omega (arith, c.if-ncols-eq0.false)) c.requires c.in_default.is (omega (arith, c.if-out-eq0.false)) c.node-u.ensures.wrote, c.requires.links_fit)
 
-pub visit-shape_of-out-then-k-eq-NO_KIND : goal.visit-shape_of-out-then-k-eq-NO_KIND
-visit-shape_of-out-then-k-eq-NO_KIND t c = same_len_mid 1 (length (set c.args.out.now 0 3) - 1) (set c.args.out.now 0 3) c.node-u.new.out c.node-u.auto.out ∙ length-set c.args.out.now 0 3
+pub visit-shape_of-out-in_default : goal.visit-shape_of-out-in_default
+visit-shape_of-out-in_default t c = same_len_mid 1 (length (set c.args.out.now 0 3) - 1) (set c.args.out.now 0 3) c.node-u.new.out c.node-u.auto.out ∙ length-set c.args.out.now 0 3
 
-pub visit-returns-then-k-eq-NO_KIND : goal.visit-returns-then-k-eq-NO_KIND
-visit-returns-then-k-eq-NO_KIND t c = record { wrote = (λ g fuel h. skip_result c.real.new.re c.raise.new.cur c.raise.new.vis c.args.out.now c.node-u.new.out c.column-k.result c.node-u.result c.first_in-r.result c.real.ensures c.column-k.ensures c.raise.ensures c.raise.auto.cur c.raise.auto.vis (omega (arith, c.if-ncols-eq0.false)) g fuel c.if-k-eq-NO_KIND.true (omega (arith, c.first_in-r.ensures.most, c.if-r-n.false)) c.first_in-r.ensures (omega (arith, c.if-out-eq0.false)) h c.node-u.ensures.wrote); kept = record { cursors = restored _ _ _ _ _ _ _ _ _ c.raise.ensures c.node-u.ensures.kept.cursors c.lower.ensures (c.lower.auto.cur ∙ ap length c.node-u.ensures.kept.cursors ∙ c.raise.auto.cur); visits = kept_through c.args.n c.args.v (member c.real.new.re) c.args.cur.now c.args.vis.now c.raise.new.cur c.raise.new.vis c.node-u.new.vis c.raise.ensures c.node-u.ensures.kept.visits; long = c.node-u.ensures.kept.long ∙ c.raise.auto.vis } }
+pub visit-returns-in_default : goal.visit-returns-in_default
+visit-returns-in_default t c = record { wrote = (λ g fuel h. skip_result c.real.new.re c.raise.new.cur c.raise.new.vis c.args.out.now c.node-u.new.out c.column-kind.result c.node-u.result c.first_in-r.result c.real.ensures c.column-kind.ensures c.raise.ensures c.raise.auto.cur c.raise.auto.vis (omega (arith, c.if-ncols-eq0.false)) g fuel c.in_default.is (omega (arith, c.first_in-r.ensures.most, c.if-r-n.false)) c.first_in-r.ensures (omega (arith, c.if-out-eq0.false)) h c.node-u.ensures.wrote); kept = record { cursors = restored _ _ _ _ _ _ _ _ _ c.raise.ensures c.node-u.ensures.kept.cursors c.lower.ensures (c.lower.auto.cur ∙ ap length c.node-u.ensures.kept.cursors ∙ c.raise.auto.cur); visits = kept_through c.args.n c.args.v (member c.real.new.re) c.args.cur.now c.args.vis.now c.raise.new.cur c.raise.new.vis c.node-u.new.vis c.raise.ensures c.node-u.ensures.kept.visits; long = c.node-u.ensures.kept.long ∙ c.raise.auto.vis } }
 
 pub visit-branch-u-requires : goal.visit-branch-u-requires
-visit-branch-u-requires t c = (omega arith, branch_child c.real.new.re c.raise.new.cur c.raise.new.vis c.args.out.now [] c.column-k.result 0 c.first_in-r.result c.real.ensures c.column-k.ensures c.raise.ensures c.raise.auto.cur c.raise.auto.vis (omega (arith, c.if-ncols-eq0.false)) c.requires c.if-k-eq-NO_KIND.false)
+visit-branch-u-requires t c = (omega arith, branch_child c.real.new.re c.raise.new.cur c.raise.new.vis c.args.out.now [] c.column-kind.result 0 c.first_in-r.result c.real.ensures c.column-kind.ensures c.raise.ensures c.raise.auto.cur c.raise.auto.vis (omega (arith, c.if-ncols-eq0.false)) c.requires c.in-Some.k c.in-Some.is)
 
 pub visit-lower-requires-2 : goal.visit-lower-requires-2
 visit-lower-requires-2 t c = (c.requires.few, omega (arith, c.requires.cursors, c.raise.auto.cur, ap length c.branch-u.ensures.kept.cursors), λ r l e. lower_ok _ _ _ _ _ _ _ _ c.raise.ensures c.branch-u.ensures.kept.cursors r l e)
@@ -275,4 +275,4 @@ pub visit-shape_of-out : goal.visit-shape_of-out
 visit-shape_of-out t c = c.branch-u.auto.out
 
 pub visit-returns : goal.visit-returns
-visit-returns t c = record { wrote = (λ g fuel h. branch_result c.real.new.re c.raise.new.cur c.raise.new.vis c.args.out.now c.branch-u.new.out c.column-k.result c.branch-u.result c.first_in-r.result c.real.ensures c.column-k.ensures c.raise.ensures c.raise.auto.cur c.raise.auto.vis (omega (arith, c.if-ncols-eq0.false)) g fuel c.if-k-eq-NO_KIND.false (omega (arith, c.first_in-r.ensures.most, c.if-r-n.false)) c.first_in-r.ensures h c.branch-u.ensures.wrote); kept = record { cursors = restored _ _ _ _ _ _ _ _ _ c.raise.ensures c.branch-u.ensures.kept.cursors c.lower-2.ensures (c.lower-2.auto.cur ∙ ap length c.branch-u.ensures.kept.cursors ∙ c.raise.auto.cur); visits = kept_through c.args.n c.args.v (member c.real.new.re) c.args.cur.now c.args.vis.now c.raise.new.cur c.raise.new.vis c.branch-u.new.vis c.raise.ensures c.branch-u.ensures.kept.visits; long = c.branch-u.ensures.kept.long ∙ c.raise.auto.vis } }
+visit-returns t c = record { wrote = (λ g fuel h. branch_result c.real.new.re c.raise.new.cur c.raise.new.vis c.args.out.now c.branch-u.new.out c.column-kind.result c.branch-u.result c.first_in-r.result c.real.ensures c.column-kind.ensures c.raise.ensures c.raise.auto.cur c.raise.auto.vis (omega (arith, c.if-ncols-eq0.false)) g fuel c.in-Some.k c.in-Some.is (omega (arith, c.first_in-r.ensures.most, c.if-r-n.false)) c.first_in-r.ensures h c.branch-u.ensures.wrote); kept = record { cursors = restored _ _ _ _ _ _ _ _ _ c.raise.ensures c.branch-u.ensures.kept.cursors c.lower-2.ensures (c.lower-2.auto.cur ∙ ap length c.branch-u.ensures.kept.cursors ∙ c.raise.auto.cur); visits = kept_through c.args.n c.args.v (member c.real.new.re) c.args.cur.now c.args.vis.now c.raise.new.cur c.raise.new.vis c.branch-u.new.vis c.raise.ensures c.branch-u.ensures.kept.visits; long = c.branch-u.ensures.kept.long ∙ c.raise.auto.vis } }

@@ -1,13 +1,12 @@
-use mathlib.Core.Path.{sym, ◌∙◌}
-use borrow.Author.Tests.{not-true, not-false}
+use mathlib.Core.Path.{refl, sym, ap, ◌∙◌}
 use Rattle.run.proofs.CallLaws.{refused_13, booked, walked}
 use Rattle.run.proofs.run_decoded.Goals as goal
 
 pub returns-then-not-lawful : goal.returns-then-not-lawful
-returns-then-not-lawful c = λ g. refused_13 g c.args.tree.now c.args.b.now c.refused.result (sym (not-true _ c.if-not-lawful.true-raw) ∙ c.lawful.ensures g) c.refused.ensures
+returns-then-not-lawful c = λ g. refused_13 g c.args.tree.now c.args.b.now (sym c.if-not-lawful.true ∙ c.lawful.ensures g)
 
 pub walk_in-requires : goal.walk_in-requires
-walk_in-requires c = (booked c.requires.0 c.args.tree.now c.args.b.now (sym (not-false _ c.if-not-lawful.false-raw) ∙ c.lawful.ensures c.requires.0), c.requires.1)
+walk_in-requires c = (booked c.requires.0 c.args.tree.now c.args.b.now (sym c.if-not-lawful.false ∙ c.lawful.ensures c.requires.0), c.requires.1)
 
 pub returns : goal.returns
-returns c = λ g. walked g c.args.tree.now c.args.b.now c.walk_in.result (sym (not-false _ c.if-not-lawful.false-raw) ∙ c.lawful.ensures g) c.walk_in.ensures
+returns c = λ g. walked g c.args.tree.now c.args.b.now c.walk_in.result (sym c.if-not-lawful.false ∙ c.lawful.ensures g) c.walk_in.ensures

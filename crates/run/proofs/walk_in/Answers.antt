@@ -1,4 +1,4 @@
-use mathlib.Core.Path.{refl, sym, ◌∙◌}
+use mathlib.Core.Path.{refl, sym, ap, ◌∙◌}
 use Prim.Native.Nat.{◌≤◌}
 use native.Mathlib.Omega.{arith}
 use lib.ListN.{length, length-set, length-take, length-drop}
@@ -22,13 +22,13 @@ pub shape_of-visits-in-Broken : goal.shape_of-visits-in-Broken
 shape_of-visits-in-Broken c = c.loop-p.invariant.4
 
 pub returns-in-Broken : goal.returns-in-Broken
-returns-in-Broken c = λ k. let l = c.loop-p in c.refused.ensures ∙ broken_here (l.invariant.6 k) l.invariant.5 c.at_node-s.result c.at_node-s.ensures c.in-Broken.is
+returns-in-Broken c = λ k. let l = c.loop-p in broken_here (l.invariant.6 k) l.invariant.5 c.at_node-s.result c.at_node-s.ensures c.in-Broken.is
 
 pub shape_of-visits-in-Default : goal.shape_of-visits-in-Default
 shape_of-visits-in-Default c = c.loop-p.invariant.4
 
 pub returns-in-Default : goal.returns-in-Default
-returns-in-Default c = λ k. let l = c.loop-p in c.no_rule.ensures ∙ default_here (l.invariant.6 k) l.invariant.5 c.at_node-s.result c.at_node-s.ensures c.in-Default.p c.in-Default.is
+returns-in-Default c = λ k. let l = c.loop-p in ap (λ z. (0, z)) c.no_rule.ensures ∙ default_here (l.invariant.6 k) l.invariant.5 c.at_node-s.result c.at_node-s.ensures c.in-Default.p c.in-Default.is
 
 pub slice_bounds-hit-end-in-Hit : goal.slice_bounds-hit-end-in-Hit
 slice_bounds-hit-end-in-Hit c = let l = c.loop-p in sym (length-take-le l.n l.visits (omega arith))

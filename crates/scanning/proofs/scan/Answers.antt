@@ -1,7 +1,6 @@
-use mathlib.Core.Path.{sym}
 use native.Mathlib.Omega.{arith}
 use Rattle.day_log.specs.Format.{key_log}
-use Rattle.lines.proofs.LineSteps.{Line, end_within, line_long, key_fits}
+use Rattle.lines.proofs.LineSteps.{Line, end_within, key_fits}
 use Rattle.scanning.proofs.ScanSteps.{too_long, not_alone, line_of, empty_log, the_log}
 use Rattle.scanning.proofs.scan.Goals.{Else-end-text}
 use Rattle.scanning.proofs.scan.Goals as goal
@@ -18,9 +17,6 @@ overflow_add-end c = omega (arith, end_within key_log c.args.text.now c.end_of-e
 
 pub returns-then-end-text : goal.returns-then-end-text
 returns-then-end-text c = not_alone c.args.text.now c.if-text-gt-TEXT_LIMIT.false c.end_of-end.result c.end_of-end.ensures _ _ c.if-end-text.true
-
-pub slice_bounds-line-end : goal.slice_bounds-line-end
-slice_bounds-line-end c = sym (line_long (line c))
 
 pub slice_bounds-rest-count : goal.slice_bounds-rest-count
 slice_bounds-rest-count c = key_fits (line c)

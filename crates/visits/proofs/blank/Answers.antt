@@ -1,8 +1,13 @@
-use mathlib.Core.Bool.{true}
-use Prim.Native.Nat.{◌-◌}
+use Prim.Native.Nat.{ℕ, max}
+use mathlib.Core.Path.{◌≡◌, ◌∙◌}
+use Rattle.std.proofs.Common.{nat_cmp, rules}
+use Rattle.std.specs.Ordering.{ord_max}
 use native.Mathlib.Omega.{arith}
 use Rattle.visits.proofs.CursorLaws.{top_start, top_next, top_all, blank_none}
 use Rattle.visits.proofs.blank.Goals as goal
+
+max_is : (a b : ℕ) → ord_max nat_cmp a b ≡ max a b
+max_is a b = search rules
 
 pub returns-then-r-n : goal.returns-then-r-n
 returns-then-r-n c = blank_none _ _ _ _ _ _ c.if-r-n.true c.first_in-r.ensures
@@ -20,7 +25,7 @@ pub loop-r-smaller : goal.loop-r-smaller
 loop-r-smaller c = omega (arith, c.next_in-r.ensures.least)
 
 pub loop-r-preserved : goal.loop-r-preserved
-loop-r-preserved c = let x = c.next_in-r.ensures in let i = c.loop-r.invariant in let e = c.requires in (x.most, x.there, rw c.larger-m.ensures (top_next _ _ _ _ _ _ _ _ _ i.2 c.own-o.ensures (omega (arith, c.own-o.ensures, (e.3 _ (omega (arith, c.loop-r-test.true)) (i.1 c.loop-r-test.true)).1)) x))
+loop-r-preserved c = let x = c.next_in-r.ensures in let i = c.loop-r.invariant in let e = c.requires in (x.most, x.there, rw (c.max-m.ensures ∙ max_is c.loop-r.m c.own-o.result) (top_next _ _ _ _ _ _ _ _ _ i.2 c.own-o.ensures (omega (arith, c.own-o.ensures, (e.3 _ (omega (arith, c.loop-r-test.true)) (i.1 c.loop-r-test.true)).1)) x))
 
 pub overflow_sub-result : goal.overflow_sub-result
 overflow_sub-result c = c.loop-r.invariant.2.most

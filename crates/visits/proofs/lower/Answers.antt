@@ -1,4 +1,4 @@
-use Prim.Native.Nat.{◌-◌, ◌<◌}
+use Prim.Native.Nat.{◌<◌}
 use native.Mathlib.Omega.{arith}
 use Rattle.visits.proofs.CursorLaws.{low_start, low_next, low_past, low_some, low_all}
 use Rattle.visits.proofs.lower.Goals as goal

@@ -1,5 +1,3 @@
-use mathlib.Core.Bool.{true}
-use Prim.Native.Nat.{◌-◌}
 use native.Mathlib.Omega.{arith}
 use Rattle.visits.proofs.CursorLaws.{high_start, high_next, high_past, high_small, high_all}
 use Rattle.visits.proofs.raise.Goals as goal

@@ -1,6 +1,4 @@
 use mathlib.Core.Path.{sym, ◌∙◌}
-use mathlib.Core.Bool.{true}
-use Prim.Native.Nat.{◌-◌}
 use native.Mathlib.Omega.{arith}
 use Rattle.rowset.proofs.MemberLaws.{settled_start, settled_past, settled_next}
 use Rattle.visits.proofs.CursorLaws.{real_in, real_out}

@@ -8,10 +8,10 @@ pub returns-then-number-gt-LAST_NUMBER : goal.returns-then-number-gt-LAST_NUMBER
 returns-then-number-gt-LAST_NUMBER c = λ g. over_4 g c.args.number c.if-number-gt-LAST_NUMBER.true
 
 pub returns-in_default : goal.returns-in_default
-returns-in_default c = λ g. not_held_6 g c.args.number c.if-number-eq0.false c.if-number-gt-LAST_NUMBER.false _ c.find.ensures _ c.in_default.is
+returns-in_default c = λ g. not_held_6 g c.args.number c.if-number-eq0.false c.if-number-gt-LAST_NUMBER.false _ c.find.ensures c.in_default.not-Ok
 
 pub take_out-requires : goal.take_out-requires
-take_out-requires c = take_given c.requires c.args.number c.if-number-eq0.false c.if-number-gt-LAST_NUMBER.false _ c.find.ensures c.in-Held.at c.in-Held.is
+take_out-requires c = take_given c.requires c.args.number c.if-number-eq0.false c.if-number-gt-LAST_NUMBER.false _ c.find.ensures c.in-Ok.at c.in-Ok.is
 
 pub returns : goal.returns
-returns c = λ g. taken_0 g c.args.number c.if-number-eq0.false c.if-number-gt-LAST_NUMBER.false _ c.find.ensures c.in-Held.at c.in-Held.is c.take_out.new.table c.take_out.ensures
+returns c = λ g. taken_0 g c.args.number c.if-number-eq0.false c.if-number-gt-LAST_NUMBER.false _ c.find.ensures c.in-Ok.at c.in-Ok.is c.take_out.new.table c.take_out.ensures

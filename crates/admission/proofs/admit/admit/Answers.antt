@@ -27,10 +27,10 @@ pub returns-in_default : goal.returns-in_default
 returns-in_default c = λ g. too_heavy g _ c.well_formed-2.ensures (not_false _ c.if-not-well_formed.false-raw) _ c.ranged.ensures (not_false _ c.if-not-ranged.false-raw) _ c.linear.ensures (not_false _ c.if-not-linear.false-raw) _ c.weigh.ensures c.in_default.is
 
 pub ambiguous-requires : goal.ambiguous-requires
-ambiguous-requires c = whole_given c.requires _ c.well_formed-2.ensures (not_false _ c.if-not-well_formed.false-raw) _ c.ranged.ensures (not_false _ c.if-not-ranged.false-raw) _ c.linear.ensures (not_false _ c.if-not-linear.false-raw) _ c.weigh.ensures c.in-Light.weight c.in-Light.is
+ambiguous-requires c = whole_given c.requires _ c.well_formed-2.ensures (not_false _ c.if-not-well_formed.false-raw) _ c.ranged.ensures (not_false _ c.if-not-ranged.false-raw) _ c.linear.ensures (not_false _ c.if-not-linear.false-raw) _ c.weigh.ensures c.in-Some.weight c.in-Some.is
 
 pub returns-then-ambiguous : goal.returns-then-ambiguous
-returns-then-ambiguous c = λ g. is_ambiguous g _ c.well_formed-2.ensures (not_false _ c.if-not-well_formed.false-raw) _ c.ranged.ensures (not_false _ c.if-not-ranged.false-raw) _ c.linear.ensures (not_false _ c.if-not-linear.false-raw) _ c.weigh.ensures c.in-Light.weight c.in-Light.is _ c.ambiguous.ensures c.if-ambiguous.true
+returns-then-ambiguous c = λ g. is_ambiguous g _ c.well_formed-2.ensures (not_false _ c.if-not-well_formed.false-raw) _ c.ranged.ensures (not_false _ c.if-not-ranged.false-raw) _ c.linear.ensures (not_false _ c.if-not-linear.false-raw) _ c.weigh.ensures c.in-Some.weight c.in-Some.is _ c.ambiguous.ensures c.if-ambiguous.true
 
 pub returns : goal.returns
-returns c = λ g. passes g _ c.well_formed-2.ensures (not_false _ c.if-not-well_formed.false-raw) _ c.ranged.ensures (not_false _ c.if-not-ranged.false-raw) _ c.linear.ensures (not_false _ c.if-not-linear.false-raw) _ c.weigh.ensures c.in-Light.weight c.in-Light.is _ c.ambiguous.ensures c.if-ambiguous.false
+returns c = λ g. passes g _ c.well_formed-2.ensures (not_false _ c.if-not-well_formed.false-raw) _ c.ranged.ensures (not_false _ c.if-not-ranged.false-raw) _ c.linear.ensures (not_false _ c.if-not-linear.false-raw) _ c.weigh.ensures c.in-Some.weight c.in-Some.is _ c.ambiguous.ensures c.if-ambiguous.false

@@ -13,13 +13,13 @@ pub returns-in_default : goal.returns-in_default
 returns-in_default c = as_printed c.args.text.now (absurd (sig_not_broken c.args.text.now (sym (not_false _ c.if-not-keeps_format.false-raw) ∙ c.keeps_format.ensures) c.list_line.result c.list_line.ensures.0 c.in_default.is)) refl c.refused-in_default.ensures
 
 pub slice_bounds-ss-end : goal.slice_bounds-ss-end
-slice_bounds-ss-end c = omega (arith, sig_fits c.args.text.now (sym (not_false _ c.if-not-keeps_format.false-raw) ∙ c.keeps_format.ensures) c.list_line.result c.list_line.ensures.0 c.in-Is.n c.in-Is.at c.in-Is.is, c.list_line.auto.out, c.requires.0)
+slice_bounds-ss-end c = omega (arith, sig_fits c.args.text.now (sym (not_false _ c.if-not-keeps_format.false-raw) ∙ c.keeps_format.ensures) c.list_line.result c.list_line.ensures.0 c.in-Some.sig c.in-Some.is, c.list_line.auto.out, c.requires.0)
 
 pub slice_bounds-ss-end-2 : goal.slice_bounds-ss-end-2
-slice_bounds-ss-end-2 c = sym (length-take-le _ _ (omega (arith, sig_fits c.args.text.now (sym (not_false _ c.if-not-keeps_format.false-raw) ∙ c.keeps_format.ensures) c.list_line.result c.list_line.ensures.0 c.in-Is.n c.in-Is.at c.in-Is.is, c.list_line.auto.out, c.requires.0)))
+slice_bounds-ss-end-2 c = sym (length-take-le _ _ (omega (arith, sig_fits c.args.text.now (sym (not_false _ c.if-not-keeps_format.false-raw) ∙ c.keeps_format.ensures) c.list_line.result c.list_line.ensures.0 c.in-Some.sig c.in-Some.is, c.list_line.auto.out, c.requires.0)))
 
 pub returns-then-not-decode : goal.returns-then-not-decode
-returns-then-not-decode c = as_printed c.args.text.now (sig_refused c.args.text.now (sym (not_false _ c.if-not-keeps_format.false-raw) ∙ c.keeps_format.ensures) c.list_line.result c.list_line.ensures.0 c.in-Is.n c.in-Is.at c.in-Is.is c.args.words.now c.list_line.new.out c.list_line.ensures.1 (sym (not_true _ c.if-not-decode.true-raw) ∙ c.decode.ensures.answer)) refl c.refused-then-not-decode.ensures
+returns-then-not-decode c = as_printed c.args.text.now (sig_refused c.args.text.now (sym (not_false _ c.if-not-keeps_format.false-raw) ∙ c.keeps_format.ensures) c.list_line.result c.list_line.ensures.0 c.in-Some.sig c.in-Some.is c.args.words.now c.list_line.new.out c.list_line.ensures.1 (sym (not_true _ c.if-not-decode.true-raw) ∙ c.decode.ensures.answer)) refl c.refused-then-not-decode.ensures
 
 pub enter_rules-requires : goal.enter_rules-requires
-enter_rules-requires c = (sig_ready c.args.text.now (sym (not_false _ c.if-not-keeps_format.false-raw) ∙ c.keeps_format.ensures) c.list_line.result c.list_line.ensures.0 c.in-Is.n c.in-Is.at c.in-Is.is c.args.words.now c.list_line.new.out c.list_line.ensures.1 (sym (not_false _ c.if-not-decode.false-raw) ∙ c.decode.ensures.answer) c.args.table.now c.empty.new.table c.empty.result c.requires.2 c.empty.ensures, c.requires.3, c.requires.4, c.requires.5)
+enter_rules-requires c = (sig_ready c.args.text.now (sym (not_false _ c.if-not-keeps_format.false-raw) ∙ c.keeps_format.ensures) c.list_line.result c.list_line.ensures.0 c.in-Some.sig c.in-Some.is c.args.words.now c.list_line.new.out c.list_line.ensures.1 (sym (not_false _ c.if-not-decode.false-raw) ∙ c.decode.ensures.answer) c.args.table.now c.empty.new.table _ c.requires.2 c.empty.ensures, c.requires.3, c.requires.4, c.requires.5)

@@ -1,5 +1,4 @@
 use mathlib.Core.Path.{refl, ◌∙◌}
-use Prim.Native.Nat.{◌-◌}
 use native.Mathlib.Omega.{arith}
 use Rattle.cell.proofs.CursorFacts.{joined_fits}
 use Rattle.cell.proofs.LockstepFacts.{as_cells, of_rows}

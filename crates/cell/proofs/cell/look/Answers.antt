@@ -4,11 +4,11 @@ use native.Mathlib.Omega.{arith}
 use Rattle.sets.specs.declared.heads.Heads.{Heads}
 use Rattle.cell.proofs.cell.look.Goals as goal
 
-pub returns-then-wildcards-gt0 : goal.returns-then-wildcards-gt0
-returns-then-wildcards-gt0 c = rw (lt-ltb _ _ c.if-wildcards-gt0.true) (ap (λ (s : Heads). record { tag = 512; vars = 0; allowed = s }) c.all-allowed.ensures)
+pub returns-then-c-gt0 : goal.returns-then-c-gt0
+returns-then-c-gt0 c = rw (lt-ltb _ _ c.if-c-gt0.true) (ap (λ (s : Heads). record { tag = 512; vars = 0; allowed = s }) c.all.ensures)
 
 pub cell_at-requires : goal.cell_at-requires
-cell_at-requires c = omega (arith, c.requires, c.if-wildcards-gt0.false)
+cell_at-requires c = omega (arith, c.requires, c.if-c-gt0.false)
 
 pub returns : goal.returns
-returns c = rw (le-ltb _ _ c.if-wildcards-gt0.false) c.cell_at.ensures
+returns c = rw (le-ltb _ _ c.if-c-gt0.false) c.cell_at.ensures

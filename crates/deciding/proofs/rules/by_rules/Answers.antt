@@ -1,7 +1,7 @@
 use mathlib.Core.Path.{ap, sym, ◌∙◌}
 use Prim.Native.Nat.{◌-◌}
 use native.Mathlib.Omega.{arith}
-use Rattle.deciding.proofs.Judged.{long, start, end_le, few, asked, by_rule, hit, again, finished}
+use Rattle.deciding.proofs.Judged.{long, start, end_le, asked, by_rule, hit, again, finished}
 use Rattle.deciding.proofs.rules.by_rules.Goals as goal
 
 pub bounds-table-0 : goal.bounds-table-0
@@ -49,9 +49,6 @@ by_rule-requires c = by_rule c.requires (c.loop-i.invariant c.requires) c.loop-i
 pub returns-then-takes : goal.returns-then-takes
 returns-then-takes c = λ g. hit g (c.loop-i.invariant g) c.loop-i-test.true _ c.takes.ensures c.if-takes.true _ c.by_rule.ensures
 
-pub overflow_add-i : goal.overflow_add-i
-overflow_add-i c = omega (arith, few c.requires (c.loop-i.invariant c.requires) c.loop-i-test.true)
-
 pub loop-i-preserved : goal.loop-i-preserved
 loop-i-preserved c = λ g. again g (c.loop-i.invariant g) c.loop-i-test.true _ c.takes.ensures c.if-takes.false
 
@@ -59,4 +56,4 @@ pub bounds-table-1 : goal.bounds-table-1
 bounds-table-1 c = omega (arith, long c.requires)
 
 pub returns : goal.returns
-returns c = λ g. c.no_rule.ensures ∙ ap (λ a. (0, a)) (sym (finished g (c.loop-i.invariant g) c.loop-i-test.false))
+returns c = λ g. c.no_rule.ensures ∙ sym (finished g (c.loop-i.invariant g) c.loop-i-test.false)

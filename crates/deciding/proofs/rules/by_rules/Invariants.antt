@@ -5,6 +5,3 @@ use Rattle.deciding.proofs.rules.by_rules.Given as goal
 
 abbrev pub invariant-loop-i : goal.invariant-loop-i
 invariant-loop-i l = (g : Judging l.t l.table l.b) → Mid g l.at l.i
-
-abbrev pub decreases-loop-i : goal.decreases-loop-i
-decreases-loop-i l = l.n - l.i

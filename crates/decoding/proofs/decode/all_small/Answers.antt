@@ -1,20 +1,12 @@
-use Prim.Native.Nat.{◌-◌}
 use native.Mathlib.Omega.{arith}
-use borrow.Author.Count.{below_more}
 use lib.ListN.{get_or}
 use Rattle.signature.specs.Limits.{small_size}
-use Rattle.signature.proofs.Tests.{leb_yes, leb_no}
+use Rattle.signature.proofs.Tests.{leb_no}
 use Rattle.signature.proofs.Counting.{count_passed, count_failed}
 use Rattle.decoding.proofs.decode.all_small.Goals as goal
 
-pub loop-k-init : goal.loop-k-init
-loop-k-init c = (omega arith, λ j l. absurd (omega arith))
-
 pub returns-then-sizes-k-gt-SMALL_SIZE : goal.returns-then-sizes-k-gt-SMALL_SIZE
 returns-then-sizes-k-gt-SMALL_SIZE c = count_failed _ c.loop-k.k c.args.kinds (omega arith) (leb_no (get_or c.args.sizes.now c.loop-k.k 0) small_size (omega arith))
-
-pub loop-k-preserved : goal.loop-k-preserved
-loop-k-preserved c = (omega arith, below_more _ _ c.loop-k.invariant.1 (leb_yes (get_or c.args.sizes.now c.loop-k.k 0) small_size (omega arith)))
 
 pub returns : goal.returns
 returns c = count_passed _ c.loop-k.k _ c.loop-k-test.false c.loop-k.invariant.1

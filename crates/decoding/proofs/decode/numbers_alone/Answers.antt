@@ -1,9 +1,6 @@
 use mathlib.Core.Path.{sym, ◌∙◌}
-use mathlib.Core.Bool.{true}
-use Prim.Native.Nat.{◌-◌}
 use native.Mathlib.Omega.{arith}
-use borrow.Author.Count.{below_more}
-use borrow.Author.Tests.{not-true, not-false}
+use borrow.Author.Tests.{not-true}
 use Rattle.decoding.specs.Decoding.{row, rows, alone_by}
 use Rattle.signature.proofs.Counting.{counted_passed_0, counted_failed_0}
 use Rattle.decoding.proofs.Marks.{all_alone}
@@ -12,17 +9,8 @@ use Rattle.decoding.proofs.decode.numbers_alone.Goals as goal
 pub returns-then-numbers-eq0 : goal.returns-then-numbers-eq0
 returns-then-numbers-eq0 c = all_alone c.args.t.now (rows c.args.t.now 0 c.args.n) (c.requires.3 c.if-numbers-eq0.true)
 
-pub loop-c-init : goal.loop-c-init
-loop-c-init c = (omega arith, λ j l. absurd (omega arith))
-
-pub stands_alone-requires : goal.stands_alone-requires
-stands_alone-requires c = let p = c.requires in (p.0, omega arith, p.2 c.loop-c.c c.loop-c-test.true)
-
 pub returns-then-not-stands_alone : goal.returns-then-not-stands_alone
 returns-then-not-stands_alone c = let a = c.args in counted_failed_0 (alone_by a.t.now) (λ i. row a.t.now i) c.loop-c.c a.n (omega arith) (sym c.stands_alone.ensures ∙ not-true _ c.if-not-stands_alone.true-raw)
-
-pub loop-c-preserved : goal.loop-c-preserved
-loop-c-preserved c = (omega arith, below_more _ _ c.loop-c.invariant.1 (sym c.stands_alone.ensures ∙ not-false _ c.if-not-stands_alone.false-raw))
 
 pub returns : goal.returns
 returns c = let a = c.args in counted_passed_0 (alone_by a.t.now) (λ i. row a.t.now i) c.loop-c.c a.n c.loop-c-test.false c.loop-c.invariant.1

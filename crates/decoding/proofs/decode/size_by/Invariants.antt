@@ -8,6 +8,3 @@ use Rattle.decoding.proofs.decode.size_by.Given as goal
 
 abbrev pub invariant-loop-c : goal.invariant-loop-c
 invariant-loop-c l = (first_of l.t l.k ≤ l.c) × (l.end ≡ first_of l.t l.k + count_of l.t l.k) × (l.c ≤ l.end) × (l.size ≤ over_small) × (size_by l.t l.sizes l.k ≡ min l.size (fewest (row_words l.t l.sizes) (count_up l.c (l.end - l.c))))
-
-abbrev pub decreases-loop-c : goal.decreases-loop-c
-decreases-loop-c l = l.end - l.c

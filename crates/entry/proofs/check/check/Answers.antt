@@ -1,4 +1,6 @@
-use mathlib.Core.Path.{refl}
+use mathlib.Core.Path.{refl, ap}
+use Rattle.std.proofs.lemmas.Result.{err_from_is_err_and}
+use Rattle.signature.specs.Refusal.{numbered}
 use native.Mathlib.Omega.{arith}
 use Rattle.loading.proofs.Placing.{part_length}
 use Rattle.entry.proofs.Checks.{holds, le, words_given, bad_number, bad_pattern, sum_small, full, heavy, clear}
@@ -23,19 +25,19 @@ pub bounds-table-0 : goal.bounds-table-0
 bounds-table-0 c = omega (arith, (holds c.requires).long)
 
 pub returns-then-table-ge-RULES : goal.returns-then-table-ge-RULES
-returns-then-table-ge-RULES c = λ g. full g c.args.number _ c.free_at.ensures c.in-Free.at c.in-Free.is _ _ (part_length c.args.rows.now c.args.used (le g)) refl _ c.admit.ensures c.in-Passed.weight c.in-Passed.is (omega (arith, c.if-table-ge-RULES.true))
+returns-then-table-ge-RULES c = λ g. full g c.args.number _ c.free_at.ensures _ (ap numbered c.in_ok-at.was) _ _ (part_length c.args.rows.now c.args.used (le g)) refl _ c.admit.ensures _ (ap numbered c.in_ok-weight.was) (omega (arith, c.if-table-ge-RULES.true))
 
 pub overflow_add-total : goal.overflow_add-total
-overflow_add-total c = omega (arith, sum_small c.requires c.args.number _ c.free_at.ensures c.in-Free.at c.in-Free.is _ _ (part_length c.args.rows.now c.args.used (le c.requires)) refl _ c.admit.ensures c.in-Passed.weight c.in-Passed.is)
+overflow_add-total c = omega (arith, sum_small c.requires c.args.number _ c.free_at.ensures _ (ap numbered c.in_ok-at.was) _ _ (part_length c.args.rows.now c.args.used (le c.requires)) refl _ c.admit.ensures _ (ap numbered c.in_ok-weight.was))
 
 pub returns-then-total-weight-gt-WEIGHT : goal.returns-then-total-weight-gt-WEIGHT
-returns-then-total-weight-gt-WEIGHT c = λ g. heavy g c.args.number _ c.free_at.ensures c.in-Free.at c.in-Free.is _ _ (part_length c.args.rows.now c.args.used (le g)) refl _ c.admit.ensures c.in-Passed.weight c.in-Passed.is (omega (arith, c.if-total-weight-gt-WEIGHT.true))
+returns-then-total-weight-gt-WEIGHT c = λ g. heavy g c.args.number _ c.free_at.ensures _ (ap numbered c.in_ok-at.was) _ _ (part_length c.args.rows.now c.args.used (le g)) refl _ c.admit.ensures _ (ap numbered c.in_ok-weight.was) (omega (arith, c.if-total-weight-gt-WEIGHT.true))
 
-pub returns-in-Refused : goal.returns-in-Refused
-returns-in-Refused c = λ g. bad_number g c.args.number _ c.free_at.ensures c.in-Refused.q c.in-Refused.is
+pub returns-in_err-at : goal.returns-in_err-at
+returns-in_err-at c = let p = err_from_is_err_and c.from_residual.result c.from_residual.ensures.1 in rw (p.1, p.2) λ g. bad_number g c.args.number _ c.free_at.ensures _ (ap numbered c.in_err-at.was)
 
-pub returns-in-Refused-admit : goal.returns-in-Refused-admit
-returns-in-Refused-admit c = λ g. bad_pattern g c.args.number _ c.free_at.ensures c.in-Free.at c.in-Free.is _ _ (part_length c.args.rows.now c.args.used (le g)) refl _ c.admit.ensures c.in-Refused-admit.q c.in-Refused-admit.is
+pub returns-in_err-weight : goal.returns-in_err-weight
+returns-in_err-weight c = let p = err_from_is_err_and c.from_residual-in_err-weight.result c.from_residual-in_err-weight.ensures.1 in rw (p.1, p.2) λ g. bad_pattern g c.args.number _ c.free_at.ensures _ (ap numbered c.in_ok-at.was) _ _ (part_length c.args.rows.now c.args.used (le g)) refl _ c.admit.ensures _ (ap numbered c.in_err-weight.was)
 
-pub returns-else-total-weight-gt-WEIGHT : goal.returns-else-total-weight-gt-WEIGHT
-returns-else-total-weight-gt-WEIGHT c = λ g. clear g c.args.number _ c.free_at.ensures c.in-Free.at c.in-Free.is _ _ (part_length c.args.rows.now c.args.used (le g)) refl _ c.admit.ensures c.in-Passed.weight c.in-Passed.is (omega (arith, c.if-table-ge-RULES.false)) (omega (arith, c.if-total-weight-gt-WEIGHT.false)) c.admit.new.out
+pub returns : goal.returns
+returns c = λ g. clear g c.args.number _ c.free_at.ensures _ (ap numbered c.in_ok-at.was) _ _ (part_length c.args.rows.now c.args.used (le g)) refl _ c.admit.ensures _ (ap numbered c.in_ok-weight.was) (omega (arith, c.if-table-ge-RULES.false)) (omega (arith, c.if-total-weight-gt-WEIGHT.false)) c.admit.new.out

@@ -8,8 +8,8 @@ returns-then-number-lt1 c = λ rs h. too_low c.args.number rs (omega (arith, c.i
 pub returns-then-number-gt-LAST_NUMBER : goal.returns-then-number-gt-LAST_NUMBER
 returns-then-number-gt-LAST_NUMBER c = λ rs h. too_high c.args.number rs (omega (arith, c.if-number-gt-LAST_NUMBER.true))
 
-pub returns-in_default : goal.returns-in_default
-returns-in_default c = λ rs h. was_held c.args.number rs (omega (arith, c.if-number-lt1.false)) (omega (arith, c.if-number-gt-LAST_NUMBER.false)) _ (c.find.ensures rs h) _ c.in_default.is
+pub returns-in-Ok : goal.returns-in-Ok
+returns-in-Ok c = λ rs h. was_held c.args.number rs (omega (arith, c.if-number-lt1.false)) (omega (arith, c.if-number-gt-LAST_NUMBER.false)) _ (c.find.ensures rs h) _ c.in-Ok.is
 
-pub returns : goal.returns
-returns c = λ rs h. free_there c.args.number rs (omega (arith, c.if-number-lt1.false)) (omega (arith, c.if-number-gt-LAST_NUMBER.false)) _ (c.find.ensures rs h) c.in-Free.at c.in-Free.is
+pub returns-in-Err : goal.returns-in-Err
+returns-in-Err c = λ rs h. free_there c.args.number rs (omega (arith, c.if-number-lt1.false)) (omega (arith, c.if-number-gt-LAST_NUMBER.false)) _ (c.find.ensures rs h) _ c.in-Err.is

@@ -1,44 +1,29 @@
-use mathlib.Core.Path.{refl, sym, ◌∙◌}
+use mathlib.Core.Path.{sym, ◌∙◌}
 use native.Mathlib.Omega.{arith}
 use Rattle.format.proofs.FormatSteps.{rule_broken, rule_fits, rule_over, book_broken, book_there}
 use Rattle.format.proofs.whole.rest_keeps.Goals as goal
 
-pub loop-w-init : goal.loop-w-init
-loop-w-init c = (c.requires, refl, refl)
-
-pub rule_lines-requires : goal.rule_lines-requires
-rule_lines-requires c = c.loop-w.invariant.0
-
 pub slice_bounds-t-count : goal.slice_bounds-t-count
-slice_bounds-t-count c = omega (arith, rule_fits c.loop-w.t.now (sym c.loop-w-test.true ∙ c.starts.ensures) c.rule_lines.result c.rule_lines.ensures.0 c.in-Is.number c.in-Is.plan c.in-Is.count c.in-Is.n c.in-Is.is)
-
-pub list_line-requires : goal.list_line-requires
-list_line-requires c = c.loop-w.invariant.0
-
-pub shape_of-w-in_default-list_line : goal.shape_of-w-in_default-list_line
-shape_of-w-in_default-list_line c = c.list_line.auto.out ∙ c.loop-w.invariant.1
+slice_bounds-t-count c = omega (arith, rule_fits c.loop-w.t.now (sym c.loop-w-test.true ∙ c.starts.ensures) c.rule_lines.result c.rule_lines.ensures.0 c.in-Some.rule c.in-Some.is)
 
 pub returns-in_default-list_line : goal.returns-in_default-list_line
 returns-in_default-list_line c = sym (c.loop-w.invariant.2 ∙ book_broken c.loop-w.t.now (sym c.loop-w-test.false ∙ c.starts.ensures) c.list_line.result c.list_line.ensures.0 c.in_default-list_line.is)
 
-pub shape_of-w : goal.shape_of-w
-shape_of-w c = c.list_line.auto.out ∙ c.loop-w.invariant.1
-
 pub returns : goal.returns
-returns c = book_there c.loop-w.t.now (sym c.loop-w-test.false ∙ c.starts.ensures) c.list_line.result c.list_line.ensures.0 c.in-Is-list_line.count c.in-Is-list_line.n c.in-Is-list_line.is ∙ sym c.loop-w.invariant.2
+returns c = book_there c.loop-w.t.now (sym c.loop-w-test.false ∙ c.starts.ensures) c.list_line.result c.list_line.ensures.0 c.in-Some-list_line.book c.in-Some-list_line.is ∙ sym c.loop-w.invariant.2
 
 pub returns-in_default : goal.returns-in_default
 returns-in_default c = sym (c.loop-w.invariant.2 ∙ rule_broken c.loop-w.t.now (sym c.loop-w-test.true ∙ c.starts.ensures) c.rule_lines.result c.rule_lines.ensures.0 c.in_default.is)
 
 pub slice_bounds-t-start : goal.slice_bounds-t-start
-slice_bounds-t-start c = (rule_fits c.loop-w.t.now (sym c.loop-w-test.true ∙ c.starts.ensures) c.rule_lines.result c.rule_lines.ensures.0 c.in-Is.number c.in-Is.plan c.in-Is.count c.in-Is.n c.in-Is.is).1
+slice_bounds-t-start c = (rule_fits c.loop-w.t.now (sym c.loop-w-test.true ∙ c.starts.ensures) c.rule_lines.result c.rule_lines.ensures.0 c.in-Some.rule c.in-Some.is).1
 
 pub loop-w-smaller : goal.loop-w-smaller
-loop-w-smaller c = omega (arith, rule_fits c.loop-w.t.now (sym c.loop-w-test.true ∙ c.starts.ensures) c.rule_lines.result c.rule_lines.ensures.0 c.in-Is.number c.in-Is.plan c.in-Is.count c.in-Is.n c.in-Is.is)
+loop-w-smaller c = omega (arith, rule_fits c.loop-w.t.now (sym c.loop-w-test.true ∙ c.starts.ensures) c.rule_lines.result c.rule_lines.ensures.0 c.in-Some.rule c.in-Some.is)
 
 pub loop-w-preserved : goal.loop-w-preserved
 loop-w-preserved c = let l = c.loop-w in (
   omega (arith, c.rule_lines.auto.out, l.invariant.0),
   c.rule_lines.auto.out ∙ l.invariant.1,
-  l.invariant.2 ∙ rule_over c.loop-w.t.now (sym c.loop-w-test.true ∙ c.starts.ensures) c.rule_lines.result c.rule_lines.ensures.0 c.in-Is.number c.in-Is.plan c.in-Is.count c.in-Is.n c.in-Is.is,
+  l.invariant.2 ∙ rule_over c.loop-w.t.now (sym c.loop-w-test.true ∙ c.starts.ensures) c.rule_lines.result c.rule_lines.ensures.0 c.in-Some.rule c.in-Some.is,
 )

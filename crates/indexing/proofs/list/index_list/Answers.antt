@@ -1,5 +1,4 @@
 use mathlib.Core.Path.{refl, ◌∙◌}
-use Prim.Native.Nat.{◌-◌}
 use native.Mathlib.Omega.{arith}
 use Rattle.indexing.proofs.ListLaws.{filling_start, word_there, next_row, row_bounds, row_room, row_given, row_filled, filling_end}
 use Rattle.indexing.proofs.list.index_list.Goals as goal

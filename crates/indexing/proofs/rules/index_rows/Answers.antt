@@ -1,7 +1,6 @@
 use mathlib.Core.Path.{refl, ◌∙◌}
-use Prim.Native.Nat.{◌-◌}
 use native.Mathlib.Omega.{arith}
-use Rattle.indexing.proofs.RulesLaws.{long, start, done, end_le, few, list_le, given, again}
+use Rattle.indexing.proofs.RulesLaws.{long, start, done, end_le, list_le, given, again}
 use Rattle.indexing.proofs.rules.index_rows.Goals as goal
 
 pub bounds-table-0 : goal.bounds-table-0
@@ -60,12 +59,6 @@ overflow_cast-at c = omega (arith, end_le c.requires (c.loop-i.invariant.1 c.req
 
 pub overflow_add-at-in-loop-i-3 : goal.overflow_add-at-in-loop-i-3
 overflow_add-at-in-loop-i-3 c = omega (arith, end_le c.requires (c.loop-i.invariant.1 c.requires) c.loop-i-test.true)
-
-pub overflow_add-i : goal.overflow_add-i
-overflow_add-i c = omega (arith, few c.requires (c.loop-i.invariant.1 c.requires) c.loop-i-test.true)
-
-pub loop-i-smaller : goal.loop-i-smaller
-loop-i-smaller c = omega (arith, c.loop-i-test.true)
 
 pub loop-i-preserved : goal.loop-i-preserved
 loop-i-preserved c = (c.index_list-r.auto.rows ∙ c.loop-i.invariant.0, λ g. again g (c.loop-i.invariant.1 g) c.loop-i-test.true _ c.loop-i.invariant.0 _ _ c.index_list-r.ensures)

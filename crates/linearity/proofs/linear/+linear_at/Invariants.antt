@@ -10,6 +10,3 @@ decreases-linear_at l = length l.p.now
 
 abbrev pub invariant-loop-i : goal.invariant-loop-i
 invariant-loop-i l = (l.i ≤ l.count) × (1 ≤ l.at) × (l.at ≤ length l.p) × ((g : Opens l.t l.p) → Left (side_of l.plus) l.t l.p g.pattern (side_of l.side) l.joint l.set l.at (l.count - l.i) l.i)
-
-abbrev pub decreases-loop-i : goal.decreases-loop-i
-decreases-loop-i l = l.count - l.i

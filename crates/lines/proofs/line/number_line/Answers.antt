@@ -15,11 +15,11 @@ slice_bounds-number-count c = key_fits (the_line c.args.key.now c.args.t.now c.e
 pub slice_bounds-number-start : goal.slice_bounds-number-start
 slice_bounds-number-start c = omega (arith, key_fits (the_line c.args.key.now c.args.t.now c.end_of-e.result c.end_of-e.ensures c.if-e-t.false))
 
-pub returns-in_default : goal.returns-in_default
-returns-in_default c = word_bad (the_line c.args.key.now c.args.t.now c.end_of-e.result c.end_of-e.ensures c.if-e-t.false) c.number.result c.number.ensures c.in_default.is
+pub returns-in_err-word : goal.returns-in_err-word
+returns-in_err-word c = rw c.from_residual.ensures (word_bad (the_line c.args.key.now c.args.t.now c.end_of-e.result c.end_of-e.ensures c.if-e-t.false) c.number.result c.number.ensures c.in_err-word.was)
 
 pub overflow_add-result : goal.overflow_add-result
 overflow_add-result c = omega (arith, (the_line c.args.key.now c.args.t.now c.end_of-e.result c.end_of-e.ensures c.if-e-t.false).short, c.well_formed)
 
 pub returns : goal.returns
-returns c = word_is (the_line c.args.key.now c.args.t.now c.end_of-e.result c.end_of-e.ensures c.if-e-t.false) c.number.result c.number.ensures c.in-Is.v c.in-Is.is
+returns c = word_is (the_line c.args.key.now c.args.t.now c.end_of-e.result c.end_of-e.ensures c.if-e-t.false) c.number.result c.number.ensures c.in_ok-word.word c.in_ok-word.was

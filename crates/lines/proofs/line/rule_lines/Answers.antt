@@ -3,31 +3,31 @@ use Rattle.lines.proofs.RuleSteps.{rule_bad, rule_fits, plan_bad, plan_fits, pat
 use Rattle.lines.proofs.line.rule_lines.Goals as goal
 
 pub slice_bounds-second-count : goal.slice_bounds-second-count
-slice_bounds-second-count c = omega (arith, rule_fits c.args.t.now c.number_line.result c.number_line.ensures c.in-Is.n c.in-Is.a c.in-Is.is)
+slice_bounds-second-count c = omega (arith, rule_fits c.args.t.now c.number_line.result c.number_line.ensures c.in_ok-rule.rule c.in_ok-rule.was)
 
 pub slice_bounds-third-count : goal.slice_bounds-third-count
-slice_bounds-third-count c = omega (arith, plan_fits c.args.t.now c.number_line.result c.number_line.ensures c.in-Is.n c.in-Is.a c.in-Is.is c.number_line-2.result c.number_line-2.ensures c.in-Is-number_line.p c.in-Is-number_line.b c.in-Is-number_line.is)
+slice_bounds-third-count c = omega (arith, plan_fits c.args.t.now c.number_line.result c.number_line.ensures c.in_ok-rule.rule c.in_ok-rule.was c.number_line-2.result c.number_line-2.ensures c.in_ok-plan.plan c.in_ok-plan.was)
 
-pub returns-in_default-list_line : goal.returns-in_default-list_line
-returns-in_default-list_line c = pat_bad c.args.t.now c.number_line.result c.number_line.ensures c.in-Is.n c.in-Is.a c.in-Is.is c.number_line-2.result c.number_line-2.ensures c.in-Is-number_line.p c.in-Is-number_line.b c.in-Is-number_line.is c.args.out.now c.list_line.new.out c.list_line.result c.list_line.ensures.0 c.list_line.ensures.1 c.in_default-list_line.is
+pub returns-in_err-pattern : goal.returns-in_err-pattern
+returns-in_err-pattern c = rw c.from_residual-in_err-pattern.ensures (pat_bad c.args.t.now c.number_line.result c.number_line.ensures c.in_ok-rule.rule c.in_ok-rule.was c.number_line-2.result c.number_line-2.ensures c.in_ok-plan.plan c.in_ok-plan.was c.args.out.now c.list_line.new.out c.list_line.result c.list_line.ensures.0 c.list_line.ensures.1 c.in_err-pattern.was)
 
 pub overflow_add-result : goal.overflow_add-result
-overflow_add-result c = omega (arith, all_fit c.args.t.now c.number_line.result c.number_line.ensures c.in-Is.n c.in-Is.a c.in-Is.is c.number_line-2.result c.number_line-2.ensures c.in-Is-number_line.p c.in-Is-number_line.b c.in-Is-number_line.is c.args.out.now c.list_line.new.out c.list_line.result c.list_line.ensures.0 c.list_line.ensures.1 c.in-Is-list_line.m c.in-Is-list_line.d c.in-Is-list_line.is, c.well_formed)
+overflow_add-result c = omega (arith, all_fit c.args.t.now c.number_line.result c.number_line.ensures c.in_ok-rule.rule c.in_ok-rule.was c.number_line-2.result c.number_line-2.ensures c.in_ok-plan.plan c.in_ok-plan.was c.args.out.now c.list_line.new.out c.list_line.result c.list_line.ensures.0 c.list_line.ensures.1 c.in_ok-pattern.pattern c.in_ok-pattern.was, c.well_formed)
 
 pub overflow_add-result-2 : goal.overflow_add-result-2
-overflow_add-result-2 c = omega (arith, all_fit c.args.t.now c.number_line.result c.number_line.ensures c.in-Is.n c.in-Is.a c.in-Is.is c.number_line-2.result c.number_line-2.ensures c.in-Is-number_line.p c.in-Is-number_line.b c.in-Is-number_line.is c.args.out.now c.list_line.new.out c.list_line.result c.list_line.ensures.0 c.list_line.ensures.1 c.in-Is-list_line.m c.in-Is-list_line.d c.in-Is-list_line.is, c.well_formed)
+overflow_add-result-2 c = omega (arith, all_fit c.args.t.now c.number_line.result c.number_line.ensures c.in_ok-rule.rule c.in_ok-rule.was c.number_line-2.result c.number_line-2.ensures c.in_ok-plan.plan c.in_ok-plan.was c.args.out.now c.list_line.new.out c.list_line.result c.list_line.ensures.0 c.list_line.ensures.1 c.in_ok-pattern.pattern c.in_ok-pattern.was, c.well_formed)
 
 pub returns : goal.returns
-returns c = rule_there c.args.t.now c.number_line.result c.number_line.ensures c.in-Is.n c.in-Is.a c.in-Is.is c.number_line-2.result c.number_line-2.ensures c.in-Is-number_line.p c.in-Is-number_line.b c.in-Is-number_line.is c.args.out.now c.list_line.new.out c.list_line.result c.list_line.ensures.0 c.list_line.ensures.1 c.in-Is-list_line.m c.in-Is-list_line.d c.in-Is-list_line.is
+returns c = rule_there c.args.t.now c.number_line.result c.number_line.ensures c.in_ok-rule.rule c.in_ok-rule.was c.number_line-2.result c.number_line-2.ensures c.in_ok-plan.plan c.in_ok-plan.was c.args.out.now c.list_line.new.out c.list_line.result c.list_line.ensures.0 c.list_line.ensures.1 c.in_ok-pattern.pattern c.in_ok-pattern.was
 
-pub returns-in_default : goal.returns-in_default
-returns-in_default c = rule_bad c.args.t.now c.number_line.result c.number_line.ensures _ _ c.in_default.is
+pub returns-in_err-rule : goal.returns-in_err-rule
+returns-in_err-rule c = rw c.from_residual.ensures (rule_bad c.args.t.now c.number_line.result c.number_line.ensures _ _ c.in_err-rule.was)
 
 pub slice_bounds-second-start : goal.slice_bounds-second-start
-slice_bounds-second-start c = (rule_fits c.args.t.now c.number_line.result c.number_line.ensures c.in-Is.n c.in-Is.a c.in-Is.is).1
+slice_bounds-second-start c = (rule_fits c.args.t.now c.number_line.result c.number_line.ensures c.in_ok-rule.rule c.in_ok-rule.was).1
 
-pub returns-in_default-number_line : goal.returns-in_default-number_line
-returns-in_default-number_line c = plan_bad c.args.t.now c.number_line.result c.number_line.ensures c.in-Is.n c.in-Is.a c.in-Is.is c.number_line-2.result c.number_line-2.ensures _ _ c.in_default-number_line.is
+pub returns-in_err-plan : goal.returns-in_err-plan
+returns-in_err-plan c = rw c.from_residual-in_err-plan.ensures (plan_bad c.args.t.now c.number_line.result c.number_line.ensures c.in_ok-rule.rule c.in_ok-rule.was c.number_line-2.result c.number_line-2.ensures _ _ c.in_err-plan.was)
 
 pub slice_bounds-third-start : goal.slice_bounds-third-start
-slice_bounds-third-start c = (plan_fits c.args.t.now c.number_line.result c.number_line.ensures c.in-Is.n c.in-Is.a c.in-Is.is c.number_line-2.result c.number_line-2.ensures c.in-Is-number_line.p c.in-Is-number_line.b c.in-Is-number_line.is).1
+slice_bounds-third-start c = (plan_fits c.args.t.now c.number_line.result c.number_line.ensures c.in_ok-rule.rule c.in_ok-rule.was c.number_line-2.result c.number_line-2.ensures c.in_ok-plan.plan c.in_ok-plan.was).1

@@ -11,6 +11,3 @@ use Rattle.loading.proofs.load.load.Given as goal
 
 abbrev pub invariant-loop-i : goal.invariant-loop-i
 invariant-loop-i l = (length l.rows ≡ length l.initial.rows) × (length l.work ≡ length l.initial.work) × ((g : GivenLoad l.t l.table) (rs : List Rule) (h : Holds limits l.table rs) → Mid g rs h l.at l.used l.total l.i l.rows)
-
-abbrev pub decreases-loop-i : goal.decreases-loop-i
-decreases-loop-i l = l.n - l.i

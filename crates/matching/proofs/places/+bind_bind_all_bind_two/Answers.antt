@@ -9,6 +9,7 @@ use Rattle.matching.specs.Bound.{bound}
 use Rattle.matching.proofs.BindSteps.{nothing_put, range_binds, put, not_put, var_put, two_first, two_second, two_both, all_first, all_rest, all_both}
 use Rattle.matching.proofs.FitSteps.{wild_fits, absurd_fails, var_fits}
 use Rattle.matching.proofs.GivenSteps.{opens, starts, word_there, value_there, pattern_long, value_long, never, var_known, not_of, and_of, or_of, first_of, second_of, head_known, head_no, head_of, none_left, uncons}
+use Rattle.matching.proofs.places.+bind_bind_all_bind_two.Goals.{bind_all-then-all_fit, bind_all-else-all_fit}
 use Rattle.matching.proofs.places.+bind_bind_all_bind_two.Goals as goal
 
 pub bind-bounds-p-0 : goal.bind-bounds-p-0
@@ -182,23 +183,11 @@ bind_all-all_fit-requires t c = let u = uncons c.requires.0 c.if-n-eq0.false in 
 pub bind_all-bind-requires-then-all_fit : goal.bind_all-bind-requires-then-all_fit
 bind_all-bind-requires-then-all_fit t c = let u = uncons c.requires.0 c.if-n-eq0.false in (omega arith, (u.one, c.requires.1, c.requires.2))
 
-pub bind_all-offset_bounds-p-i-then-all_fit : goal.bind_all-offset_bounds-p-i-then-all_fit
-bind_all-offset_bounds-p-i-then-all_fit t c = let o = (uncons c.requires.0 c.if-n-eq0.false).one in omega (arith, (pattern_long o _ (c.span-i.ensures (opens o))).1, c.well_formed)
-
 pub bind_all-slice_bounds-bind_all-count : goal.bind_all-slice_bounds-bind_all-count
 bind_all-slice_bounds-bind_all-count t c = let o = (uncons c.requires.0 c.if-n-eq0.false).one in omega (arith, (pattern_long o _ (c.span-i.ensures (opens o))).1)
 
 pub bind_all-slice_bounds-bind_all-start : goal.bind_all-slice_bounds-bind_all-start
 bind_all-slice_bounds-bind_all-start t c = let o = (uncons c.requires.0 c.if-n-eq0.false).one in omega (arith, (pattern_long o _ (c.span-i.ensures (opens o))).1)
-
-pub bind_all-offset_bounds-b-j-then-all_fit : goal.bind_all-offset_bounds-b-j-then-all_fit
-bind_all-offset_bounds-b-j-then-all_fit t c = let o = (uncons c.requires.0 c.if-n-eq0.false).one in omega (arith, (value_long o _ (c.span-j.ensures (starts o))).1, c.well_formed)
-
-pub bind_all-slice_bounds-bind_all-count-then-all_fit : goal.bind_all-slice_bounds-bind_all-count-then-all_fit
-bind_all-slice_bounds-bind_all-count-then-all_fit t c = let o = (uncons c.requires.0 c.if-n-eq0.false).one in omega (arith, (value_long o _ (c.span-j.ensures (starts o))).1)
-
-pub bind_all-slice_bounds-bind_all-start-then-all_fit : goal.bind_all-slice_bounds-bind_all-start-then-all_fit
-bind_all-slice_bounds-bind_all-start-then-all_fit t c = let o = (uncons c.requires.0 c.if-n-eq0.false).one in omega (arith, (value_long o _ (c.span-j.ensures (starts o))).1)
 
 pub bind_all-overflow_cast-j : goal.bind_all-overflow_cast-j
 bind_all-overflow_cast-j t c = let o = (uncons c.requires.0 c.if-n-eq0.false).one in omega (arith, (value_long o _ (c.span-j.ensures (starts o))).1, c.requires.1)
@@ -206,53 +195,35 @@ bind_all-overflow_cast-j t c = let o = (uncons c.requires.0 c.if-n-eq0.false).on
 pub bind_all-overflow_add-at : goal.bind_all-overflow_add-at
 bind_all-overflow_add-at t c = let o = (uncons c.requires.0 c.if-n-eq0.false).one in omega (arith, (value_long o _ (c.span-j.ensures (starts o))).1, c.requires.1)
 
-pub bind_all-overflow_sub-n-then-all_fit : goal.bind_all-overflow_sub-n-then-all_fit
-bind_all-overflow_sub-n-then-all_fit t c = omega (arith, c.if-n-eq0.false)
-
-pub bind_all-bind_all-requires : goal.bind_all-bind_all-requires
-bind_all-bind_all-requires t c = let u = uncons c.requires.0 c.if-n-eq0.false in let ei = c.span-i.ensures (opens u.one) in let ej = c.span-j.ensures (starts u.one) in (simp (length-take, length-drop) (omega (arith, (pattern_long u.one _ ei).0, (pattern_long u.one _ ei).1)), ((u.more _ _ ei ej).0, simp (length-take, length-drop) (omega (arith, c.requires.1, (value_long u.one _ ej).1)), c.bind-then-all_fit.auto.out ∙ c.requires.2))
-
-pub bind_all-shape_of-out-then-all_fit : goal.bind_all-shape_of-out-then-all_fit
-bind_all-shape_of-out-then-all_fit t c = c.bind_all.auto.out ∙ c.bind-then-all_fit.auto.out
-
-pub bind_all-returns-then-all_fit : goal.bind_all-returns-then-all_fit
-bind_all-returns-then-all_fit t c = λ g. let u = uncons g c.if-n-eq0.false in let ei = c.span-i.ensures (opens u.one) in let ej = c.span-j.ensures (starts u.one) in all_both u _ c.args.at _ (c.fits.ensures u.one _) _ _ ei ej c.if-not-fits.false-raw _ (c.all_fit.ensures (u.more _ _ ei ej).0 _) _ _ c.if-all_fit.true (c.bind-then-all_fit.ensures u.one) (c.bind_all.ensures (u.more _ _ ei ej).0)
-
 pub bind_all-offset_bounds-p-i-2 : goal.bind_all-offset_bounds-p-i-2
 bind_all-offset_bounds-p-i-2 t c = let o = (uncons c.requires.0 c.if-n-eq0.false).one in omega (arith, (pattern_long o _ (c.span-i.ensures (opens o))).1, c.well_formed)
-
-pub bind_all-slice_bounds-bind_all-count-2 : goal.bind_all-slice_bounds-bind_all-count-2
-bind_all-slice_bounds-bind_all-count-2 t c = let o = (uncons c.requires.0 c.if-n-eq0.false).one in omega (arith, (pattern_long o _ (c.span-i.ensures (opens o))).1)
-
-pub bind_all-slice_bounds-bind_all-start-2 : goal.bind_all-slice_bounds-bind_all-start-2
-bind_all-slice_bounds-bind_all-start-2 t c = let o = (uncons c.requires.0 c.if-n-eq0.false).one in omega (arith, (pattern_long o _ (c.span-i.ensures (opens o))).1)
 
 pub bind_all-offset_bounds-b-j-2 : goal.bind_all-offset_bounds-b-j-2
 bind_all-offset_bounds-b-j-2 t c = let o = (uncons c.requires.0 c.if-n-eq0.false).one in omega (arith, (value_long o _ (c.span-j.ensures (starts o))).1, c.well_formed)
 
-pub bind_all-slice_bounds-bind_all-count-3 : goal.bind_all-slice_bounds-bind_all-count-3
-bind_all-slice_bounds-bind_all-count-3 t c = let o = (uncons c.requires.0 c.if-n-eq0.false).one in omega (arith, (value_long o _ (c.span-j.ensures (starts o))).1)
+pub bind_all-slice_bounds-bind_all-count-2 : goal.bind_all-slice_bounds-bind_all-count-2
+bind_all-slice_bounds-bind_all-count-2 t c = let o = (uncons c.requires.0 c.if-n-eq0.false).one in omega (arith, (value_long o _ (c.span-j.ensures (starts o))).1, c.well_formed)
 
-pub bind_all-slice_bounds-bind_all-start-3 : goal.bind_all-slice_bounds-bind_all-start-3
-bind_all-slice_bounds-bind_all-start-3 t c = let o = (uncons c.requires.0 c.if-n-eq0.false).one in omega (arith, (value_long o _ (c.span-j.ensures (starts o))).1)
+pub bind_all-slice_bounds-bind_all-start-2 : goal.bind_all-slice_bounds-bind_all-start-2
+bind_all-slice_bounds-bind_all-start-2 t c = let o = (uncons c.requires.0 c.if-n-eq0.false).one in omega (arith, (value_long o _ (c.span-j.ensures (starts o))).1, c.well_formed)
 
-pub bind_all-overflow_cast-j-2 : goal.bind_all-overflow_cast-j-2
-bind_all-overflow_cast-j-2 t c = let o = (uncons c.requires.0 c.if-n-eq0.false).one in omega (arith, (value_long o _ (c.span-j.ensures (starts o))).1, c.requires.1)
-
-pub bind_all-overflow_add-at-2 : goal.bind_all-overflow_add-at-2
-bind_all-overflow_add-at-2 t c = let o = (uncons c.requires.0 c.if-n-eq0.false).one in omega (arith, (value_long o _ (c.span-j.ensures (starts o))).1, c.requires.1)
-
-pub bind_all-overflow_sub-n-2 : goal.bind_all-overflow_sub-n-2
-bind_all-overflow_sub-n-2 t c = omega (arith, c.if-n-eq0.false)
-
-pub bind_all-bind_all-requires-2 : goal.bind_all-bind_all-requires-2
-bind_all-bind_all-requires-2 t c = let u = uncons c.requires.0 c.if-n-eq0.false in let ei = c.span-i.ensures (opens u.one) in let ej = c.span-j.ensures (starts u.one) in (simp (length-take, length-drop) (omega (arith, (pattern_long u.one _ ei).0, (pattern_long u.one _ ei).1)), ((u.more _ _ ei ej).0, simp (length-take, length-drop) (omega (arith, c.requires.1, (value_long u.one _ ej).1)), c.requires.2))
+pub bind_all-bind_all-requires : goal.bind_all-bind_all-requires
+bind_all-bind_all-requires t c = let u = uncons c.requires.0 c.if-n-eq0.false in let ei = c.span-i.ensures (opens u.one) in let ej = c.span-j.ensures (starts u.one) in (simp (length-take, length-drop) (omega (arith, (pattern_long u.one _ ei).0, (pattern_long u.one _ ei).1)), ((u.more _ _ ei ej).0, simp (length-take, length-drop) (omega (arith, c.requires.1, (value_long u.one _ ej).1)), c.if-all_fit.auto.out ∙ c.requires.2))
 
 pub bind_all-shape_of-out : goal.bind_all-shape_of-out
-bind_all-shape_of-out t c = c.bind_all-2.auto.out
+bind_all-shape_of-out t c = c.bind_all.auto.out ∙ c.if-all_fit.auto.out
 
 pub bind_all-returns : goal.bind_all-returns
-bind_all-returns t c = λ g. let u = uncons g c.if-n-eq0.false in let ei = c.span-i.ensures (opens u.one) in let ej = c.span-j.ensures (starts u.one) in all_rest u _ c.args.at _ (c.fits.ensures u.one _) _ _ ei ej c.if-not-fits.false-raw _ (c.all_fit.ensures (u.more _ _ ei ej).0 _) _ c.if-all_fit.false (c.bind_all-2.ensures (u.more _ _ ei ej).0)
+bind_all-returns t c = λ g.
+    let u = uncons g c.if-n-eq0.false in
+    let ei = c.span-i.ensures (opens u.one) in
+    let ej = c.span-j.ensures (starts u.one) in
+    let rest = c.bind_all.ensures (u.more _ _ ei ej).0 in
+    let all = c.all_fit.ensures (u.more _ _ ei ej).0 in
+    elim c.if-all_fit.branch [
+      | bind_all-then-all_fit w ↦ all_both u _ c.args.at _ (c.fits.ensures u.one _) _ _ ei ej c.if-not-fits.false-raw _ (all _) _ _ w.if-all_fit.true (w.out-is ∙ w.bind-then-all_fit.ensures u.one) rest
+      | bind_all-else-all_fit w ↦ all_rest u _ c.args.at _ (c.fits.ensures u.one _) _ _ ei ej c.if-not-fits.false-raw _ (all _) _ w.if-all_fit.false (rw w.out-is at rest)
+    ]
 
 pub bind_two-fits-first-requires : goal.bind_two-fits-first-requires
 bind_two-fits-first-requires t c = first_of c.requires.0

@@ -1,11 +1,10 @@
 use mathlib.Core.Path.{refl, ◌∙◌}
-use Prim.Native.Nat.{◌-◌}
 use native.Mathlib.Omega.{arith}
 use lib.ListN.{length-set}
 use Rattle.meeting.specs.Descent.{cell_of_row}
 use Rattle.meeting.specs.Part.{same_cell, apart_cell}
 use Rattle.rowset.proofs.WordLaws.{in_set}
-use Rattle.meeting.proofs.ClassLaws.{words_none, words_chosen, all_chosen}
+use Rattle.meeting.proofs.ClassLaws.{words_none, words_chosen}
 use Rattle.meeting.proofs.classes.sort.Goals as goal
 
 pub loop-w-init : goal.loop-w-init
@@ -22,9 +21,3 @@ loop-w-preserved c = let a = c.args in let l = c.loop-w in let r = c.sort_word-x
   words_chosen (λ q. same_cell a.c (cell_of_row a.a.now a.cur.now q)) a.s.now l.same l.w r.result.same (omega (arith, t, l.invariant.1)) l.invariant.3 r.ensures.word_chosen,
   words_chosen (λ q. apart_cell a.c (cell_of_row a.a.now a.cur.now q)) a.s.now l.clash l.w r.result.clash (omega (arith, t, l.invariant.2)) l.invariant.4 r.ensures.word_chosen_2,
 )
-
-pub returns : goal.returns
-returns c = let a = c.args in let l = c.loop-w in record {
-  chosen = all_chosen (λ q. same_cell a.c (cell_of_row a.a.now a.cur.now q)) a.s.now l.same l.w c.loop-w-test.false l.invariant.3;
-  chosen_2 = all_chosen (λ q. apart_cell a.c (cell_of_row a.a.now a.cur.now q)) a.s.now l.clash l.w c.loop-w-test.false l.invariant.4;
-}

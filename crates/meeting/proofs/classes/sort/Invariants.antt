@@ -1,5 +1,5 @@
 use mathlib.Core.Path.{◌≡◌}
-use Prim.Native.Nat.{◌-◌, ◌≤◌}
+use Prim.Native.Nat.{◌≤◌}
 use lib.ListN.{length}
 use Rattle.meeting.specs.Descent.{cell_of_row}
 use Rattle.meeting.specs.Part.{same_cell, apart_cell}
@@ -12,6 +12,3 @@ invariant-loop-w l = (l.w ≤ 4)
     × (length l.clash ≡ 4)
     × ChoseWords (λ q. same_cell l.c (cell_of_row l.a l.cur q)) l.s l.w l.same
     × ChoseWords (λ q. apart_cell l.c (cell_of_row l.a l.cur q)) l.s l.w l.clash
-
-abbrev pub decreases-loop-w : goal.decreases-loop-w
-decreases-loop-w l = 4 - l.w

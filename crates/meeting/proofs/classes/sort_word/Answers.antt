@@ -3,36 +3,12 @@ use native.Mathlib.Omega.{arith}
 use Rattle.sets.proofs.SetLaws.{ones_without}
 use Rattle.meeting.specs.Descent.{cell_of_row}
 use Rattle.meeting.specs.Part.{same_cell, apart_cell}
-use Rattle.rowset.proofs.WordLaws.{low_in, left_next}
+use Rattle.rowset.proofs.WordLaws.{left_next}
 use Rattle.meeting.proofs.ClassLaws.{none_chosen, chosen_turn, chosen_end}
 use Rattle.meeting.proofs.classes.sort_word.Goals as goal
 
 pub loop-left-init : goal.loop-left-init
 loop-left-init c = let a = c.args in (omega (arith, c.ranges.word.fits), λ q e. e, none_chosen _ a.base a.word, none_chosen _ a.base a.word)
-
-pub lowest-b-requires : goal.lowest-b-requires
-lowest-b-requires c = c.loop-left-test.true
-
-pub overflow_cast-b : goal.overflow_cast-b
-overflow_cast-b c = omega (arith, c.lowest-b.ensures.small)
-
-pub overflow_add-base : goal.overflow_add-base
-overflow_add-base c = omega (arith, c.lowest-b.ensures.small)
-
-pub offset_bounds-cur-base : goal.offset_bounds-cur-base
-offset_bounds-cur-base c = omega (arith, c.lowest-b.ensures.small)
-
-pub bounds-cur-base : goal.bounds-cur-base
-bounds-cur-base c = omega (arith, c.lowest-b.ensures.small)
-
-pub cell_at-d-requires : goal.cell_at-d-requires
-cell_at-d-requires c = c.requires.1 _ (omega (arith, c.lowest-b.ensures.small)) (c.loop-left.invariant.1 _ (low_in c.args.base _ _ c.lowest-b.ensures))
-
-pub with_if-same-requires : goal.with_if-same-requires
-with_if-same-requires c = c.lowest-b.ensures.small
-
-pub with_if-clash-requires : goal.with_if-clash-requires
-with_if-clash-requires c = c.lowest-b.ensures.small
 
 pub loop-left-smaller : goal.loop-left-smaller
 loop-left-smaller c = omega (arith, ones_without c.loop-left.left c.rest-left.result c.lowest-b.result (omega arith) (omega arith) c.lowest-b.ensures.member (c.rest-left.ensures _ c.lowest-b.ensures))

@@ -1,55 +1,42 @@
-use Prim.Native.Nat.{◌-◌}
 use native.Mathlib.Omega.{arith}
-use Rattle.meeting.proofs.Listing.{apart_start, apart_turn, apart_end}
+use Rattle.meeting.proofs.Listing.{apart_turn, apart_end}
 use Rattle.meeting.proofs.lists.apart_by.Goals as goal
 
-pub loop-j-init : goal.loop-j-init
-loop-j-init c = (omega arith, λ g M. apart_start g _ M)
-
 pub overflow_add-from : goal.overflow_add-from
-overflow_add-from c = omega (arith, (let l = c.loop-j in apart_turn c.requires.0 c.args.m.now c.requires.1 l.at l.low l.j (l.invariant.1 c.requires.0 c.requires.1) c.loop-j-test.true).there)
+overflow_add-from c = omega (arith, (let l = c.loop-j in apart_turn c.requires.0 c.args.m.now c.requires.1 l.at l.low l._j (l.invariant.1 c.requires.0 c.requires.1) c.loop-j-test.true).there)
 
 pub offset_bounds-a-from : goal.offset_bounds-a-from
-offset_bounds-a-from c = omega (arith, (let l = c.loop-j in apart_turn c.requires.0 c.args.m.now c.requires.1 l.at l.low l.j (l.invariant.1 c.requires.0 c.requires.1) c.loop-j-test.true).there)
+offset_bounds-a-from c = omega (arith, (let l = c.loop-j in apart_turn c.requires.0 c.args.m.now c.requires.1 l.at l.low l._j (l.invariant.1 c.requires.0 c.requires.1) c.loop-j-test.true).there)
 
 pub slice_bounds-count-count : goal.slice_bounds-count-count
-slice_bounds-count-count c = omega (arith, (let l = c.loop-j in apart_turn c.requires.0 c.args.m.now c.requires.1 l.at l.low l.j (l.invariant.1 c.requires.0 c.requires.1) c.loop-j-test.true).there)
+slice_bounds-count-count c = omega (arith, (let l = c.loop-j in apart_turn c.requires.0 c.args.m.now c.requires.1 l.at l.low l._j (l.invariant.1 c.requires.0 c.requires.1) c.loop-j-test.true).there)
 
 pub slice_bounds-count-start : goal.slice_bounds-count-start
-slice_bounds-count-start c = omega (arith, (let l = c.loop-j in apart_turn c.requires.0 c.args.m.now c.requires.1 l.at l.low l.j (l.invariant.1 c.requires.0 c.requires.1) c.loop-j-test.true).there)
-
-pub slice_bounds-count-end : goal.slice_bounds-count-end
-slice_bounds-count-end c = omega (arith, (let l = c.loop-j in apart_turn c.requires.0 c.args.m.now c.requires.1 l.at l.low l.j (l.invariant.1 c.requires.0 c.requires.1) c.loop-j-test.true).there)
+slice_bounds-count-start c = omega (arith, (let l = c.loop-j in apart_turn c.requires.0 c.args.m.now c.requires.1 l.at l.low l._j (l.invariant.1 c.requires.0 c.requires.1) c.loop-j-test.true).there)
 
 pub count-requires : goal.count-requires
-count-requires c = (let l = c.loop-j in apart_turn c.requires.0 c.args.m.now c.requires.1 l.at l.low l.j (l.invariant.1 c.requires.0 c.requires.1) c.loop-j-test.true).first
+count-requires c = (let l = c.loop-j in apart_turn c.requires.0 c.args.m.now c.requires.1 l.at l.low l._j (l.invariant.1 c.requires.0 c.requires.1) c.loop-j-test.true).first
 
 pub overflow_add-high : goal.overflow_add-high
-overflow_add-high c = omega (arith, (let l = c.loop-j in apart_turn c.requires.0 c.args.m.now c.requires.1 l.at l.low l.j (l.invariant.1 c.requires.0 c.requires.1) c.loop-j-test.true).few, c.count.ensures (let l = c.loop-j in apart_turn c.requires.0 c.args.m.now c.requires.1 l.at l.low l.j (l.invariant.1 c.requires.0 c.requires.1) c.loop-j-test.true).first)
+overflow_add-high c = omega (arith, (let l = c.loop-j in apart_turn c.requires.0 c.args.m.now c.requires.1 l.at l.low l._j (l.invariant.1 c.requires.0 c.requires.1) c.loop-j-test.true).few, c.count.ensures (let l = c.loop-j in apart_turn c.requires.0 c.args.m.now c.requires.1 l.at l.low l._j (l.invariant.1 c.requires.0 c.requires.1) c.loop-j-test.true).first)
 
 pub some_met-requires : goal.some_met-requires
-some_met-requires c = let T = (let l = c.loop-j in apart_turn c.requires.0 c.args.m.now c.requires.1 l.at l.low l.j (l.invariant.1 c.requires.0 c.requires.1) c.loop-j-test.true) in let n = c.count.ensures T.first in (omega arith, omega (arith, T.few, n), omega (arith, T.within, n, c.requires.2))
+some_met-requires c = let T = (let l = c.loop-j in apart_turn c.requires.0 c.args.m.now c.requires.1 l.at l.low l._j (l.invariant.1 c.requires.0 c.requires.1) c.loop-j-test.true) in let n = c.count.ensures T.first in (omega arith, omega (arith, T.few, n), omega (arith, T.within, n, c.requires.2))
 
 pub returns-then-some_met : goal.returns-then-some_met
-returns-then-some_met c = λ g M. let T = (let l = c.loop-j in apart_turn g c.args.m.now M l.at l.low l.j (l.invariant.1 g M) c.loop-j-test.true) in T.met _ _ (c.count.ensures T.first) c.some_met.ensures c.if-some_met.true
+returns-then-some_met c = λ g M. let T = (let l = c.loop-j in apart_turn g c.args.m.now M l.at l.low l._j (l.invariant.1 g M) c.loop-j-test.true) in T.met _ _ (c.count.ensures T.first) c.some_met.ensures c.if-some_met.true
 
 pub offset_bounds-a-at : goal.offset_bounds-a-at
-offset_bounds-a-at c = omega (arith, (let l = c.loop-j in apart_turn c.requires.0 c.args.m.now c.requires.1 l.at l.low l.j (l.invariant.1 c.requires.0 c.requires.1) c.loop-j-test.true).there)
+offset_bounds-a-at c = omega (arith, (let l = c.loop-j in apart_turn c.requires.0 c.args.m.now c.requires.1 l.at l.low l._j (l.invariant.1 c.requires.0 c.requires.1) c.loop-j-test.true).there)
 
 pub bounds-a-at : goal.bounds-a-at
-bounds-a-at c = omega (arith, (let l = c.loop-j in apart_turn c.requires.0 c.args.m.now c.requires.1 l.at l.low l.j (l.invariant.1 c.requires.0 c.requires.1) c.loop-j-test.true).there)
+bounds-a-at c = omega (arith, (let l = c.loop-j in apart_turn c.requires.0 c.args.m.now c.requires.1 l.at l.low l._j (l.invariant.1 c.requires.0 c.requires.1) c.loop-j-test.true).there)
 
 pub overflow_add-at : goal.overflow_add-at
-overflow_add-at c = omega (arith, (let l = c.loop-j in apart_turn c.requires.0 c.args.m.now c.requires.1 l.at l.low l.j (l.invariant.1 c.requires.0 c.requires.1) c.loop-j-test.true).there)
-
-pub overflow_add-j : goal.overflow_add-j
-overflow_add-j c = omega (arith, c.loop-j-test.true)
-
-pub loop-j-smaller : goal.loop-j-smaller
-loop-j-smaller c = omega (arith, c.loop-j-test.true)
+overflow_add-at c = omega (arith, (let l = c.loop-j in apart_turn c.requires.0 c.args.m.now c.requires.1 l.at l.low l._j (l.invariant.1 c.requires.0 c.requires.1) c.loop-j-test.true).there)
 
 pub loop-j-preserved : goal.loop-j-preserved
-loop-j-preserved c = (omega (arith, c.loop-j-test.true), λ g M. let T = (let l = c.loop-j in apart_turn g c.args.m.now M l.at l.low l.j (l.invariant.1 g M) c.loop-j-test.true) in T.past _ _ (c.count.ensures T.first) c.some_met.ensures c.if-some_met.false)
+loop-j-preserved c = (omega (arith, c.loop-j-test.true), λ g M. let T = (let l = c.loop-j in apart_turn g c.args.m.now M l.at l.low l._j (l.invariant.1 g M) c.loop-j-test.true) in T.past _ _ (c.count.ensures T.first) c.some_met.ensures c.if-some_met.false)
 
 pub returns : goal.returns
-returns c = λ g M. let l = c.loop-j in apart_end g _ M l.at l.low l.j (l.invariant.1 g M) (omega (arith, c.loop-j-test.false))
+returns c = λ g M. let l = c.loop-j in apart_end g _ M l.at l.low l._j (l.invariant.1 g M) (omega (arith, c.loop-j-test.false))

@@ -1,5 +1,5 @@
 use mathlib.Core.Path.{◌≡◌}
-use Prim.Native.Nat.{◌-◌, ◌≤◌}
+use Prim.Native.Nat.{◌≤◌}
 use lib.ListN.{length}
 use Rattle.rowset.specs.Member.{member}
 use Rattle.meeting.specs.Descent.{Noted}
@@ -8,6 +8,3 @@ use Rattle.meeting.proofs.matrix.note.Given as goal
 
 abbrev pub invariant-loop-w : goal.invariant-loop-w
 invariant-loop-w l = (l.w ≤ 4) × (length l.m ≡ length l.initial.m) × Noted (among l.s l.w) (member l.off) l.initial.m l.m
-
-abbrev pub decreases-loop-w : goal.decreases-loop-w
-decreases-loop-w l = 4 - l.w

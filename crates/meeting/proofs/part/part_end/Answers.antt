@@ -1,4 +1,3 @@
-use Prim.Native.Nat.{◌-◌}
 use native.Mathlib.Omega.{arith}
 use Rattle.meeting.proofs.Ending.{start, few_left, turn, finished}
 use Rattle.meeting.proofs.part.part_end.Goals as goal

@@ -17,10 +17,7 @@ abbrev pub decreases-arguments : goal.decreases-arguments
 decreases-arguments l = 3 * l.deep + 3
 
 abbrev pub invariant-arguments-loop-j : goal.invariant-arguments-loop-j
-invariant-arguments-loop-j l = (length l.m ≡ length l.initial.m) × (l.j ≤ l.n) × ((g : StandingArgs l.t l.a (member l.s) l.n l.deep l.initial.cur) → Now g l.initial.m l.j l.cur l.m)
-
-abbrev pub decreases-arguments-loop-j : goal.decreases-arguments-loop-j
-decreases-arguments-loop-j l = l.n - l.j
+invariant-arguments-loop-j l = (length l.m ≡ length l.initial.m) × (l._j ≤ l.n) × ((g : StandingArgs l.t l.a (member l.s) l.n l.deep l.initial.cur) → Now g l.initial.m l._j l.cur l.m)
 
 abbrev pub invariant-visit-loop-i : goal.invariant-visit-loop-i
 invariant-visit-loop-i l = (length l.m ≡ length l.initial.m) × FirstIn l.left row_limit l.i × ((g : Standing l.t l.a (member l.s) l.deep l.initial.cur) → Classed g l.initial.m l.left l.cur l.m)

@@ -1,8 +1,7 @@
 use mathlib.Core.Path.{◌∙◌, ap, sym}
-use Prim.Native.Nat.{◌-◌}
 use native.Mathlib.Omega.{arith}
 use Rattle.signature.proofs.KnownFacts.{long, constructors, few_constructors}
-use Rattle.nodes.specs.Step.{or_0}
+use Rattle.nodes.specs.Step.{leads}
 use Rattle.nodes.proofs.LinkLaws.{head_of, at_level, link_short, first_low, wrong_first, wrong_count, linked}
 use Rattle.nodes.proofs.node.follow.Goals as goal
 
@@ -31,4 +30,4 @@ pub overflow_sub-c : goal.overflow_sub-c
 overflow_sub-c c = let g = c.requires.known in omega (arith, first_low g c.args.t.now c.args.node c.args.c (omega arith) c.requires.head_by_table (omega arith) c.kind_of-k.result c.first_of-first.result c.kind_of-k.ensures c.first_of-first.ensures)
 
 pub returns : goal.returns
-returns c = λ g. c.link.ensures ∙ ap or_0 (sym (linked g c.args.t.now c.args.node c.args.c (omega arith) c.requires.head_by_table (omega arith) c.kind_of-k.result c.first_of-first.result c.kind_of-k.ensures c.first_of-first.ensures c.if-t-first.false c.count_of.result c.count_of.ensures c.if-t-count_of.false))
+returns c = λ g. c.link.ensures ∙ ap leads (sym (linked g c.args.t.now c.args.node c.args.c (omega arith) c.requires.head_by_table (omega arith) c.kind_of-k.result c.first_of-first.result c.kind_of-k.ensures c.first_of-first.ensures c.if-t-first.false c.count_of.result c.count_of.ensures c.if-t-count_of.false))

@@ -1,16 +1,13 @@
-use Prim.Native.Nat.{◌-◌}
-use native.Mathlib.Omega.{arith}
-use Rattle.nodes.proofs.EndLaws.{before_first, here, before_next, at_end}
+use mathlib.Core.Path.{◌≡◌}
+use lib.Dec.{leb}
+use Rattle.std.proofs.Common.{rules, tests}
+use Rattle.std.proofs.lemmas.Iterator.{YieldsList-from_slice}
+use Rattle.std.proofs.lemmas.Iterator.Search.{position_from_yields_List}
+use Rattle.std.specs.Prelude.{position}
+use Rattle.nodes.proofs.EndLaws.{place_found}
 use Rattle.nodes.proofs.node.place.Goals as goal
 
-pub loop-i-init : goal.loop-i-init
-loop-i-init c = (omega arith, before_first c.args.v c.args.es.now)
-
-pub returns-then-v-es : goal.returns-then-v-es
-returns-then-v-es c = let l = c.loop-i in here c.args.v c.args.es.now l.i l.invariant.1 (omega arith) (omega arith)
-
-pub loop-i-preserved : goal.loop-i-preserved
-loop-i-preserved c = (omega arith, let l = c.loop-i in before_next c.args.v c.args.es.now l.i l.invariant.1 (omega arith) (omega arith))
-
 pub returns : goal.returns
-returns c = let l = c.loop-i in at_end c.args.v c.args.es.now l.i l.invariant.1 (omega arith) l.invariant.0
+returns c =
+    let found : c.position.result ≡ position (λ e. leb c.args.v e) c.args.es.now = position_from_yields_List (λ e. leb c.args.v e) _ _ c.position.result c.position.ensures.ran (YieldsList-from_slice _ c.iter.ensures.rest) (λ x b q k. search (rules, tests)) in
+    place_found c.args.v c.args.es.now c.position.result c.unwrap_or.result found c.unwrap_or.ensures

@@ -5,7 +5,7 @@ use lib.ListN.{get_or, take, drop, length-drop}
 use lib.Seq.{length-take-le}
 use Rattle.signature.specs.Limits.{level_base}
 use Rattle.signature.proofs.Booleans.{not_true, not_false}
-use Rattle.nodes.specs.Step.{or_0, link_at}
+use Rattle.nodes.specs.Step.{leads, link_at}
 use Rattle.nodes.proofs.EndLaws.{place_most}
 use Rattle.nodes.proofs.LinkLaws.{ends_part, below_level, above_level, split_short, ends_short, ends_wrong, ends_right}
 use Rattle.nodes.proofs.node.split.Goals as goal
@@ -32,4 +32,4 @@ pub overflow_add-k-2 : goal.overflow_add-k-2
 overflow_add-k-2 c = omega (arith, c.place.ensures, place_most (c.args.c - level_base) (take (2 + get_or c.args.t.now 1 0 - 2) (drop 2 c.args.t.now)), length-take-le (2 + get_or c.args.t.now 1 0 - 2) (drop 2 c.args.t.now) (simp length-drop (omega arith)), c.shared_slice_known-2-1.given 1)
 
 pub returns : goal.returns
-returns c = c.link.ensures ∙ ap (λ x. or_0 (link_at c.args.t.now c.args.node (2 + get_or c.args.t.now 1 0 + x))) c.place.ensures ∙ ap or_0 (sym (ends_right c.args.t.now c.args.node c.args.c (omega arith) (omega arith) (omega arith) _ refl (omega arith) _ (ends_part c.args.t.now (get_or c.args.t.now 1 0)) (sym c.rises.ensures ∙ not_false c.rises.result c.if-not-rises.false-raw)))
+returns c = c.link.ensures ∙ ap (λ x. leads (link_at c.args.t.now c.args.node (2 + get_or c.args.t.now 1 0 + x))) c.place.ensures ∙ ap leads (sym (ends_right c.args.t.now c.args.node c.args.c (omega arith) (omega arith) (omega arith) _ refl (omega arith) _ (ends_part c.args.t.now (get_or c.args.t.now 1 0)) (sym c.rises.ensures ∙ not_false c.rises.result c.if-not-rises.false-raw)))

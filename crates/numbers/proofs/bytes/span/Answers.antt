@@ -1,16 +1,13 @@
-use Prim.Native.Nat.{◌-◌}
-use native.Mathlib.Omega.{arith}
-use Rattle.numbers.proofs.Spans.{none_left, found, other}
+use mathlib.Core.Path.{◌≡◌}
+use lib.Dec.{eqb}
+use Rattle.std.proofs.Common.{rules, tests}
+use Rattle.std.proofs.lemmas.Iterator.{YieldsList-from_slice}
+use Rattle.std.proofs.lemmas.Iterator.Search.{position_from_yields_List}
+use Rattle.std.specs.Prelude.{position}
+use Rattle.numbers.proofs.Spans.{before_position}
 use Rattle.numbers.proofs.bytes.span.Goals as goal
 
-pub loop-i-init : goal.loop-i-init
-loop-i-init c = (omega arith, omega arith)
-
-pub returns-then-s-i : goal.returns-then-s-i
-returns-then-s-i c = omega (arith, found c.args.c c.args.s.now c.loop-i.i c.loop-i-test.true c.if-s-i.true, c.loop-i.invariant.1)
-
-pub loop-i-preserved : goal.loop-i-preserved
-loop-i-preserved c = (omega arith, omega (arith, other c.args.c c.args.s.now c.loop-i.i c.loop-i-test.true c.if-s-i.false, c.loop-i.invariant.1))
-
 pub returns : goal.returns
-returns c = omega (arith, none_left c.args.c c.args.s.now c.loop-i.i c.loop-i-test.false, c.loop-i.invariant.1)
+returns c =
+    let found : c.position.result ≡ position (λ b. eqb b c.args.c) c.args.s.now = position_from_yields_List (λ b. eqb b c.args.c) _ _ c.position.result c.position.ensures.ran (YieldsList-from_slice _ c.iter.ensures.rest) (λ x b q k. search (rules, tests)) in
+    before_position c.args.c c.args.s.now c.position.result c.unwrap_or.result found c.unwrap_or.ensures

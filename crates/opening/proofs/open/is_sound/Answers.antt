@@ -1,11 +1,11 @@
-use Rattle.opening.proofs.Opens.{told_sound, told_unsound}
+use Rattle.opening.proofs.Opens.{sound_so, always}
 use Rattle.opening.proofs.open.is_sound.Goals as goal
 
-pub returns-in-Sound : goal.returns-in-Sound
-returns-in-Sound c = λ g. told_sound (Unit {0}) g.known.sig c.args.table.now c.sound_small-r.result (c.sound_small-r.ensures g).0 (c.sound_small-r.ensures g).1 _ _ c.in-Sound.is
+pub returns-in-Some : goal.returns-in-Some
+returns-in-Some c = λ g. sound_so g.known.sig c.args.table.now _ _ _ (c.is_sound_in.ensures g) _ c.in-Some.is
 
-pub returns-in-Unsound : goal.returns-in-Unsound
-returns-in-Unsound c = λ g. told_unsound (Unit {0}) g.known.sig c.args.table.now c.sound_small-r.result (c.sound_small-r.ensures g).0 (c.sound_small-r.ensures g).1 c.in-Unsound.is
+pub unwrap-requires : goal.unwrap-requires
+unwrap-requires c = always c.requires.known.sig c.args.table.now _ (c.is_sound_in-2.ensures c.requires)
 
-pub returns-in-NoRoom : goal.returns-in-NoRoom
-returns-in-NoRoom c = c.sound_large.ensures
+pub returns : goal.returns
+returns c = λ g. sound_so g.known.sig c.args.table.now _ _ _ (c.is_sound_in-2.ensures g) _ c.unwrap.ensures

@@ -1,5 +1,5 @@
 use mathlib.Core.Path.{◌≡◌}
-use Prim.Native.Nat.{◌-◌, ◌≤◌}
+use Prim.Native.Nat.{◌≤◌}
 use lib.ListN.{length}
 use Rattle.overlap.specs.Least.{GivenHead}
 use Rattle.overlap.proofs.LeastFacts.{Now}
@@ -10,6 +10,3 @@ decreases-with_least l = length l.out.now
 
 abbrev pub invariant-loop-j : goal.invariant-loop-j
 invariant-loop-j l = (length l.out ≡ length l.initial.out) × (1 ≤ l.at) × (l.at ≤ length l.initial.out) × (l.j ≤ l.n) × ((g : GivenHead l.t l.c l.initial.out) → Now g l.at l.j l.out)
-
-abbrev pub decreases-loop-j : goal.decreases-loop-j
-decreases-loop-j l = l.n - l.j

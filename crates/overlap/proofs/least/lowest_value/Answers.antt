@@ -2,11 +2,8 @@ use mathlib.Core.Path.{ap}
 use Prim.Native.Nat.{ℕ, ◌+◌}
 use native.Mathlib.Omega.{arith}
 use Rattle.overlap.proofs.LeastFacts.{word_here}
-use Rattle.overlap.proofs.PlaceFacts.{some_allowed, kind_small, head_given, placed}
+use Rattle.overlap.proofs.PlaceFacts.{some_allowed, head_given, placed}
 use Rattle.overlap.proofs.least.lowest_value.Goals as goal
-
-pub first_of-requires : goal.first_of-requires
-first_of-requires c = let g = c.requires in (g.known.decoded.long, kind_small g)
 
 pub lowest-requires : goal.lowest-requires
 lowest-requires c = some_allowed c.requires

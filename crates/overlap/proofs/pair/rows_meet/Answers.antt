@@ -1,4 +1,3 @@
-use Prim.Native.Nat.{◌-◌}
 use native.Mathlib.Omega.{arith}
 use Rattle.sets.proofs.HeadSets.{empty_is, some_is}
 use Rattle.overlap.proofs.Lockstep.{begin, all_met, in_front, known_here, none_met, few_left, step}

@@ -1,5 +1,4 @@
 -- The first digits, then the last.
-use lib.ListN.{length-set}
 use native.Mathlib.Omega.{arith}
 use Rattle.printing.proofs.Decimal.{digit_room, digit_put, first_room, last_room, last_put}
 use Rattle.printing.proofs.put.+put_number.Goals as goal

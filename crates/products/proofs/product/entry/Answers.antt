@@ -17,8 +17,8 @@ returns-in_default c = λ g. entry_none g.K g.kind (combine g.r g.s) _ _ _ [] (c
 
 pub overflow_add-result : goal.overflow_add-result
 unfolding given_tail
-overflow_add-result c = let g = c.requires in let k : c.in-Kept.n ≤ length c.combine.new.out = kept_le (row_code_of g.K g.kind (combine g.r g.s)) _ _ _ c.combine.new.out (c.combine.ensures (given_tail g)) c.in-Kept.is in omega (arith, simp (length-take, length-drop) at c.combine.auto.out, g.room)
+overflow_add-result c = let g = c.requires in let k : c.in-Some.n ≤ length c.combine.new.out = kept_le (row_code_of g.K g.kind (combine g.r g.s)) _ _ _ c.combine.new.out (c.combine.ensures (given_tail g)) c.in-Some.is in omega (arith, simp (length-take, length-drop) at c.combine.auto.out, g.room)
 
 pub returns : goal.returns
 unfolding given_tail
-returns c = λ g. entry_some g.K g.kind (combine g.r g.s) _ _ _ _ _ c.args.out.now (c.combine.ensures (given_tail g)) c.in-Kept.is (omega (arith, g.room))
+returns c = λ g. entry_some g.K g.kind (combine g.r g.s) _ _ _ _ _ c.args.out.now (c.combine.ensures (given_tail g)) c.in-Some.is (omega (arith, g.room))

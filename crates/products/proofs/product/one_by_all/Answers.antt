@@ -1,5 +1,4 @@
 use mathlib.Core.Path.{refl, ◌∙◌}
-use Prim.Native.Nat.{◌-◌}
 use native.Mathlib.Omega.{arith}
 use Rattle.cell.proofs.Walk.{there}
 use Rattle.rowlist.proofs.Products.{each_task, start1, given1, turn1, end1}

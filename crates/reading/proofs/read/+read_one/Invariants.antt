@@ -1,4 +1,4 @@
-use Prim.Native.Nat.{◌≤◌, ◌-◌}
+use Prim.Native.Nat.{◌≤◌}
 use lib.ListN.{length}
 use Rattle.pattern.specs.Word.{form_of}
 use Rattle.reading.proofs.Steps.{Left}
@@ -9,6 +9,3 @@ decreases-read_one l = length l.p.now
 
 abbrev pub invariant-loop-j : goal.invariant-loop-j
 invariant-loop-j l = (1 ≤ l.at) × (l.at ≤ length l.p) × (l.j ≤ l.n) × Left l.t l.k (form_of l.w) l.p l.at l.j
-
-abbrev pub decreases-loop-j : goal.decreases-loop-j
-decreases-loop-j l = l.n - l.j

@@ -1,14 +1,9 @@
-use Rattle.reading.proofs.Steps.{kind_zero, too_long, whole_at, whole_bad}
+use mathlib.Core.Path.{◌∙◌}
+use Rattle.reading.proofs.Steps.{kind_zero, whole_told}
 use Rattle.reading.proofs.read.well_formed.Goals as goal
 
-pub returns-then-p-gt-PATTERN_WORDS : goal.returns-then-p-gt-PATTERN_WORDS
-returns-then-p-gt-PATTERN_WORDS c = λ g. too_long _ c.args.p.now g c.if-p-gt-PATTERN_WORDS.true
+pub read_one-requires : goal.read_one-requires
+read_one-requires c = (c.requires, kind_zero c.args.t.now c.requires)
 
-pub read_one-e-requires : goal.read_one-e-requires
-read_one-e-requires c = (c.requires, kind_zero c.args.t.now c.requires)
-
-pub returns-in-At : goal.returns-in-At
-returns-in-At c = λ g. whole_at _ c.args.p.now g _ _ c.if-p-gt-PATTERN_WORDS.false c.read_one-e.ensures c.in-At.is
-
-pub returns-in-Bad : goal.returns-in-Bad
-returns-in-Bad c = λ g. whole_bad _ c.args.p.now g _ c.if-p-gt-PATTERN_WORDS.false c.read_one-e.ensures c.in-Bad.is
+pub returns : goal.returns
+returns c = λ g. c.eq.ensures ∙ whole_told c.args.t.now c.args.p.now g c.read_one.result c.if-p-gt-PATTERN_WORDS.false c.read_one.ensures

@@ -1,73 +1,33 @@
-use mathlib.Core.Path.{refl, sym, ◌∙◌}
-use Prim.Native.Nat.{◌+◌, ◌≤◌}
+use mathlib.Core.Path.{refl, ap, ◌∙◌}
+use Prim.Native.Nat.{◌*◌, min}
 use native.Mathlib.Omega.{arith}
-use lib.ListN.{length, get_or, length-set}
+use lib.ListN.{length, length-set}
 use lib.Seq.{lt-length-set}
-use Rattle.run.specs.Outcome.{ran_answer}
-use Rattle.charges.specs.Limits.{booking_room, record_length}
-use Rattle.replanning.specs.Parts.{answers_room}
-use Rattle.replanning.proofs.Found.{going_start, all_found, whole, short, few_words, at_room, refused_here, going_next}
+use Rattle.std.proofs.lemmas.Result.{err_from_is_err_and}
+use Rattle.signature.proofs.Numbers.{not_0}
+use Rattle.replanning.proofs.Found.{all_found, whole, short, few_words, at_room, refused_here, going_next}
 use Rattle.replanning.proofs.records.answer_all.Goals as goal
 
-pub loop-left-init : goal.loop-left-init
-loop-left-init c = (c.requires.2, λ g k. going_start g.sig c.args.tree.now k.charges c.args.charges.now c.args.answers.now k.words c.requires.2, refl)
-
-pub bounds-left-2 : goal.bounds-left-2
-bounds-left-2 c = omega (arith, whole c.requires.0.sig c.args.tree.now (c.loop-left.invariant.1 c.requires.0 c.requires.1) c.loop-left-test.true, short c.requires.0.sig c.args.tree.now (c.loop-left.invariant.1 c.requires.0 c.requires.1) c.loop-left-test.true, at_room c.requires.0.sig c.args.tree.now (c.loop-left.invariant.1 c.requires.0 c.requires.1) c.loop-left-test.true)
-
-pub overflow_cast-end : goal.overflow_cast-end
-overflow_cast-end c = omega (arith, whole c.requires.0.sig c.args.tree.now (c.loop-left.invariant.1 c.requires.0 c.requires.1) c.loop-left-test.true, short c.requires.0.sig c.args.tree.now (c.loop-left.invariant.1 c.requires.0 c.requires.1) c.loop-left-test.true, at_room c.requires.0.sig c.args.tree.now (c.loop-left.invariant.1 c.requires.0 c.requires.1) c.loop-left-test.true)
-
-pub overflow_add-end : goal.overflow_add-end
-overflow_add-end c = omega (arith, whole c.requires.0.sig c.args.tree.now (c.loop-left.invariant.1 c.requires.0 c.requires.1) c.loop-left-test.true, short c.requires.0.sig c.args.tree.now (c.loop-left.invariant.1 c.requires.0 c.requires.1) c.loop-left-test.true, at_room c.requires.0.sig c.args.tree.now (c.loop-left.invariant.1 c.requires.0 c.requires.1) c.loop-left-test.true)
+pub bounds-record-2 : goal.bounds-record-2
+bounds-record-2 c = omega (arith, whole (c.requires.0.sig) c.args.tree.now (c.loop-k.invariant.4 c.requires.0 c.requires.1) c.in-Some.ensures.steps.0.1.2 c.in-Some.record.now c.next.new.self.iter.rest.now c.in-Some.ensures.steps.0.1.0 (c.in-Some.ensures.steps.0.1.1 ∙ ap (λ n. min n (length c.loop-k.k-iterator.iter.rest.now)) c.loop-k.invariant.2))
 
 pub slice_bounds-run_decoded-end : goal.slice_bounds-run_decoded-end
-slice_bounds-run_decoded-end c = omega (arith, whole c.requires.0.sig c.args.tree.now (c.loop-left.invariant.1 c.requires.0 c.requires.1) c.loop-left-test.true, short c.requires.0.sig c.args.tree.now (c.loop-left.invariant.1 c.requires.0 c.requires.1) c.loop-left-test.true, at_room c.requires.0.sig c.args.tree.now (c.loop-left.invariant.1 c.requires.0 c.requires.1) c.loop-left-test.true)
+slice_bounds-run_decoded-end c = omega (arith, whole (c.requires.0.sig) c.args.tree.now (c.loop-k.invariant.4 c.requires.0 c.requires.1) c.in-Some.ensures.steps.0.1.2 c.in-Some.record.now c.next.new.self.iter.rest.now c.in-Some.ensures.steps.0.1.0 (c.in-Some.ensures.steps.0.1.1 ∙ ap (λ n. min n (length c.loop-k.k-iterator.iter.rest.now)) c.loop-k.invariant.2), short (c.requires.0.sig) c.args.tree.now (c.loop-k.invariant.4 c.requires.0 c.requires.1) c.in-Some.ensures.steps.0.1.2 c.in-Some.record.now c.next.new.self.iter.rest.now c.in-Some.ensures.steps.0.1.0 (c.in-Some.ensures.steps.0.1.1 ∙ ap (λ n. min n (length c.loop-k.k-iterator.iter.rest.now)) c.loop-k.invariant.2))
 
-pub slice_bounds-run_decoded-end-in-loop-left : goal.slice_bounds-run_decoded-end-in-loop-left
-slice_bounds-run_decoded-end-in-loop-left c = sym c.loop-left.invariant.2
+pub run_decoded-requires : goal.run_decoded-requires
+run_decoded-requires c = (c.requires.0, omega (arith, few_words (c.requires.0.sig) c.args.tree.now (c.loop-k.invariant.4 c.requires.0 c.requires.1) c.in-Some.ensures.steps.0.1.2 c.in-Some.record.now c.next.new.self.iter.rest.now c.in-Some.ensures.steps.0.1.0 (c.in-Some.ensures.steps.0.1.1 ∙ ap (λ n. min n (length c.loop-k.k-iterator.iter.rest.now)) c.loop-k.invariant.2), c.loop-k.invariant.5))
 
-pub run_decoded-r-requires : goal.run_decoded-r-requires
-run_decoded-r-requires c = let few = few_words c.requires.0.sig c.args.tree.now (c.loop-left.invariant.1 c.requires.0 c.requires.1) c.loop-left-test.true in (c.requires.0, omega (arith, few, c.loop-left.invariant.2))
+pub returns-in_err-a : goal.returns-in_err-a
+returns-in_err-a c = let p = err_from_is_err_and c.from_residual.result c.from_residual.ensures.1 in rw (p.1, p.2) (λ g k. refused_here g.sig c.args.tree.now (c.loop-k.invariant.4 g k) c.in-Some.ensures.steps.0.1.2 c.in-Some.record.now c.next.new.self.iter.rest.now c.in-Some.ensures.steps.0.1.0 (c.in-Some.ensures.steps.0.1.1 ∙ ap (λ n. min n (length c.loop-k.k-iterator.iter.rest.now)) c.loop-k.invariant.2) _ _ (c.in_err-a.ensures g) (not_0 _))
 
-pub shape_of-answers-then-r-gt0 : goal.shape_of-answers-then-r-gt0
-shape_of-answers-then-r-gt0 c = c.loop-left.invariant.0 ∙ sym c.requires.2
+pub bounds-answers-k : goal.bounds-answers-k
+bounds-answers-k c = omega (arith, at_room (c.requires.0.sig) c.args.tree.now (c.loop-k.invariant.4 c.requires.0 c.requires.1) c.in-Some.ensures.steps.0.1.2 c.in-Some.record.now c.next.new.self.iter.rest.now c.in-Some.ensures.steps.0.1.0 (c.in-Some.ensures.steps.0.1.1 ∙ ap (λ n. min n (length c.loop-k.k-iterator.iter.rest.now)) c.loop-k.invariant.2), c.in-Some.ensures.steps.1, c.loop-k.invariant.3)
 
-pub returns-then-r-gt0 : goal.returns-then-r-gt0
-returns-then-r-gt0 c = λ g k. refused_here g.sig c.args.tree.now (c.loop-left.invariant.1 g k) c.loop-left-test.true c.run_decoded-r.result.number (ran_answer c.run_decoded-r.result) (c.run_decoded-r.ensures g) c.if-r-gt0.true
+pub bounds-answers-k-in-loop-k : goal.bounds-answers-k-in-loop-k
+bounds-answers-k-in-loop-k c = lt-length-set c.loop-k.answers (2 * c.in-Some.k) _ (omega (arith, at_room (c.requires.0.sig) c.args.tree.now (c.loop-k.invariant.4 c.requires.0 c.requires.1) c.in-Some.ensures.steps.0.1.2 c.in-Some.record.now c.next.new.self.iter.rest.now c.in-Some.ensures.steps.0.1.0 (c.in-Some.ensures.steps.0.1.1 ∙ ap (λ n. min n (length c.loop-k.k-iterator.iter.rest.now)) c.loop-k.invariant.2), c.in-Some.ensures.steps.1, c.loop-k.invariant.3))
 
-pub offset_bounds-answers-i : goal.offset_bounds-answers-i
-offset_bounds-answers-i c = omega (arith, whole c.requires.0.sig c.args.tree.now (c.loop-left.invariant.1 c.requires.0 c.requires.1) c.loop-left-test.true, short c.requires.0.sig c.args.tree.now (c.loop-left.invariant.1 c.requires.0 c.requires.1) c.loop-left-test.true, at_room c.requires.0.sig c.args.tree.now (c.loop-left.invariant.1 c.requires.0 c.requires.1) c.loop-left-test.true)
-
-pub bounds-answers-i : goal.bounds-answers-i
-bounds-answers-i c = omega (arith, whole c.requires.0.sig c.args.tree.now (c.loop-left.invariant.1 c.requires.0 c.requires.1) c.loop-left-test.true, short c.requires.0.sig c.args.tree.now (c.loop-left.invariant.1 c.requires.0 c.requires.1) c.loop-left-test.true, at_room c.requires.0.sig c.args.tree.now (c.loop-left.invariant.1 c.requires.0 c.requires.1) c.loop-left-test.true, c.loop-left.invariant.0)
-
-pub overflow_add-answers : goal.overflow_add-answers
-overflow_add-answers c = omega (arith, whole c.requires.0.sig c.args.tree.now (c.loop-left.invariant.1 c.requires.0 c.requires.1) c.loop-left-test.true, short c.requires.0.sig c.args.tree.now (c.loop-left.invariant.1 c.requires.0 c.requires.1) c.loop-left-test.true, at_room c.requires.0.sig c.args.tree.now (c.loop-left.invariant.1 c.requires.0 c.requires.1) c.loop-left-test.true)
-
-pub offset_bounds-answers-i-in-loop-left : goal.offset_bounds-answers-i-in-loop-left
-offset_bounds-answers-i-in-loop-left c = omega (arith, whole c.requires.0.sig c.args.tree.now (c.loop-left.invariant.1 c.requires.0 c.requires.1) c.loop-left-test.true, short c.requires.0.sig c.args.tree.now (c.loop-left.invariant.1 c.requires.0 c.requires.1) c.loop-left-test.true, at_room c.requires.0.sig c.args.tree.now (c.loop-left.invariant.1 c.requires.0 c.requires.1) c.loop-left-test.true)
-
-pub bounds-answers-i-in-loop-left : goal.bounds-answers-i-in-loop-left
-bounds-answers-i-in-loop-left c = lt-length-set c.loop-left.answers c.loop-left.i c.run_decoded-r.result.rule (omega (arith, whole c.requires.0.sig c.args.tree.now (c.loop-left.invariant.1 c.requires.0 c.requires.1) c.loop-left-test.true, short c.requires.0.sig c.args.tree.now (c.loop-left.invariant.1 c.requires.0 c.requires.1) c.loop-left-test.true, at_room c.requires.0.sig c.args.tree.now (c.loop-left.invariant.1 c.requires.0 c.requires.1) c.loop-left-test.true, c.loop-left.invariant.0))
-
-pub overflow_add-i : goal.overflow_add-i
-overflow_add-i c = omega (arith, whole c.requires.0.sig c.args.tree.now (c.loop-left.invariant.1 c.requires.0 c.requires.1) c.loop-left-test.true, short c.requires.0.sig c.args.tree.now (c.loop-left.invariant.1 c.requires.0 c.requires.1) c.loop-left-test.true, at_room c.requires.0.sig c.args.tree.now (c.loop-left.invariant.1 c.requires.0 c.requires.1) c.loop-left-test.true)
-
-pub slice_bounds-left-count : goal.slice_bounds-left-count
-slice_bounds-left-count c = omega (arith, whole c.requires.0.sig c.args.tree.now (c.loop-left.invariant.1 c.requires.0 c.requires.1) c.loop-left-test.true, short c.requires.0.sig c.args.tree.now (c.loop-left.invariant.1 c.requires.0 c.requires.1) c.loop-left-test.true, at_room c.requires.0.sig c.args.tree.now (c.loop-left.invariant.1 c.requires.0 c.requires.1) c.loop-left-test.true)
-
-pub slice_bounds-left-start : goal.slice_bounds-left-start
-slice_bounds-left-start c = omega (arith, whole c.requires.0.sig c.args.tree.now (c.loop-left.invariant.1 c.requires.0 c.requires.1) c.loop-left-test.true, short c.requires.0.sig c.args.tree.now (c.loop-left.invariant.1 c.requires.0 c.requires.1) c.loop-left-test.true, at_room c.requires.0.sig c.args.tree.now (c.loop-left.invariant.1 c.requires.0 c.requires.1) c.loop-left-test.true)
-
-pub loop-left-smaller : goal.loop-left-smaller
-loop-left-smaller c = omega (arith, whole c.requires.0.sig c.args.tree.now (c.loop-left.invariant.1 c.requires.0 c.requires.1) c.loop-left-test.true, short c.requires.0.sig c.args.tree.now (c.loop-left.invariant.1 c.requires.0 c.requires.1) c.loop-left-test.true, at_room c.requires.0.sig c.args.tree.now (c.loop-left.invariant.1 c.requires.0 c.requires.1) c.loop-left-test.true)
-
-pub loop-left-preserved : goal.loop-left-preserved
-loop-left-preserved c = (simp length-set c.loop-left.invariant.0, λ g k. going_next g.sig c.args.tree.now (c.loop-left.invariant.1 g k) c.loop-left-test.true c.run_decoded-r.result.number (ran_answer c.run_decoded-r.result) (c.run_decoded-r.ensures g) c.if-r-gt0.false, c.run_decoded-r.auto.visits ∙ c.loop-left.invariant.2)
-
-pub shape_of-answers : goal.shape_of-answers
-shape_of-answers c = c.loop-left.invariant.0 ∙ sym c.requires.2
+pub loop-k-preserved : goal.loop-k-preserved
+loop-k-preserved c = (c.in-Some.ensures.goes.keeps, tt, c.in-Some.ensures.steps.0.0 ∙ c.loop-k.invariant.2, simp length-set c.loop-k.invariant.3, λ g k. rw (c.in-Some.ensures.steps.1, c.in-Some.ensures.steps.2) (going_next g.sig c.args.tree.now (c.loop-k.invariant.4 g k) c.in-Some.ensures.steps.0.1.2 c.in-Some.record.now c.next.new.self.iter.rest.now c.in-Some.ensures.steps.0.1.0 (c.in-Some.ensures.steps.0.1.1 ∙ ap (λ n. min n (length c.loop-k.k-iterator.iter.rest.now)) c.loop-k.invariant.2) _ _ (c.in_ok-a.ensures g) refl), c.run_decoded.auto.visits ∙ c.loop-k.invariant.5)
 
 pub returns : goal.returns
-returns c = λ g k. let f = all_found g.sig c.args.tree.now (c.loop-left.invariant.1 g k) c.loop-left-test.false in (f.0, λ e. f.1)
+returns c = λ g k. let f = all_found g.sig c.args.tree.now (c.loop-k.invariant.4 g k) (omega (arith, c.in-None.ensures.steps.0.1.0)) in (f.0, λ e. f.1)

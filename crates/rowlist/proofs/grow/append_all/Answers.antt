@@ -1,5 +1,4 @@
 use mathlib.Core.Path.{refl, ◌∙◌}
-use Prim.Native.Nat.{◌-◌}
 use native.Mathlib.Omega.{arith}
 use Rattle.cell.proofs.Walk.{there}
 use Rattle.rowlist.proofs.Growing.{all_task, all_start, all_given, all_turn, all_end}

@@ -1,4 +1,3 @@
-use Prim.Native.Nat.{◌-◌}
 use native.Mathlib.Omega.{arith}
 use Rattle.rowlist.proofs.Growing.{count_start, count_there, count_turn, count_end}
 use Rattle.rowlist.proofs.grow.count.Goals as goal

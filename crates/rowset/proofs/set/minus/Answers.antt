@@ -1,15 +1,8 @@
-use mathlib.Core.Path.{refl, ◌∙◌}
-use Prim.Native.Nat.{◌-◌}
+use mathlib.Core.Path.{◌∙◌}
 use native.Mathlib.Omega.{arith}
 use lib.ListN.{length-set}
 use Rattle.rowset.proofs.MemberLaws.{less_next}
 use Rattle.rowset.proofs.set.minus.Goals as goal
 
-pub loop-w-init : goal.loop-w-init
-loop-w-init c = (omega arith, refl, λ q l. absurd (omega arith))
-
 pub loop-w-preserved : goal.loop-w-preserved
 loop-w-preserved c = let l = c.loop-w in (omega arith, length-set l.r l.w _ ∙ l.invariant.1, less_next _ _ l.r l.w _ (omega (arith, l.invariant.1, c.loop-w-test.true)) l.invariant.2 c.minus.ensures)
-
-pub returns : goal.returns
-returns c = λ q l. c.loop-w.invariant.2 q (omega (arith, c.loop-w-test.false))

@@ -9,7 +9,7 @@ pub returns-in_default : goal.returns-in_default
 returns-in_default c = λ g e v h. (c.view.ensures (to_view g _ (omega arith))).dropped c.in_default.is v
 
 pub rows_meet-requires : goal.rows_meet-requires
-rows_meet-requires c = let g = c.requires in let W = (c.view.ensures (to_view g _ (omega arith))).kept _ c.in-Kept.is in beside_view g _ _ _ _ W.0 W.2
+rows_meet-requires c = let g = c.requires in let W = (c.view.ensures (to_view g _ (omega arith))).kept _ c.in-Some.is in beside_view g _ _ _ _ W.0 W.2
 
 pub returns : goal.returns
-returns c = λ g e. let W = (c.view.ensures (to_view g _ (omega arith))).kept _ c.in-Kept.is in not_met g _ _ _ (c.rows_meet.ensures (beside_view g _ _ _ _ W.0 W.2)) e
+returns c = λ g e. let W = (c.view.ensures (to_view g _ (omega arith))).kept _ c.in-Some.is in not_met g _ _ _ (c.rows_meet.ensures (beside_view g _ _ _ _ W.0 W.2)) e

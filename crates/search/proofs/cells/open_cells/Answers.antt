@@ -1,4 +1,3 @@
-use Prim.Native.Nat.{◌-◌}
 use native.Mathlib.Omega.{arith}
 use Rattle.views.proofs.Opened.{found}
 use Rattle.search.proofs.CellsFacts.{to_row, agree_first, agree_more}
@@ -10,32 +9,8 @@ frontier-edge-requires c = to_row c.requires
 pub loop-c-init : goal.loop-c-init
 loop-c-init c = (omega arith, λ g. (agree_first g _ c.full-opened.ensures, c.frontier-edge.ensures (to_row g)))
 
-pub stays-requires : goal.stays-requires
-stays-requires c = (c.requires, c.loop-c-test.true)
-
-pub overflow_add-c : goal.overflow_add-c
-overflow_add-c c = omega (arith, c.loop-c-test.true)
-
-pub loop-c-smaller-then-stays : goal.loop-c-smaller-then-stays
-loop-c-smaller-then-stays c = omega (arith, c.loop-c-test.true)
-
-pub loop-c-preserved-then-stays : goal.loop-c-preserved-then-stays
-loop-c-preserved-then-stays c = (omega (arith, c.loop-c-test.true), c.loop-c.invariant.1)
-
-pub overflow_cast-c : goal.overflow_cast-c
-overflow_cast-c c = omega (arith, c.loop-c-test.true)
-
-pub without-opened-requires : goal.without-opened-requires
-without-opened-requires c = c.loop-c-test.true
-
 pub frontier-edge-requires-in-loop-c : goal.frontier-edge-requires-in-loop-c
 frontier-edge-requires-in-loop-c c = to_row c.requires
-
-pub overflow_add-c-in-loop-c : goal.overflow_add-c-in-loop-c
-overflow_add-c-in-loop-c c = omega (arith, c.loop-c-test.true)
-
-pub loop-c-smaller : goal.loop-c-smaller
-loop-c-smaller c = omega (arith, c.loop-c-test.true)
 
 pub loop-c-preserved : goal.loop-c-preserved
 loop-c-preserved c = let l = c.loop-c in (

@@ -1,4 +1,4 @@
-use Prim.Native.Nat.{◌-◌, ◌≤◌}
+use Prim.Native.Nat.{◌≤◌}
 use Rattle.views.specs.Write.{Frontier}
 use Rattle.search.specs.Cells.{GivenBeside, AgreeBeside}
 use Rattle.search.proofs.CellsFacts.{to_row}
@@ -6,6 +6,3 @@ use Rattle.search.proofs.cells.open_cells.Given as goal
 
 abbrev pub invariant-loop-c : goal.invariant-loop-c
 invariant-loop-c l = (l.c ≤ 64) × ((g : GivenBeside l.t l.row l.q) → AgreeBeside g l.opened × Frontier (to_row g) l.opened l.edge)
-
-abbrev pub decreases-loop-c : goal.decreases-loop-c
-decreases-loop-c l = 64 - l.c

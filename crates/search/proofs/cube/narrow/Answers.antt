@@ -1,16 +1,13 @@
 use Prim.Native.Nat.{◌≤◌}
 use native.Mathlib.Omega.{arith}
 use lib.ListN.{length}
-use Rattle.search.proofs.ChoiceFacts.{table_room, row_placed}
-use Rattle.search.proofs.CubeFacts.{r, row_there, to_view, view_dropped, to_combine, combine_dropped, combine_large, combine_kept, both_le}
+use Rattle.search.proofs.ChoiceFacts.{row_placed}
+use Rattle.search.proofs.CubeFacts.{r, row_there, to_view, view_dropped, to_combine, combine_dropped, combine_large, combine_kept}
 use Rattle.search.proofs.cube.narrow.Goals.{After-start_of-start}
 use Rattle.search.proofs.cube.narrow.Goals as goal
 
 starts : (c : After-start_of-start) → c.start_of-start.result ≤ length c.args.a.now
 starts c = let g = c.requires in omega (arith, c.start_of-start.ensures, (row_placed g.branch.table (r g) (row_there g)).within)
-
-pub start_of-start-requires : goal.start_of-start-requires
-start_of-start-requires c = let g = c.requires in table_room g.branch.table (r g) (row_there g)
 
 pub slice_bounds-view-count : goal.slice_bounds-view-count
 slice_bounds-view-count c = starts c
@@ -21,20 +18,17 @@ slice_bounds-view-start c = starts c
 pub view-requires : goal.view-requires
 view-requires c = to_view c.requires _ _ c.start_of-start.ensures (omega arith)
 
-pub returns-in_default : goal.returns-in_default
-returns-in_default c = λ g. view_dropped g _ ((c.view.ensures (to_view g _ _ c.start_of-start.ensures (omega arith))).dropped c.in_default.is)
+pub returns-in_err-view : goal.returns-in_err-view
+returns-in_err-view c = λ g. rw c.from_residual.ensures (view_dropped g _ ((c.view.ensures (to_view g _ _ c.start_of-start.ensures (omega arith))).dropped c.in_err-view.was))
 
 pub combine-requires : goal.combine-requires
-combine-requires c = let g = c.requires in let W = (c.view.ensures (to_view g _ _ c.start_of-start.ensures (omega arith))).kept _ c.in-Kept.is in to_combine g _ _ W.0 W.2
+combine-requires c = let g = c.requires in let W = (c.view.ensures (to_view g _ _ c.start_of-start.ensures (omega arith))).kept _ c.in_ok-view.was in to_combine g _ _ W.0 W.2
 
-pub returns-in_default-combine : goal.returns-in_default-combine
-returns-in_default-combine c = λ g. let W = (c.view.ensures (to_view g _ _ c.start_of-start.ensures (omega arith))).kept _ c.in-Kept.is in combine_dropped g _ _ W.0 W.2 _ _ (c.combine.ensures (to_combine g _ _ W.0 W.2)) _ c.in_default-combine.is
+pub returns-in_err-w : goal.returns-in_err-w
+returns-in_err-w c = λ g. let W = (c.view.ensures (to_view g _ _ c.start_of-start.ensures (omega arith))).kept _ c.in_ok-view.was in rw c.from_residual-in_err-w.ensures (combine_dropped g _ _ W.0 W.2 _ _ (c.combine.ensures (to_combine g _ _ W.0 W.2)) _ c.in_err-w.was)
 
 pub returns-then-w-gt-CUBE_ROOM : goal.returns-then-w-gt-CUBE_ROOM
-returns-then-w-gt-CUBE_ROOM c = λ g. let W = (c.view.ensures (to_view g _ _ c.start_of-start.ensures (omega arith))).kept _ c.in-Kept.is in combine_large g _ _ W.0 W.2 _ _ (c.combine.ensures (to_combine g _ _ W.0 W.2)) _ c.in-Kept-combine.is _ c.if-w-gt-CUBE_ROOM.true
-
-pub copy-requires : goal.copy-requires
-copy-requires c = let g = c.requires in let W = (c.view.ensures (to_view g _ _ c.start_of-start.ensures (omega arith))).kept _ c.in-Kept.is in (both_le g _ _ W.0 W.2 _ _ (c.combine.ensures (to_combine g _ _ W.0 W.2)) _ c.in-Kept-combine.is, omega (arith, c.if-w-gt-CUBE_ROOM.false, g.branch.rooms.for_cube))
+returns-then-w-gt-CUBE_ROOM c = λ g. let W = (c.view.ensures (to_view g _ _ c.start_of-start.ensures (omega arith))).kept _ c.in_ok-view.was in combine_large g _ _ W.0 W.2 _ _ (c.combine.ensures (to_combine g _ _ W.0 W.2)) _ c.in_ok-w.was _ c.if-w-gt-CUBE_ROOM.true
 
 pub returns : goal.returns
-returns c = λ g. let W = (c.view.ensures (to_view g _ _ c.start_of-start.ensures (omega arith))).kept _ c.in-Kept.is in combine_kept g _ _ W.0 W.2 _ _ (c.combine.ensures (to_combine g _ _ W.0 W.2)) _ c.in-Kept-combine.is _ (omega (arith, c.if-w-gt-CUBE_ROOM.false)) c.copy.ensures
+returns c = λ g. let W = (c.view.ensures (to_view g _ _ c.start_of-start.ensures (omega arith))).kept _ c.in_ok-view.was in combine_kept g _ _ W.0 W.2 _ _ (c.combine.ensures (to_combine g _ _ W.0 W.2)) _ c.in_ok-w.was _ (omega (arith, c.if-w-gt-CUBE_ROOM.false)) c.copy.ensures

@@ -8,41 +8,41 @@ use Rattle.search.proofs.ChoiceFacts.{table_room, row_placed}
 use Rattle.search.proofs.LookFacts.{none_seen, to_shortest, long_seen, to_meeting, to_taker, free_seen, to_beside, taken_seen}
 use Rattle.search.proofs.look.look.Goals as goal
 
-pub returns-then-words-eq0 : goal.returns-then-words-eq0
-returns-then-words-eq0 c = λ g. none_seen g _ _ _ _ c.if-words-eq0.true (c.cube-words.ensures g.branch)
+pub returns-in_default : goal.returns-in_default
+returns-in_default c = λ g. none_seen g _ _ _ _ c.in_default.is (c.cube.ensures g.branch)
 
 pub shortest-requires : goal.shortest-requires
-shortest-requires c = let g = c.requires in let K = (c.cube-words.ensures g.branch).cube (omega (arith, c.if-words-eq0.false)) in to_shortest g _ _ K _ refl
+shortest-requires c = let g = c.requires in let K = (c.cube.ensures g.branch).cube _ c.in-Some.is in to_shortest g _ _ K _ refl
 
-pub returns-in_default : goal.returns-in_default
-returns-in_default c = λ g. let K = (c.cube-words.ensures g.branch).cube (omega (arith, c.if-words-eq0.false)) in long_seen g _ _ K _ _ ((c.shortest.ensures (to_shortest g _ _ K _ refl)).too_long c.in_default.is)
+pub returns-in_default-shortest : goal.returns-in_default-shortest
+returns-in_default-shortest c = λ g. let K = (c.cube.ensures g.branch).cube _ c.in-Some.is in long_seen g _ _ K _ _ ((c.shortest.ensures (to_shortest g _ _ K _ refl)).too_long c.in_default-shortest.is)
 
 pub meeting-requires : goal.meeting-requires
-meeting-requires c = let g = c.requires in let K = (c.cube-words.ensures g.branch).cube (omega (arith, c.if-words-eq0.false)) in (to_meeting g _ _ K, search rules)
+meeting-requires c = let g = c.requires in let K = (c.cube.ensures g.branch).cube _ c.in-Some.is in (to_meeting g _ _ K, search rules)
 
 pub slice_bounds-taker-end : goal.slice_bounds-taker-end
-slice_bounds-taker-end c = let g = c.requires in let K = (c.cube-words.ensures g.branch).cube (omega (arith, c.if-words-eq0.false)) in let F = (c.shortest.ensures (to_shortest g _ _ K _ refl)).found _ c.in-Found.is in omega (arith, F.2, F.1.few, c.shortest.auto.out, g.room)
+slice_bounds-taker-end c = let g = c.requires in let K = (c.cube.ensures g.branch).cube _ c.in-Some.is in let F = (c.shortest.ensures (to_shortest g _ _ K _ refl)).found _ c.in-Some-shortest.is in omega (arith, F.2, F.1.few, c.shortest.auto.out, g.room)
 
 pub slice_bounds-taker-end-2 : goal.slice_bounds-taker-end-2
-slice_bounds-taker-end-2 c = let g = c.requires in let K = (c.cube-words.ensures g.branch).cube (omega (arith, c.if-words-eq0.false)) in let F = (c.shortest.ensures (to_shortest g _ _ K _ refl)).found _ c.in-Found.is in sym (length-take-le _ _ (omega (arith, F.2, F.1.few, c.shortest.auto.out, g.room)))
+slice_bounds-taker-end-2 c = let g = c.requires in let K = (c.cube.ensures g.branch).cube _ c.in-Some.is in let F = (c.shortest.ensures (to_shortest g _ _ K _ refl)).found _ c.in-Some-shortest.is in sym (length-take-le _ _ (omega (arith, F.2, F.1.few, c.shortest.auto.out, g.room)))
 
-pub taker-r-requires : goal.taker-r-requires
-taker-r-requires c = let g = c.requires in let K = (c.cube-words.ensures g.branch).cube (omega (arith, c.if-words-eq0.false)) in let F = (c.shortest.ensures (to_shortest g _ _ K _ refl)).found _ c.in-Found.is in to_taker g _ _ K _ (c.meeting.ensures (to_meeting g _ _ K)) _ _ _ F.0 F.1 F.2 F.3 refl
+pub taker-requires : goal.taker-requires
+taker-requires c = let g = c.requires in let K = (c.cube.ensures g.branch).cube _ c.in-Some.is in let F = (c.shortest.ensures (to_shortest g _ _ K _ refl)).found _ c.in-Some-shortest.is in to_taker g _ _ K _ (c.meeting.ensures (to_meeting g _ _ K)) _ _ _ F.0 F.1 F.2 F.3 refl
 
-pub returns-then-r-n : goal.returns-then-r-n
-returns-then-r-n c = λ g. let K = (c.cube-words.ensures g.branch).cube (omega (arith, c.if-words-eq0.false)) in let F = (c.shortest.ensures (to_shortest g _ _ K _ refl)).found _ c.in-Found.is in free_seen g _ _ K _ (c.meeting.ensures (to_meeting g _ _ K)) _ _ _ F.0 F.1 F.2 F.3 refl _ (c.taker-r.ensures (to_taker g _ _ K _ (c.meeting.ensures (to_meeting g _ _ K)) _ _ _ F.0 F.1 F.2 F.3 refl)) c.if-r-n.true
+pub returns-in_default-taker : goal.returns-in_default-taker
+returns-in_default-taker c = λ g. let K = (c.cube.ensures g.branch).cube _ c.in-Some.is in let F = (c.shortest.ensures (to_shortest g _ _ K _ refl)).found _ c.in-Some-shortest.is in free_seen g _ _ K _ (c.meeting.ensures (to_meeting g _ _ K)) _ _ _ F.0 F.1 F.2 F.3 refl _ (c.taker.ensures (to_taker g _ _ K _ (c.meeting.ensures (to_meeting g _ _ K)) _ _ _ F.0 F.1 F.2 F.3 refl)) c.in_default-taker.is
 
 pub start_of-start-requires : goal.start_of-start-requires
-start_of-start-requires c = let g = c.requires in let K = (c.cube-words.ensures g.branch).cube (omega (arith, c.if-words-eq0.false)) in let F = (c.shortest.ensures (to_shortest g _ _ K _ refl)).found _ c.in-Found.is in table_room g.branch.table _ (omega (arith, (c.taker-r.ensures (to_taker g _ _ K _ (c.meeting.ensures (to_meeting g _ _ K)) _ _ _ F.0 F.1 F.2 F.3 refl)).most, c.if-r-n.false))
+start_of-start-requires c = let g = c.requires in let K = (c.cube.ensures g.branch).cube _ c.in-Some.is in let F = (c.shortest.ensures (to_shortest g _ _ K _ refl)).found _ c.in-Some-shortest.is in table_room g.branch.table _ ((c.taker.ensures (to_taker g _ _ K _ (c.meeting.ensures (to_meeting g _ _ K)) _ _ _ F.0 F.1 F.2 F.3 refl)).there _ c.in-Some-taker.is)
 
 pub slice_bounds-open_cells-count : goal.slice_bounds-open_cells-count
-slice_bounds-open_cells-count c = let g = c.requires in let K = (c.cube-words.ensures g.branch).cube (omega (arith, c.if-words-eq0.false)) in let F = (c.shortest.ensures (to_shortest g _ _ K _ refl)).found _ c.in-Found.is in omega (arith, c.start_of-start.ensures, (row_placed g.branch.table c.taker-r.result (omega (arith, (c.taker-r.ensures (to_taker g _ _ K _ (c.meeting.ensures (to_meeting g _ _ K)) _ _ _ F.0 F.1 F.2 F.3 refl)).most, c.if-r-n.false))).within)
+slice_bounds-open_cells-count c = let g = c.requires in let K = (c.cube.ensures g.branch).cube _ c.in-Some.is in let F = (c.shortest.ensures (to_shortest g _ _ K _ refl)).found _ c.in-Some-shortest.is in omega (arith, c.start_of-start.ensures, (row_placed g.branch.table _ ((c.taker.ensures (to_taker g _ _ K _ (c.meeting.ensures (to_meeting g _ _ K)) _ _ _ F.0 F.1 F.2 F.3 refl)).there _ c.in-Some-taker.is)).within)
 
 pub slice_bounds-open_cells-start : goal.slice_bounds-open_cells-start
-slice_bounds-open_cells-start c = let g = c.requires in let K = (c.cube-words.ensures g.branch).cube (omega (arith, c.if-words-eq0.false)) in let F = (c.shortest.ensures (to_shortest g _ _ K _ refl)).found _ c.in-Found.is in omega (arith, c.start_of-start.ensures, (row_placed g.branch.table c.taker-r.result (omega (arith, (c.taker-r.ensures (to_taker g _ _ K _ (c.meeting.ensures (to_meeting g _ _ K)) _ _ _ F.0 F.1 F.2 F.3 refl)).most, c.if-r-n.false))).within)
+slice_bounds-open_cells-start c = let g = c.requires in let K = (c.cube.ensures g.branch).cube _ c.in-Some.is in let F = (c.shortest.ensures (to_shortest g _ _ K _ refl)).found _ c.in-Some-shortest.is in omega (arith, c.start_of-start.ensures, (row_placed g.branch.table _ ((c.taker.ensures (to_taker g _ _ K _ (c.meeting.ensures (to_meeting g _ _ K)) _ _ _ F.0 F.1 F.2 F.3 refl)).there _ c.in-Some-taker.is)).within)
 
 pub open_cells-requires : goal.open_cells-requires
-open_cells-requires c = let g = c.requires in let K = (c.cube-words.ensures g.branch).cube (omega (arith, c.if-words-eq0.false)) in let F = (c.shortest.ensures (to_shortest g _ _ K _ refl)).found _ c.in-Found.is in to_beside g _ _ K _ (c.meeting.ensures (to_meeting g _ _ K)) _ _ _ F.0 F.1 F.2 F.3 refl _ (c.taker-r.ensures (to_taker g _ _ K _ (c.meeting.ensures (to_meeting g _ _ K)) _ _ _ F.0 F.1 F.2 F.3 refl)) (omega (arith, (c.taker-r.ensures (to_taker g _ _ K _ (c.meeting.ensures (to_meeting g _ _ K)) _ _ _ F.0 F.1 F.2 F.3 refl)).most, c.if-r-n.false)) _ c.start_of-start.ensures
+open_cells-requires c = let g = c.requires in let K = (c.cube.ensures g.branch).cube _ c.in-Some.is in let F = (c.shortest.ensures (to_shortest g _ _ K _ refl)).found _ c.in-Some-shortest.is in to_beside g _ _ K _ (c.meeting.ensures (to_meeting g _ _ K)) _ _ _ F.0 F.1 F.2 F.3 refl _ (c.taker.ensures (to_taker g _ _ K _ (c.meeting.ensures (to_meeting g _ _ K)) _ _ _ F.0 F.1 F.2 F.3 refl)) _ c.in-Some-taker.is _ c.start_of-start.ensures
 
 pub returns : goal.returns
-returns c = λ g. let four : ◌≡◌ {A = ℕ} (length c.args.live.now) 4 = search rules in let K = (c.cube-words.ensures g.branch).cube (omega (arith, c.if-words-eq0.false)) in let F = (c.shortest.ensures (to_shortest g _ _ K _ refl)).found _ c.in-Found.is in taken_seen g _ _ K _ (c.meeting.ensures (to_meeting g _ _ K)) _ _ _ F.0 F.1 F.2 F.3 refl _ (c.taker-r.ensures (to_taker g _ _ K _ (c.meeting.ensures (to_meeting g _ _ K)) _ _ _ F.0 F.1 F.2 F.3 refl)) (omega (arith, (c.taker-r.ensures (to_taker g _ _ K _ (c.meeting.ensures (to_meeting g _ _ K)) _ _ _ F.0 F.1 F.2 F.3 refl)).most, c.if-r-n.false)) _ c.start_of-start.ensures _ (c.meeting.auto.live ∙ four) (c.open_cells.ensures (to_beside g _ _ K _ (c.meeting.ensures (to_meeting g _ _ K)) _ _ _ F.0 F.1 F.2 F.3 refl _ (c.taker-r.ensures (to_taker g _ _ K _ (c.meeting.ensures (to_meeting g _ _ K)) _ _ _ F.0 F.1 F.2 F.3 refl)) (omega (arith, (c.taker-r.ensures (to_taker g _ _ K _ (c.meeting.ensures (to_meeting g _ _ K)) _ _ _ F.0 F.1 F.2 F.3 refl)).most, c.if-r-n.false)) _ c.start_of-start.ensures))
+returns c = λ g. let four : ◌≡◌ {A = ℕ} (length c.args.live.now) 4 = search rules in let K = (c.cube.ensures g.branch).cube _ c.in-Some.is in let F = (c.shortest.ensures (to_shortest g _ _ K _ refl)).found _ c.in-Some-shortest.is in taken_seen g _ _ K _ (c.meeting.ensures (to_meeting g _ _ K)) _ _ _ F.0 F.1 F.2 F.3 refl _ (c.taker.ensures (to_taker g _ _ K _ (c.meeting.ensures (to_meeting g _ _ K)) _ _ _ F.0 F.1 F.2 F.3 refl)) _ c.in-Some-taker.is _ c.start_of-start.ensures _ (c.meeting.auto.live ∙ four) (c.open_cells.ensures (to_beside g _ _ K _ (c.meeting.ensures (to_meeting g _ _ K)) _ _ _ F.0 F.1 F.2 F.3 refl _ (c.taker.ensures (to_taker g _ _ K _ (c.meeting.ensures (to_meeting g _ _ K)) _ _ _ F.0 F.1 F.2 F.3 refl)) _ c.in-Some-taker.is _ c.start_of-start.ensures))

@@ -3,9 +3,6 @@ use native.Mathlib.Omega.{arith}
 use Rattle.search.proofs.NodeFacts.{to_root, root_found}
 use Rattle.search.proofs.search.search.Goals as goal
 
-pub first_rows-s-requires : goal.first_rows-s-requires
-first_rows-s-requires c = c.requires.0.few
-
 pub node-requires : goal.node-requires
 node-requires c = to_root c.requires.0 _ _ _ _ _ c.first_rows-s.ensures refl (omega arith) (omega arith) c.requires.1
 

@@ -1,11 +1,5 @@
-use Rattle.search.proofs.ChoiceFacts.{not_in, is_in, table_room, start_le, to_takes}
+use Rattle.search.proofs.ChoiceFacts.{is_in, start_le, to_takes}
 use Rattle.search.proofs.taker.takes_it.Goals as goal
-
-pub returns-then-not-has : goal.returns-then-not-has
-returns-then-not-has c = λ g. not_in _ _ _ c.if-not-has.true-raw c.has.ensures
-
-pub start_of-start-requires : goal.start_of-start-requires
-start_of-start-requires c = table_room c.requires.0.table c.args.r c.requires.1
 
 pub slice_bounds-takes-count : goal.slice_bounds-takes-count
 slice_bounds-takes-count c = start_le c.requires.0.table c.args.r c.requires.1 _ c.start_of-start.ensures

@@ -1,7 +1,7 @@
 use mathlib.Core.Path.{refl, ap, ◌∙◌}
 use native.Mathlib.Omega.{arith}
 use lib.ListN.{length}
-use Rattle.sharing.proofs.Sharers.{lowest_given, start, end_le, sound_long, few, there, past_le, its_first, sum_small, two, hit, next, at_end}
+use Rattle.sharing.proofs.Sharers.{lowest_given, start, end_le, sound_long, there, past_le, its_first, sum_small, two, shown_there, hit, next, at_end}
 use Rattle.sharing.proofs.first.first_sharer.Goals as goal
 
 pub bounds-table-0 : goal.bounds-table-0
@@ -58,8 +58,8 @@ slice_bounds-witness-start-then-low-past c = omega (arith, there c.requires.0 (c
 pub slice_bounds-witness-end-then-low-past : goal.slice_bounds-witness-end-then-low-past
 slice_bounds-witness-end-then-low-past c = omega (arith, there c.requires.0 (c.loop-i.invariant.1 c.requires.0) c.loop-i-test.true)
 
-pub witness-length-requires : goal.witness-length-requires
-witness-length-requires c = (two c.requires.0 (c.loop-i.invariant.1 c.requires.0) c.loop-i-test.true, omega (arith, ap length c.loop-i.invariant.0, c.requires.0.room))
+pub witness-requires : goal.witness-requires
+witness-requires c = (two c.requires.0 (c.loop-i.invariant.1 c.requires.0) c.loop-i-test.true, omega (arith, ap length c.loop-i.invariant.0, c.requires.0.room))
 
 pub offset_bounds-table-place : goal.offset_bounds-table-place
 offset_bounds-table-place c = omega (arith, end_le c.requires.0 (c.loop-i.invariant.1 c.requires.0) c.loop-i-test.true)
@@ -71,10 +71,13 @@ pub shape_of-m-then-low-past : goal.shape_of-m-then-low-past
 shape_of-m-then-low-past c = c.lowest_met-low.auto.m
 
 pub shape_of-out-then-low-past : goal.shape_of-out-then-low-past
-shape_of-out-then-low-past c = c.witness-length.auto.out ∙ ap length c.loop-i.invariant.0
+shape_of-out-then-low-past c = c.witness.auto.out ∙ ap length c.loop-i.invariant.0
+
+pub unwrap-length-requires : goal.unwrap-length-requires
+unwrap-length-requires c = let g = c.requires.0 in let w = c.witness in let n = c.count-past in shown_there g (c.loop-i.invariant.1 g) c.loop-i-test.true w.result c.args.out.now c.loop-i.out w.new.out c.loop-i.invariant.0 w.ensures n.result n.ensures c.if-low-past.true
 
 pub returns-then-low-past : goal.returns-then-low-past
-returns-then-low-past c = λ g. let w = c.witness-length in let n = c.count-past in hit g (c.loop-i.invariant.1 g) c.loop-i-test.true w.result c.args.out.now c.loop-i.out w.new.out c.loop-i.invariant.0 w.ensures n.result n.ensures c.if-low-past.true
+returns-then-low-past c = λ g. let w = c.witness in hit g (c.loop-i.invariant.1 g) c.loop-i-test.true w.result c.args.out.now c.loop-i.out w.new.out c.loop-i.invariant.0 w.ensures _ c.unwrap-length.ensures
 
 pub offset_bounds-rows-from : goal.offset_bounds-rows-from
 offset_bounds-rows-from c = omega (arith, there c.requires.0 (c.loop-i.invariant.1 c.requires.0) c.loop-i-test.true)
@@ -102,9 +105,6 @@ overflow_cast-place c = omega (arith, end_le c.requires.0 (c.loop-i.invariant.1 
 
 pub overflow_add-place-in-loop-i-2 : goal.overflow_add-place-in-loop-i-2
 overflow_add-place-in-loop-i-2 c = omega (arith, end_le c.requires.0 (c.loop-i.invariant.1 c.requires.0) c.loop-i-test.true, sound_long c.requires.0)
-
-pub overflow_add-i : goal.overflow_add-i
-overflow_add-i c = omega (arith, few c.requires.0 (c.loop-i.invariant.1 c.requires.0) c.loop-i-test.true)
 
 pub loop-i-preserved : goal.loop-i-preserved
 loop-i-preserved c = let n = c.count-past in (c.loop-i.invariant.0, λ g. next g (c.loop-i.invariant.1 g) c.loop-i-test.true n.result n.ensures (omega (arith, c.if-low-past.false)))

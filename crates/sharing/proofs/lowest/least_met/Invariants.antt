@@ -4,6 +4,3 @@ use Rattle.sharing.proofs.lowest.least_met.Given as goal
 
 abbrev pub invariant-loop-i : goal.invariant-loop-i
 invariant-loop-i l = (l.low ≤ l.i) × (l.i ≤ l.high) × LeastMet l.m l.low l.i l.least
-
-abbrev pub decreases-loop-i : goal.decreases-loop-i
-decreases-loop-i l = l.high - l.i

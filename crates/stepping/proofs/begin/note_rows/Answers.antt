@@ -1,10 +1,9 @@
-use mathlib.Core.Path.{refl}
 use Prim.Native.Nat.{◌≤◌, ◌<◌}
 use native.Mathlib.Omega.{arith}
 use lib.ListN.{length, length-set}
 use Rattle.signature.specs.Limits.{argument_limit}
-use Rattle.signature.proofs.KnownFacts.{long, constructors, few_constructors, arity_is, few_arguments}
-use Rattle.stepping.proofs.BeginLaws.{rows_none, rows_more, rows_all}
+use Rattle.signature.proofs.KnownFacts.{constructors, arity_is, few_arguments}
+use Rattle.stepping.proofs.BeginLaws.{rows_more}
 use Rattle.stepping.proofs.begin.note_rows.Goals.{After-arity_of}
 use Rattle.stepping.proofs.begin.note_rows.Goals as goal
 
@@ -15,18 +14,6 @@ few c =
     let l : c.loop-c.c < length g.sig = omega (arith, c.constructors_of-n.ensures, constructors g) in
     omega (arith, c.arity_of.ensures, arity_is g c.loop-c.c l, few_arguments g c.loop-c.c l)
 
-pub constructors_of-n-requires : goal.constructors_of-n-requires
-constructors_of-n-requires c = long c.requires.0
-
-pub loop-c-init : goal.loop-c-init
-loop-c-init c = let g = c.requires.0 in (omega arith, omega (arith, c.constructors_of-n.ensures, constructors g, few_constructors g), omega arith, refl, λ g. rows_none g.sig _)
-
-pub bounds-st-c : goal.bounds-st-c
-bounds-st-c c = omega (arith, c.requires.1)
-
-pub arity_of-requires : goal.arity_of-requires
-arity_of-requires c = (long c.requires.0, omega arith)
-
 pub overflow_add-at : goal.overflow_add-at
 overflow_add-at c = omega (arith, few c)
 
@@ -35,9 +22,3 @@ overflow_add-at-in-loop-c c = omega (arith, few c)
 
 pub loop-c-preserved : goal.loop-c-preserved
 loop-c-preserved c = let l = c.loop-c in (omega arith, omega arith, omega (arith, few c), rw length-set l.invariant.3, λ g. rows_more g l.st l.at l.c _ (omega (arith, c.constructors_of-n.ensures)) (omega (arith, c.requires.1)) c.arity_of.ensures (l.invariant.4 g))
-
-pub shape_of-st : goal.shape_of-st
-shape_of-st c = c.loop-c.invariant.3
-
-pub returns : goal.returns
-returns c = λ g. rows_all g c.loop-c.st c.loop-c.at c.loop-c.c (omega (arith, c.constructors_of-n.ensures)) (c.loop-c.invariant.4 g)

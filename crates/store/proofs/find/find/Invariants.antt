@@ -9,6 +9,3 @@ use Rattle.store.proofs.find.find.Given as goal
 
 abbrev pub invariant-loop-i : goal.invariant-loop-i
 invariant-loop-i l = (l.at ≤ (table_length limits)) × (table_length limits ≤ length l.table) × ((rs : List Rule) → Holds limits l.table rs → Seek l.number rs l.i l.at)
-
-abbrev pub decreases-loop-i : goal.decreases-loop-i
-decreases-loop-i l = l.n - l.i

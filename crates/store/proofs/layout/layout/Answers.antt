@@ -20,8 +20,8 @@ returns-in_default c = let t = c.args.table.now in sym (laid_broken t _ c.loop-i
 
 pub loop-i-preserved : goal.loop-i-preserved
 loop-i-preserved c = let t = c.args.table.now in
-    let q = subst (HeadAt t c.loop-i.at c.loop-i.last) c.in-At.is c.rule_from.ensures in
-    (q.1, laid_on t _ c.loop-i.i c.loop-i.last c.in-At.number c.loop-i.at c.in-At.end c.loop-i-test.true c.loop-i.invariant.1 q.2)
+    let q = subst (HeadAt t c.loop-i.at c.loop-i.last) c.in-Some.is c.rule_from.ensures in
+    (q.1, laid_on t _ c.loop-i.i c.loop-i.last c.in-Some.number c.loop-i.at c.in-Some.end c.loop-i-test.true c.loop-i.invariant.1 q.2)
 
 pub slice_bounds-zeros-count : goal.slice_bounds-zeros-count
 slice_bounds-zeros-count c = c.loop-i.invariant.0

@@ -9,6 +9,3 @@ use Rattle.store.proofs.layout.layout.Given as goal
 
 abbrev pub invariant-loop-i : goal.invariant-loop-i
 invariant-loop-i l = (l.at ≤ (table_length limits)) × (is_some (laid limits l.table) ≡ is_some (read_rules (l.n - l.i) l.last (from l.table l.at)))
-
-abbrev pub decreases-loop-i : goal.decreases-loop-i
-decreases-loop-i l = l.n - l.i

@@ -1,5 +1,4 @@
 use mathlib.Core.Logic.{inl, inr}
-use mathlib.Core.Bool.{true}
 use Prim.Native.Nat.{◌+◌}
 use native.Mathlib.Omega.{arith}
 use Rattle.sets.specs.Heads.{number_of}

@@ -10,9 +10,6 @@ first_set : (o : List ℕ) (c : ℕ) → 1 ≤ length o → set o 0 c ≡ c ∷ 
 first_set [] c h = absurd (omega arith)
 first_set (x ∷ o) c h = refl
 
-pub returns-then-tag-lt-KIND_TAG : goal.returns-then-tag-lt-KIND_TAG
-returns-then-tag-lt-KIND_TAG c = record { named = λ h. (refl, first_set c.args.out.now c.args.tag c.requires.0); unnamed = λ h. absurd (omega (arith, h, c.if-tag-lt-KIND_TAG.true)) }
-
 pub shortest_head-c-requires : goal.shortest_head-c-requires
 shortest_head-c-requires c = heads_given (c.requires.1 c.if-tag-lt-KIND_TAG.false)
 

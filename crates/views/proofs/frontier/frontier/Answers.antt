@@ -1,5 +1,4 @@
 use mathlib.Core.Path.{sym, ◌∙◌}
-use Prim.Native.Nat.{◌-◌}
 use native.Mathlib.Omega.{arith}
 use Rattle.views.proofs.Edging.{start, turn, few, end}
 use Rattle.views.proofs.frontier.frontier.Goals as goal

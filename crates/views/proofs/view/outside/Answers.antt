@@ -10,5 +10,5 @@ full-all-requires c = let e = ap (count_of c.args.t.now) c.kind_at-kind.ensures 
 pub returns-then-left : goal.returns-then-left
 returns-then-left c = left_there _ _ _ _ _ _ _ c.if-left.true c.kind_at-kind.ensures c.count_of.ensures c.full-all.ensures c.minus-allowed.ensures
 
-pub returns : goal.returns
-returns c = left_elsewhere _ _ _ _ _ _ c.if-left.false c.kind_at-kind.ensures c.count_of.ensures c.full-all.ensures
+pub returns-else-left : goal.returns-else-left
+returns-else-left c = left_elsewhere _ _ _ _ _ _ c.if-left.false c.kind_at-kind.ensures c.count_of.ensures c.full-all.ensures

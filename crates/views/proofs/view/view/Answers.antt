@@ -1,5 +1,4 @@
 use mathlib.Core.Path.{refl, sym, subst, ◌∙◌}
-use Prim.Native.Nat.{◌-◌}
 use native.Mathlib.Omega.{arith}
 use Rattle.sets.proofs.HeadSets.{empty_is, some_is}
 use Rattle.views.proofs.Writing.{Now, start, turn, whole, out_at, end, read_fits}
