@@ -1,5 +1,6 @@
 // What a call gave, as a line.
-ghost use Rattle.std.specs.Prelude.{◌≤◌, length};
+ghost use Rattle.std.specs.Prelude.{◌≡◌, ◌≤◌, length};
+ghost use Rattle.gap.specs.Answer.{length_in};
 
 use entry::sound::Entry;
 use pattern::limits::VARIABLES;
@@ -82,7 +83,9 @@ pub fn gap(rt: &impl Print, r: Result<Option<usize>, Refusal>, witness: &[u16]) 
 }
 
 // The length of the booking that is shown, 0 for none.
-pub fn shown(r: Result<Option<usize>, Refusal>) -> usize {
+pub fn shown(r: Result<Option<usize>, Refusal>) -> usize
+    ensures { result ≡ length_in r }
+{
     match r {
         Ok(Some(len)) => len,
         _ => 0,

@@ -27,9 +27,9 @@ pub rule_none : (o : Option (Rule × ℕ)) → rule_of o ≡ None → o ≡ none
 rule_none none e = refl
 rule_none (some r) e = absurd cc
 
-pub rule_some : (o : Option (Rule × ℕ)) (x : RuleLines) → rule_of o ≡ Some x → (q : Rule) × (o ≡ some (q, x.used))
+pub rule_some : (o : Option (Rule × ℕ)) (x : RuleLines) → rule_of o ≡ Some x → (q : Rule) × (o ≡ some (q, x.used)) × (q.number ≡ x.number) × (q.plan ≡ x.plan) × (length q.pattern ≡ x.count)
 rule_some none x e = absurd cc
-rule_some (some r) x e = let z : ◌≡◌ {A = RuleLines} (record { number = r.0.number; plan = r.0.plan; count = length r.0.pattern; used = r.1 }) x = cc in (r.0, ap (λ y. some (r.0, y.used)) z)
+rule_some (some r) x e = let z : ◌≡◌ {A = RuleLines} (record { number = r.0.number; plan = r.0.plan; count = length r.0.pattern; used = r.1 }) x = cc in (r.0, ap (λ y. some (r.0, y.used)) z, ap (λ y. y.number) z, ap (λ y. y.plan) z, ap (λ y. y.count) z)
 
 pub rule_lines_fit : (bs : List ℕ) (q : Rule) (i : ℕ) → rule_lines bs ≡ some (q, i) → (1 ≤ i) × (i ≤ length bs)
 unfolding rule_lines
@@ -54,11 +54,11 @@ module _ (t : List ℕ) (starts : true ≡ is_some (after_key key_rule t)) (x : 
 
   module _ (rule : RuleLines) (e : x ≡ Some rule) where
     pub rule_fits : (1 ≤ rule.used) × (rule.used ≤ length t)
-    rule_fits = let (q, f) = rule_some (rule_lines t) rule (sym r ∙ e) in rule_lines_fit t q rule.used f
+    rule_fits = let (q, f, g, h, k) = rule_some (rule_lines t) rule (sym r ∙ e) in rule_lines_fit t q rule.used f
 
     pub rule_over : is_some (rest_text t) ≡ is_some (rest_text (take (length t - rule.used) (drop rule.used t)))
     rule_over =
-        let (q, f) = rule_some (rule_lines t) rule (sym r ∙ e) in
+        let (q, f, g, h, k) = rule_some (rule_lines t) rule (sym r ∙ e) in
         ap is_some (rule_next t (sym starts)) ∙ rw f (same_some (rest_text (drop rule.used t)) (λ s. (q ∷ s.0, s.1))) ∙ ap (λ z. is_some (rest_text z)) (sym (to_end t rule.used))
 
 abbrev only : List ℕ → Option Rest

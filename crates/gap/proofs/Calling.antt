@@ -21,7 +21,7 @@ use Rattle.opening.specs.Open.{BeginsAs}
 use Rattle.entering.specs.Enter.{GivenEnter}
 use Rattle.entering.proofs.Enters.{refused_start, given, starts}
 use Rattle.compiling.specs.Compile.{InTable}
-use Rattle.gap.specs.Answer.{GapsAs, TriedAs, length_in, shown}
+use Rattle.gap.specs.Answer.{GapsAs, TriedAs, Worded, length_in, shown}
 
 -- 3, or what is shown
 module _ {t table witness : List ℕ} (g : GivenEnter t table witness) where
@@ -52,8 +52,8 @@ module _ (ss table witness : List ℕ) (long : Bool) (long_so : long ≡ (long_t
     answered number len witness' h = from (on_sound here.load.known.sig (sound limits here.load.known.sig table)) (starts ss table witness long long_so t k begin_so e) number len witness' h
 
     module _ (P : Type 0) (r : CodeOption (Result (CodeOption ℕ) Refusal)) (witness₁ : List ℕ) (gave : (g : GivenEnter t table witness) → TriedAs P g.load.known.sig table witness r witness₁) where
-      pub answered_first : (a : Result (CodeOption ℕ) Refusal) → r ≡ Some a → GapCall limits ss table witness (number_in a) (length_in a) witness₁
-      answered_first a x = answered (number_in a) (length_in a) witness₁ (subst (λ z. TriedAs P here.load.known.sig table witness z witness₁) x (gave here))
+      pub answered_first : (a : Result (CodeOption ℕ) Refusal) → r ≡ Some a → GapCall limits ss table witness (number_in a) (length_in a) witness₁ × Worded a
+      answered_first a x = let (w, h) = subst (λ z. TriedAs P here.load.known.sig table witness z witness₁) x (gave here) in (answered (number_in a) (length_in a) witness₁ h, w)
 
       module _ (x : r ≡ None) where
         same : witness₁ ≡ witness
@@ -62,8 +62,8 @@ module _ (ss table witness : List ℕ) (long : Bool) (long_so : long ≡ (long_t
         pub here_again : GivenEnter t table witness₁
         here_again = subst (λ z. GivenEnter t table z) (sym same) here
 
-        pub answered_then : (Q : Type 0) (q : CodeOption (Result (CodeOption ℕ) Refusal)) (a : Result (CodeOption ℕ) Refusal) (witness' : List ℕ) → ((g : GivenEnter t table witness₁) → TriedAs Q g.load.known.sig table witness₁ q witness') → q ≡ Some a → GapCall limits ss table witness (number_in a) (length_in a) witness'
-        answered_then Q q a witness' did y = answered (number_in a) (length_in a) witness' (subst (λ z. TriedAs Q here.load.known.sig table witness z witness') y (subst (λ z. (g : GivenEnter t table z) → TriedAs Q g.load.known.sig table z q witness') same did here))
+        pub answered_then : (Q : Type 0) (q : CodeOption (Result (CodeOption ℕ) Refusal)) (a : Result (CodeOption ℕ) Refusal) (witness' : List ℕ) → ((g : GivenEnter t table witness₁) → TriedAs Q g.load.known.sig table witness₁ q witness') → q ≡ Some a → GapCall limits ss table witness (number_in a) (length_in a) witness' × Worded a
+        answered_then Q q a witness' did y = let (w, h) = subst (λ z. TriedAs Q here.load.known.sig table witness z witness') y (subst (λ z. (g : GivenEnter t table z) → TriedAs Q g.load.known.sig table z q witness') same did here) in (answered (number_in a) (length_in a) witness' h, w)
 
 -- the largest arrays are never too small
 pub always : (sig : Signature) (table witness : List ℕ) (r : CodeOption (Result (CodeOption ℕ) Refusal)) (witness' : List ℕ) → TriedAs (TooSmall rows_room row_room) sig table witness r witness' → IsSome r

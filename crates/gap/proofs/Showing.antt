@@ -61,6 +61,10 @@ module _ {t table lists : List ℕ} (g : InTable t table lists) where
 pub short : {sig : Signature} {rs : List Row} {res : CodeOption ℕ} {o : List ℕ} → Searched sig rs res o → (m : ℕ) → res ≡ Some m → m ≤ booking_limit
 short s m e = let (v, h, l, c) = s.one_there m e in omega (arith, l, h.few)
 
+-- it has a word
+pub worded : {sig : Signature} {rs : List Row} {res : CodeOption ℕ} {o : List ℕ} → Searched sig rs res o → (m : ℕ) → res ≡ Some m → 1 ≤ m
+worded s m e = let (v, h, l, c) = s.one_there m e in omega (arith, l, some_size v)
+
 lawful : {sig : Signature} {rs : List Row} (v : Value) → Missed sig rs v → LawfulBooking sig (code v) v
 lawful v h = record { kind_0 = h.kinded; is_code = refl; some_words = omega (arith, length_code v, some_size v); at_most = omega (arith, length_code v, h.few); deep = h.deep }
 

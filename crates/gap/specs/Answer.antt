@@ -1,5 +1,5 @@
 -- The gap call past refusals 1 and 2.
-use Rattle.std.specs.Prelude.{◌≡◌, List, ℕ, Option, Some, None, Result, Ok, Err}
+use Rattle.std.specs.Prelude.{◌≡◌, List, ℕ, ◌≤◌, Option, Some, None, IfSome, Result, Ok, Err, IfOk}
 use Rattle.signature.specs.Signature.{Signature}
 use Rattle.table.specs.Calls.{on_sound}
 use Rattle.table.specs.Gap.{GapFrom}
@@ -21,7 +21,11 @@ abbrev pub length_in : Result (Option ℕ) Refusal → ℕ
 length_in (Ok m) = shown m
 length_in (Err r) = 0
 
+-- a booking that is shown has a word: None alone says that there is none
+abbrev pub Worded : Result (Option ℕ) Refusal → Type 0
+Worded r = IfOk r (λ m. IfSome m (λ n. 1 ≤ n))
+
 -- no room tells P, and nothing is written
 abbrev pub TriedAs : Type 0 → Signature → List ℕ → List ℕ → Option (Result (Option ℕ) Refusal) → List ℕ → Type 0
 TriedAs P sig table witness None witness' = P × (witness' ≡ witness)
-TriedAs P sig table witness (Some r) witness' = GapsAs sig table witness (number_in r) (length_in r) witness'
+TriedAs P sig table witness (Some r) witness' = Worded r × GapsAs sig table witness (number_in r) (length_in r) witness'

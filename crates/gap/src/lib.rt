@@ -1,7 +1,7 @@
 // The gap call (1 to 3): a booking that no rule in force takes.
 #![tactic(auto)]
 
-ghost use Rattle.std.specs.Prelude.{◌+◌, ◌*◌, ◌≤◌, ◌<◌, length};
+ghost use Rattle.std.specs.Prelude.{◌+◌, ◌*◌, ◌≤◌, ◌<◌, length, IfSome};
 ghost use Rattle.signature.specs.Refusal.{number_in};
 ghost use Rattle.signature.specs.Limits.{booking_limit};
 ghost use Rattle.row.specs.Limits.{place_words};
@@ -14,7 +14,7 @@ ghost use Rattle.table.specs.Limits.{limits, witness_length};
 ghost use Rattle.table.specs.Gap.{GapCall, ShowsGap};
 ghost use Rattle.entering.specs.Enter.{GivenEnter};
 ghost use Rattle.compiling.specs.Compile.{InTable};
-ghost use Rattle.gap.specs.Answer.{TriedAs, length_in, shown};
+ghost use Rattle.gap.specs.Answer.{TriedAs, Worded, length_in, shown};
 ghost use Rattle.gap.specs.Rows.{rows_in};
 
 use builder::build::ROW_ROOM;
@@ -47,7 +47,8 @@ fn find(
 // It goes into the witness buffer as a booking.
 fn show(t: &[u16; DECODED], table: &[u16], lists: &[u64], witness: &mut [u16]) -> Option<usize>
     requires { InTable t.now table.now lists.now × (witness_length ≤ length witness.old) }
-    ensures { (g : InTable t.now table.now lists.now) → ShowsGap g.force.known.sig g.force.rs (shown result) witness.old witness.new }
+    ensures shows { (g : InTable t.now table.now lists.now) → ShowsGap g.force.known.sig g.force.rs (shown result) witness.old witness.new }
+    ensures worded { IfSome result (λ n. 1 ≤ n) }
 {
     let mut rows = [0u16; INDEX_ROOM];
     let mut v = [0u16; VALUE_ROOM];
@@ -76,7 +77,8 @@ fn gap_in<const ROWS: usize, const WORK: usize>(
 
 // The length of the booking that is shown, if there is one. The lists of rows of one size are gone before those of the other come.
 pub fn gap(ss: &[u16], table: &[u16], witness: &mut [u16]) -> Result<Option<usize>, Refusal>
-    ensures { GapCall limits ss.now table.now witness.old (number_in result) (length_in result) witness.new }
+    ensures call { GapCall limits ss.now table.now witness.old (number_in result) (length_in result) witness.new }
+    ensures worded { Worded result }
 {
     let long = long_enough(table, witness);
     let mut t = [0u16; DECODED];

@@ -6,19 +6,19 @@ use mathlib.Core.Option.{none, some}
 use mathlib.Core.Bool.{Bool, true, false, ◌&&◌}
 use Prim.Native.Nat.{ℕ, suc, ◌+◌, ◌-◌, ◌≤◌, ◌<◌}
 use native.Mathlib.Omega.{arith}
-use lib.Dec.{eqb}
+use lib.Dec.{eqb, leb, ltb}
 use lib.ListN.{length, drop, take, get_or, get_elem?, length-drop}
 use Rattle.std.specs.Prelude.{Some, None}
 use Rattle.signature.specs.Decoded.{Known, kind_of, first_of, count_of, constructors_of, unkinded}
 use Rattle.signature.specs.Limits.{kind_limit, level_base, last_level}
 use Rattle.signature.specs.Lists.{◌>>=◌, require, first, memb, split}
-use Rattle.signature.specs.Signature.{Constructor, heads, arguments_at, is_level, level_of, is_number_kind}
+use Rattle.signature.specs.Signature.{Signature, Constructor, heads, arguments_at, is_level, level_of, is_number_kind}
 use Rattle.signature.proofs.Heads.{Consecutive, consecutive_nil, consecutive_cons, consecutive_of, has_kind, constructor_of, constructor_arguments, level_is}
 use Rattle.signature.proofs.KnownFacts.{at_some, words_of, constructors, few_constructors, head_is, plain_kind}
 use Rattle.signature.proofs.LawfulFacts.{kinds_kind}
 use Rattle.signature.proofs.ListFacts.{at_getD, at_out, split_some, split_none}
 use Rattle.signature.proofs.SignatureBack.{is_kinds}
-use Rattle.signature.proofs.Tests.{same_some, true≢false, eqb_self, eqb_eq, eqb_no, leb_yes, leb_no, ltb_yes, ltb_no}
+use Rattle.signature.proofs.Tests.{bind_some, require_some, some_inj, le_of, same_some, true≢false, eqb_self, eqb_eq, eqb_no, leb_yes, leb_no, ltb_yes, ltb_no}
 use Rattle.tree.specs.Run.{rise_to, place_of}
 use Rattle.nodes.specs.Parts.{HeadByTable}
 use Rattle.nodes.specs.Step.{link_at, link_to, split_to, leads}
@@ -176,3 +176,27 @@ module _ (t : List ℕ) (i c : ℕ) where
 
           pub ends_right : rise_to last_level 0 es ≡ true → split_to t i c ≡ link_at t i (2 + k + place_of (level_of c) es)
           ends_right q = rw (ends_are, q)
+
+-- a link leads on
+link_at_above : (t : List ℕ) (i j d : ℕ) → link_at t i j ≡ some d → 0 < d
+link_at_above t i j d e =
+    let (link, p₁, e₁) = bind_some (get_elem? t j) _ d e in
+    let (x₂, p₂, e₂) = bind_some (require (ltb i link)) _ d e₁ in
+    let (x₃, p₃, e₃) = bind_some (require (leb (link - i) (length t))) _ d e₂ in
+    omega (arith, le_of (suc i) link (require_some (ltb i link) x₂ p₂), some_inj (link - i) d e₃)
+
+pub link_above : (sig : Signature) (t : List ℕ) (i c d : ℕ) → link_to sig t i c ≡ some d → 0 < d
+link_above sig t i c d e =
+    let (x₁, p₁, e₁) = bind_some (get_elem? sig c) _ d e in
+    let (x₂, p₂, e₂) = bind_some (get_elem? t 1) _ d e₁ in
+    let (x₃, p₃, e₃) = bind_some (get_elem? t 2) _ d e₂ in
+    let (x₄, p₄, e₄) = bind_some (require (eqb x₂ (first (heads sig x₁.kind)) && eqb x₃ (length (heads sig x₁.kind)))) _ d e₃ in
+    link_at_above t i (3 + (c - x₂)) d e₄
+
+pub split_above : (t : List ℕ) (i c d : ℕ) → split_to t i c ≡ some d → 0 < d
+split_above t i c d e =
+    let (x₁, p₁, e₁) = bind_some (require (is_level c)) _ d e in
+    let (n, p₂, e₂) = bind_some (get_elem? t 1) _ d e₁ in
+    let (r, p₃, e₃) = bind_some (split n (drop 2 t)) _ d e₂ in
+    let (x₄, p₄, e₄) = bind_some (require (rise_to last_level 0 r.0)) _ d e₃ in
+    link_at_above t i (2 + n + place_of (level_of c) r.0) d e₄

@@ -4,12 +4,14 @@ ghost use Rattle.cell.specs.RowList.{WrittenFirst, from};
 ghost use Rattle.rowlist.specs.Product.{Product};
 ghost use Rattle.rowlist.specs.Grow.{words_list, ListFirst, GivenAppend, GivenAppends, GivenGrow, appends, grown};
 
-// The first n words of x into out, from a word on.
+// The first n words of x into out, from a word on. Word by word: for the slice's own copy an archive for C would need memmove.
 pub fn copy(x: &[u64], n: usize, out: &mut [u64], at: usize)
     requires { (n ≤ length x.now) × (at + n ≤ length out.old) }
     ensures { take (at + n) out.new ≡ take at out.old ++ take n x.now }
 {
-    out[at..at + n].copy_from_slice(&x[..n]);
+    for i in 0..n {
+        out[at + i] = x[i];
+    }
 }
 
 // The row of n words at the front of x and that of m words at the front of y as one row of a list.

@@ -3,6 +3,16 @@
 
 ghost use Rattle.std.specs.Prelude.{◌≡◌, ◌++◌, ◌+◌, ◌-◌, ◌≤◌, length, take, drop, replicate};
 
+// The words of `src`, which is as long. Word by word: for the slice's own copy an archive for C would need memmove.
+pub fn copy(dst: &mut [u16], src: &[u16])
+    requires { length dst.old ≡ length src.now }
+    ensures { dst.new ≡ src.now }
+{
+    for i in 0..src.len() {
+        dst[i] = src[i];
+    }
+}
+
 // The words from `at` to `end`, `d` further on.
 pub fn right(s: &mut [u16], at: usize, end: usize, d: usize)
     requires { (at ≤ end) × (end + d ≤ length s.old) }

@@ -7,7 +7,7 @@ ghost use Rattle.store.specs.Change.{GivenPut, GivenTake};
 
 use crate::find::end;
 use crate::layout::{DEFAULT_AT, EMPTIED_DEFAULT, LENGTH, PLAN, RULE_HEAD, TABLE};
-use shift::{remove, right};
+use shift::{copy, remove, right};
 
 // The empty table.
 pub fn clear(table: &mut [u16])
@@ -26,7 +26,7 @@ fn write(words: &mut [u16], number: u16, plan: u16, pattern: &[u16])
     words[0] = number;
     words[PLAN] = plan;
     words[LENGTH] = pattern.len() as u16;
-    words[RULE_HEAD..].copy_from_slice(pattern);
+    copy(&mut words[RULE_HEAD..], pattern);
 }
 
 // The rule goes in at an index that `find` gave; what follows moves on, and the default stays.

@@ -15,7 +15,7 @@ pub returns-in-Err-NoRoom : goal.returns-in-Err-NoRoom
 returns-in-Err-NoRoom g c = λ k. (λ h. loaded_none _ k.load.known.sig c.args.table.now c.load_in.result c.load_in.new.rows (c.load_in.ensures k.load) (c.in-Err-NoRoom.is ∙ ap Err c.in-Err-NoRoom.field-0-is) (simp length-replicate h), refl)
 
 pub returns-in-Err-Unsound : goal.returns-in-Err-Unsound
-returns-in-Err-Unsound g c = λ k. unsound k (loaded_unsound _ k.load.known.sig c.args.table.now c.load_in.result c.load_in.new.rows (c.load_in.ensures k.load) (c.in-Err-Unsound.is ∙ ap Err c.in-Err-Unsound.field-0-is))
+returns-in-Err-Unsound g c = λ k. (tt, unsound k (loaded_unsound _ k.load.known.sig c.args.table.now c.load_in.result c.load_in.new.rows (c.load_in.ensures k.load) (c.in-Err-Unsound.is ∙ ap Err c.in-Err-Unsound.field-0-is)))
 
 pub returns-in-Ok : goal.returns-in-Ok
-returns-in-Ok g c = λ k. told k _ _ (loaded_sound _ k.load.known.sig c.args.table.now c.load_in.result c.load_in.new.rows (c.load_in.ensures k.load) _ c.in-Ok.is) c.show.result c.show.new.witness c.show.ensures
+returns-in-Ok g c = λ k. (c.show.ensures.worded, told k _ _ (loaded_sound _ k.load.known.sig c.args.table.now c.load_in.result c.load_in.new.rows (c.load_in.ensures k.load) _ c.in-Ok.is) c.show.result c.show.new.witness c.show.ensures.shows)

@@ -4,4 +4,4 @@ use Rattle.store.proofs.ChangeFacts.{written}
 use Rattle.store.proofs.change.write.Goals as goal
 
 pub returns : goal.returns
-returns c = written c.args.words.now c.args.pattern.now c.copy_from_slice.new.self c.args.number c.args.plan (length c.args.pattern.now) c.requires.0 refl c.copy_from_slice.ensures.after
+returns c = written c.args.words.now c.args.pattern.now c.copy.new.dst c.args.number c.args.plan (length c.args.pattern.now) c.requires.0 refl c.copy.ensures
