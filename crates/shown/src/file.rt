@@ -1,5 +1,5 @@
 // The bytes of a file, and words of 16 bits in it, the lower byte first.
-ghost use Rattle.std.specs.Prelude.{◌≡◌, ◌+◌, ◌*◌, ◌≤◌, length, IfSome, IfOk, OnErr};
+ghost use Rattle.std.specs.Prelude.{◌≡◌, ◌+◌, ◌*◌, ◌^◌, ◌≤◌, length, IfSome, IfNone, IfOk, OnErr};
 ghost use Rattle.std.specs.Io.{ReadsAtMost};
 
 use std::io::Read;
@@ -65,7 +65,8 @@ enum Place {
 
 // A number with a digit more; None where it is no word.
 fn more(n: u16, digit: u16) -> Option<u16>
-    ensures { IfSome result (λ w. w ≡ 10 * n + digit) }
+    ensures some { IfSome result (λ w. w ≡ 10 * n + digit) }
+    ensures none { IfNone result (2 ^ 16 ≤ 10 * n + digit) }
 {
     n.checked_mul(10)?.checked_add(digit)
 }
